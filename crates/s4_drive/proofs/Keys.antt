@@ -1,0 +1,15 @@
+-- A map's look-up finds a key by the test of being one.
+use Rattle.std.proofs.Common.{◌≡◌, sym}
+use Rattle.std.specs.Prelude.{◌==◌}
+use Rattle.std.specs.Ordering.{nat_cmp, is_eq}
+use Rattle.std.specs.Cmp.{both_tied, unsigned_ties}
+use Rattle.s4_types.specs.declared.object.Purse.{Purse}
+use Rattle.s4_types.specs.declared.object.ObjectId.{ObjectId}
+use Rattle.s4_types.specs.Names.{same_purse, same_object}
+use Rattle.s4_drive.specs.Keys.{purse_cmp, object_cmp}
+
+pub at_purse : (p q : Purse) → is_eq (purse_cmp p q) ≡ same_purse p q
+at_purse p q = sym (both_tied (p.creator == q.creator) (p.number == q.number) (nat_cmp p.creator q.creator) (nat_cmp p.number q.number) (unsigned_ties _ _) (unsigned_ties _ _))
+
+pub at_object : (o p : ObjectId) → is_eq (object_cmp o p) ≡ same_object o p
+at_object o p = sym (both_tied (same_purse o.purse p.purse) (o.serial == p.serial) (purse_cmp o.purse p.purse) (nat_cmp o.serial p.serial) (sym (at_purse o.purse p.purse)) (unsigned_ties _ _))

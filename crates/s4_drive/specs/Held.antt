@@ -1,0 +1,32 @@
+-- What the code hands on of an ACL, as the definitions see it.
+use Rattle.std.specs.Prelude.{ℕ, Option, Some, None, List, []}
+use Rattle.std.specs.Option.{option_map}
+use Rattle.s4_types.specs.Judgement as judgement
+use Rattle.s4_types.specs.declared.version.Version.{Version}
+use Rattle.s4_types.specs.declared.version.Item.{Item}
+use Rattle.s4_types.specs.declared.version.Item.TheVariants.{Data, Acl}
+use Rattle.s4_drive.specs.declared.judge.Held.{Held}
+
+abbrev pub shown_held : Option Held → Option judgement.Held
+shown_held held = option_map (λ k. record { acl = k.acl.now; since = k.since }) held
+
+abbrev pub shown_entry : Option (ℕ × ℕ) → Option judgement.Found
+shown_entry entry = option_map (λ e. record { index = e.0; rights = e.1 }) entry
+
+-- the bytes that a version holds
+abbrev pub bytes_of_item : Option Item → List ℕ
+bytes_of_item (Some (Data bytes)) = bytes
+bytes_of_item _ = []
+
+abbrev pub bytes_in : Option Version → List ℕ
+bytes_in None = []
+bytes_in (Some v) = bytes_of_item v.item
+
+-- the ACL that a version holds, and its begin
+abbrev pub held_of_item : ℕ → Option Item → Option judgement.Held
+held_of_item since (Some (Acl acl)) = Some (record { acl = acl; since = since })
+held_of_item since _ = None
+
+abbrev pub held_in : Option Version → Option judgement.Held
+held_in None = None
+held_in (Some v) = held_of_item v.begin v.item

@@ -1,0 +1,50 @@
+//! Who may do what.
+
+ghost use Rattle.std.specs.Prelude.{◌≡◌};
+ghost use Rattle.s4_types.specs.Judgement.{judge_now as judged};
+ghost use Rattle.s4_drive.specs.Held.{shown_held};
+
+use crate::acl::entry_of;
+use s4_types::{Acl, Caller, Grant, Moment, ObjectId, Refusal, Right};
+
+/// An ACL that is in force, and since when.
+#[derive(Clone, Copy)]
+pub struct Held<'a> {
+    pub acl: &'a Acl,
+    pub since: Moment,
+}
+
+/// Grants or refuses by the ACL in force; there is none where the object doesn't live.
+pub fn judge_now(
+    caller: Caller,
+    object: &ObjectId,
+    held: &Option<Held<'_>>,
+    right: Right,
+) -> Result<Grant, Refusal>
+    ensures { result ≡ judged caller object.now right (shown_held held.now) }
+{
+    let Some(held) = held else {
+        return Err(absent(caller, object, right));
+    };
+    if caller.who.is_administrator() {
+        return Ok(Grant::Admin);
+    }
+    match entry_of(held.acl, caller.who) {
+        Some((index, rights)) if rights.has(right) => Ok(Grant::Entry {
+            index,
+            since: held.since,
+        }),
+        _ => Err(Refusal::Denied(right)),
+    }
+}
+
+// What the caller is told of an object that doesn't live.
+fn absent(caller: Caller, object: &ObjectId, right: Right) -> Refusal
+    ensures { result ≡ Rattle.s4_types.specs.Judgement.denied_absent caller object.now.purse.creator Refusal.NoObject right }
+{
+    if caller.who.is_administrator() || caller.who == object.purse.creator {
+        Refusal::NoObject
+    } else {
+        Refusal::Denied(right)
+    }
+}

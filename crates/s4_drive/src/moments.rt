@@ -1,0 +1,25 @@
+//! Whether the moments of a run go down.
+
+ghost use Rattle.std.specs.Prelude.{◌↔◌, IsTrue};
+ghost use Rattle.s4_types.specs.Play.{NeverDown};
+
+use s4_types::{Moment, Step};
+
+/// Whether the moments of the steps never go down, from this moment on: what `Drive::run` wants.
+pub fn never_down(from: Moment, steps: &[Step]) -> bool
+    ensures { IsTrue result ↔ NeverDown from steps.now }
+{
+    let mut last = from;
+    for step in steps {
+        match step {
+            Step::Request { moment, .. } => {
+                if *moment < last {
+                    return false;
+                }
+                last = *moment;
+            }
+            Step::Sweep { .. } => {}
+        }
+    }
+    true
+}

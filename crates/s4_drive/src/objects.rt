@@ -1,0 +1,40 @@
+//! The objects by their names.
+
+ghost use Rattle.std.specs.Prelude.{◌≡◌, Some, OnOk, OnErr, if◌then◌else◌};
+ghost use Rattle.std.specs.BTreeMap.{get};
+ghost use Rattle.s4_store.specs.Chains.{IsOpen, items_of};
+ghost use Rattle.s4_types.specs.declared.object.ObjectId.{ObjectId};
+ghost use Rattle.s4_types.specs.Names.{same_object};
+ghost use Rattle.s4_drive.specs.Keys.{object_cmp};
+
+use crate::track::Track;
+use s4_types::{NoMemory, ObjectId};
+use std::collections::BTreeMap;
+
+/// One of the tracks of an object.
+#[derive(Clone, Copy, Debug, PartialEq, Eq)]
+pub enum Which {
+    Data,
+    Acl,
+}
+
+/// The tracks of an object.
+#[derive(Clone, Copy, Debug, PartialEq, Eq)]
+pub struct Kept {
+    pub data: Track,
+    pub acl: Track,
+}
+
+/// Keeps an object that isn't kept yet.
+pub fn keep(
+    objects: &mut BTreeMap<ObjectId, Kept>,
+    object: &ObjectId,
+    kept: &Kept,
+) -> Result<(), NoMemory>
+    ensures ok { OnOk result ((q : ObjectId) → get object_cmp objects.new q
+        ≡ (if same_object object.now q then Some kept.now else get object_cmp objects.old q)) }
+    ensures err { OnErr result ((q : ObjectId) → get object_cmp objects.new q ≡ get object_cmp objects.old q) }
+{
+    objects.insert(*object, *kept)?;
+    Ok(())
+}

@@ -1,0 +1,95 @@
+//! One request: its answer, and what it changes. The answer comes first, and changes nothing.
+
+ghost use Rattle.std.specs.Prelude.{◌≡◌, ◌≤◌, false, IfOk, OnOk, OnErr, ◌++◌, ◌∷◌, []};
+ghost use Rattle.s4_types.specs.Answer.{answer as answer_of, outcome as outcome_of};
+ghost use Rattle.s4_types.specs.Base.{opened};
+ghost use Rattle.s4_types.specs.Play.{last_of, is_no_memory};
+ghost use Rattle.s4_drive.specs.Sound.{IsSound, IsNext};
+ghost use Rattle.s4_drive.specs.Stands.{IsKept, Stands};
+ghost use Rattle.s4_drive.specs.Step.{IsOutcome};
+
+use crate::parts::Parts;
+use crate::{create, read, write};
+use s4_store::Store;
+use s4_types::{Caller, Moment, NoMemory, Purse, Record, Refusal, Reply, Request, Version};
+use std::alloc::{AllocError, Global};
+
+/// The reply that the history so far gives.
+pub fn answer<S: Store<Version>>(
+    alloc: Global,
+    parts: &Parts<S>,
+    moment: Moment,
+    caller: Caller,
+    request: &Request,
+) -> Result<Reply, NoMemory>
+    requires kept { IsKept S.chains parts.now }
+    requires later { last_of parts.now.history.items ≤ moment }
+    ensures { IfOk result (λ reply. reply ≡ answer_of (opened parts.now.window) parts.now.history.items moment caller request.now) }
+{
+    match outcome(alloc, parts, moment, caller, request) {
+        Ok(reply) => Ok(reply),
+        Err(Refusal::NoMemory) => Err(AllocError),
+        Err(refusal) => Ok(Reply::Refused(refusal)),
+    }
+}
+
+// What comes of the request, by its kind.
+fn outcome<S: Store<Version>>(
+    alloc: Global,
+    parts: &Parts<S>,
+    moment: Moment,
+    caller: Caller,
+    request: &Request,
+) -> Result<Reply, Refusal>
+    requires kept { IsKept S.chains parts.now }
+    requires later { last_of parts.now.history.items ≤ moment }
+    ensures { IsOutcome result (outcome_of (opened parts.now.window) parts.now.history.items moment caller request.now) }
+{
+    match request {
+        Request::Create { number } => {
+            let purse = Purse {
+                creator: caller.who,
+                number: *number,
+            };
+            create::outcome(parts, &purse)
+        }
+        Request::Read {
+            object,
+            offset,
+            length,
+        } => read::outcome(alloc, parts, caller, object, *offset, *length),
+        Request::Write {
+            object,
+            offset,
+            bytes,
+        } => write::outcome(parts, caller, object, *offset, bytes),
+    }
+}
+
+/// Brings what is kept to where the record leaves it. Every growth comes before any change.
+pub fn apply<S: Store<Version>>(
+    alloc: Global,
+    parts: &mut Parts<S>,
+    added: &Record,
+) -> Result<(), NoMemory>
+    requires kept { IsKept S.chains parts.old }
+    requires next { IsNext (opened parts.old.window) parts.old.history.items added.now }
+    requires sound { IsSound (parts.old.history.items ++ added.now ∷ []) }
+    ensures ok { OnOk result (Stands S.chains parts.new (parts.old.history.items ++ added.now ∷ [])) }
+    ensures err { OnErr result (IsKept S.chains parts.new) }
+    ensures history { parts.new.history ≡ parts.old.history }
+    ensures window { parts.new.window ≡ parts.old.window }
+{
+    if added.reply.is_refused() {
+        return Ok(());
+    }
+    match &added.request {
+        Request::Create { number } => create::apply(alloc, parts, added, *number),
+        Request::Read { .. } => Ok(()),
+        Request::Write {
+            object,
+            offset,
+            bytes,
+        } => write::apply(alloc, parts, added, object, *offset, bytes),
+    }
+}

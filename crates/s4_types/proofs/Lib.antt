@@ -1,0 +1,4 @@
+pub mod Booleans
+pub mod SameNames
+pub mod Snoc
+pub mod Tests

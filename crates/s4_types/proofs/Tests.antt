@@ -1,0 +1,117 @@
+-- What a reply that is no refusal tells of the tests before it, and that no answer is want of memory.
+use Rattle.std.proofs.Common.{◌≡◌, ℕ, Bool, true, false, not, Option, Some, None, List, refl, ◌∙◌, ap}
+use Rattle.std.specs.Prelude.{Result, Ok, Err, nat_le, nat_lt, ◌+◌, length, ◌==◌, ◌||◌, cond, is_ok, take, drop}
+use Rattle.s4_types.specs.declared.principal.Caller.{Caller}
+use Rattle.s4_types.specs.declared.object.Purse.{Purse}
+use Rattle.s4_types.specs.declared.object.ObjectId.{ObjectId}
+use Rattle.s4_types.specs.declared.rights.Right.TheVariants as right
+use Rattle.s4_types.specs.Names.{object_in}
+use Rattle.s4_types.specs.declared.rights.Right.{Right}
+use Rattle.s4_types.specs.declared.request.Request.{Request}
+use Rattle.s4_types.specs.declared.request.Request.TheVariants.{Create, Read, Write}
+use Rattle.s4_types.specs.declared.reply.Grant.{Grant}
+use Rattle.s4_types.specs.declared.reply.Grant.TheVariants as grant
+use Rattle.s4_types.specs.declared.reply.Refusal.{Refusal}
+use Rattle.s4_types.specs.declared.reply.Refusal.TheVariants.{Denied, NoObject, TooLong, NamesSpent, NoMemory}
+use Rattle.s4_types.specs.declared.reply.Reply.{Reply}
+use Rattle.s4_types.specs.declared.reply.Reply.TheVariants.{Done, Made, Data, Refused}
+use Rattle.s4_types.specs.declared.record.Record.{Record}
+use Rattle.s4_types.specs.Rights.{has}
+use Rattle.s4_types.specs.Kinds.{is_refused}
+use Rattle.s4_types.specs.Judgement.{Held, Found, judge, judge_now, judge_by_entry, entry_of, held_at, may_know}
+use Rattle.s4_types.specs.Outcome.{◌>>=◌, ◌>>◌, refuse_if, reply_of}
+use Rattle.s4_types.specs.Base.{Base}
+use Rattle.s4_types.specs.Answer.{answer, outcome, drawn, data_of}
+use Rattle.s4_types.specs.Play.{is_no_memory}
+
+-- a test that lets a request pass
+pub passes_test : (b : Bool) (r : Refusal) (next : Result Reply Refusal) → is_refused (reply_of (refuse_if b r >> next)) ≡ false → (b ≡ false) × (is_refused (reply_of next) ≡ false)
+passes_test true r next e = cc
+passes_test false r next e = (refl, e)
+
+-- a judgement that lets it pass
+pub passes_judgement : {A : Type 0} (judged : Result A Refusal) (next : Result Reply Refusal) → is_refused (reply_of (judged >> next)) ≡ false → (is_ok judged ≡ true) × (is_refused (reply_of next) ≡ false)
+passes_judgement (Ok x) next e = (refl, e)
+passes_judgement (Err r) next e = cc
+
+pub after_test : (b : Bool) (r : Refusal) (next : Result Reply Refusal) → b ≡ false → (refuse_if b r >> next) ≡ next
+after_test true r next e = cc
+after_test false r next e = refl
+
+pub after_judgement : {A : Type 0} (judged : Result A Refusal) (next : Result Reply Refusal) → is_ok judged ≡ true → (judged >> next) ≡ next
+after_judgement (Ok x) next e = refl
+after_judgement (Err r) next e = cc
+
+-- NO ANSWER IS WANT OF MEMORY
+
+-- whether the reply to the outcome is any but want of memory
+abbrev pub is_plain : {A : Type 0} → Result A Refusal → Bool
+is_plain (Ok x) = true
+is_plain (Err NoMemory) = false
+is_plain (Err _) = true
+
+plain-either : {A : Type 0} (b : Bool) (x y : Result A Refusal) → is_plain x ≡ true → is_plain y ≡ true → is_plain (cond b x y) ≡ true
+plain-either true x y e f = e
+plain-either false x y e f = f
+
+plain-entry : (held : Held) (needed : Right) (found : Option Found) → is_plain (judge_by_entry held needed found) ≡ true
+plain-entry held needed None = refl
+plain-entry held needed (Some found) = plain-either (has found.rights needed) (Ok (grant.Entry found.index held.since)) (Err (Denied needed)) refl refl
+
+plain-absent : (needed : Right) (b : Bool) → is_plain {A = Grant} (Err (cond b NoObject (Denied needed))) ≡ true
+plain-absent needed true = refl
+plain-absent needed false = refl
+
+plain-judge_now : (caller : Caller) (o : ObjectId) (needed : Right) (held : Option Held) → is_plain (judge_now caller o needed held) ≡ true
+plain-judge_now caller o needed None = plain-absent needed (may_know caller o.purse.creator)
+plain-judge_now caller o needed (Some held) = plain-either (caller.who == 0) (Ok grant.Admin) (judge_by_entry held needed (entry_of caller.who held.acl)) refl (plain-entry held needed (entry_of caller.who held.acl))
+
+-- the outcome is a refusal just if it says so, and none for want of memory
+abbrev is_told : Result Reply Refusal → Bool
+is_told (Ok reply) = not (is_refused reply)
+is_told (Err NoMemory) = false
+is_told (Err _) = true
+
+told-test : (b : Bool) (r : Refusal) (next : Result Reply Refusal) → is_told (Err r) ≡ true → is_told next ≡ true → is_told (refuse_if b r >> next) ≡ true
+told-test true r next e f = e
+told-test false r next e f = f
+
+told-bind : {A : Type 0} (first : Result A Refusal) (next : A → Result Reply Refusal) → is_plain first ≡ true → ((x : A) → is_told (next x) ≡ true) → is_told (first >>= next) ≡ true
+told-bind (Ok x) next e f = f x
+told-bind (Err NoMemory) next e f = cc
+told-bind (Err (Denied right)) next e f = refl
+told-bind (Err NoObject) next e f = refl
+told-bind (Err TooLong) next e f = refl
+told-bind (Err NamesSpent) next e f = refl
+
+told-then : {A : Type 0} (first : Result A Refusal) (next : Result Reply Refusal) → is_plain first ≡ true → is_told next ≡ true → is_told (first >> next) ≡ true
+told-then (Ok x) next e f = f
+told-then (Err NoMemory) next e f = cc
+told-then (Err (Denied right)) next e f = refl
+told-then (Err NoObject) next e f = refl
+told-then (Err TooLong) next e f = refl
+told-then (Err NamesSpent) next e f = refl
+
+pub told-outcome : (base : Base) (h : List Record) (t : ℕ) (caller : Caller) (request : Request) → is_told (outcome base h t caller request) ≡ true
+told-outcome base h t caller (Create number) =
+    let purse : Purse = record { creator = caller.who; number = number } in
+    told-test (nat_le 65535 (drawn purse h)) NamesSpent (Ok (Made (object_in purse (drawn purse h + 1)))) refl refl
+told-outcome base h t caller (Read o offset length) =
+    told-bind (judge h t caller o right.Read) (λ g. Ok (Data g (take length (drop offset (data_of o t h))))) (plain-judge_now caller o right.Read (held_at o t h)) (λ g. refl)
+told-outcome base h t caller (Write o offset bytes) =
+    told-test (nat_lt 4096 (offset + length bytes)) TooLong (judge h t caller o right.Write >> Ok Done) refl
+    (told-then (judge h t caller o right.Write) (Ok Done) (plain-judge_now caller o right.Write (held_at o t h)) refl)
+
+replied : (r : Result Reply Refusal) → is_told r ≡ true → is_no_memory (reply_of r) ≡ false
+replied (Ok Done) e = refl
+replied (Ok (Made o)) e = refl
+replied (Ok (Data g bytes)) e = refl
+replied (Ok (Refused r)) e = cc
+replied (Err NoMemory) e = cc
+replied (Err (Denied right)) e = refl
+replied (Err NoObject) e = refl
+replied (Err TooLong) e = refl
+replied (Err NamesSpent) e = refl
+
+pub is_no_memory-answer : (base : Base) (h : List Record) (t : ℕ) (caller : Caller) (request : Request) → is_no_memory (answer base h t caller request) ≡ false
+is_no_memory-answer base h t caller request = replied (outcome base h t caller request) (told-outcome base h t caller request)

@@ -1,0 +1,55 @@
+-- What a request is about, and which records stand for a change.
+use Rattle.std.specs.Prelude.{ℕ, Bool, true, false, not, ◌&&◌, Option, Some, None}
+use Rattle.s4_types.specs.declared.principal.Caller.{Caller}
+use Rattle.s4_types.specs.declared.object.Purse.{Purse}
+use Rattle.s4_types.specs.declared.request.Request.{Request}
+use Rattle.s4_types.specs.declared.request.Request.TheVariants.{Create, Read, Write}
+use Rattle.s4_types.specs.declared.reply.Reply.{Reply}
+use Rattle.s4_types.specs.declared.reply.Reply.TheVariants.{Refused}
+use Rattle.s4_types.specs.declared.record.Record.{Record}
+use Rattle.s4_types.specs.Names.{same_purse}
+
+-- whether the request changes nothing, whatever it is answered
+abbrev pub only_reads : Request → Bool
+only_reads (Read o offset length) = true
+only_reads _ = false
+
+-- whether the request makes an object, where it is carried out
+abbrev pub is_create : Request → Bool
+is_create (Create number) = true
+is_create _ = false
+
+-- the purse that the request names, or that it draws from
+abbrev pub purse_of : Caller → Request → Option Purse
+purse_of caller (Create number) = Some (record { creator = caller.who; number = number })
+purse_of caller (Read o offset length) = Some o.purse
+purse_of caller (Write o offset bytes) = Some o.purse
+
+-- the creator of the purse, or else the caller
+abbrev pub creator_of : Caller → Option Purse → ℕ
+creator_of caller (Some purse) = purse.creator
+creator_of caller None = caller.who
+
+-- the principal in whose range the request lies
+abbrev pub range_of : Caller → Request → ℕ
+range_of caller request = creator_of caller (purse_of caller request)
+
+abbrev pub is_refused : Reply → Bool
+is_refused (Refused refusal) = true
+is_refused _ = false
+
+-- whether the record stands for a change of the drive
+abbrev pub is_accepted : Record → Bool
+is_accepted r = not (is_refused r.reply) && not (only_reads r.request)
+
+abbrev pub is_that : Purse → Option Purse → Bool
+is_that purse (Some other) = same_purse other purse
+is_that purse None = false
+
+-- whether the request is about the purse
+abbrev pub is_about : Purse → Caller → Request → Bool
+is_about purse caller request = is_that purse (purse_of caller request)
+
+-- whether the record changed what the purse holds. Nothing else in a history matters to the purse.
+abbrev pub concerns : Purse → Record → Bool
+concerns purse r = is_accepted r && is_about purse r.caller r.request

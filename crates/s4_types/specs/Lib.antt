@@ -1,0 +1,10 @@
+pub mod Rights
+pub mod Acl
+pub mod Names
+pub mod Kinds
+pub mod Versions
+pub mod Judgement
+pub mod Outcome
+pub mod Base
+pub mod Answer
+pub mod Play

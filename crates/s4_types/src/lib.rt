@@ -1,0 +1,27 @@
+//! The types that every crate of the drive speaks of, and the definitions of what the drive
+//! answers (docs/MODEL.md says them in prose).
+#![tactic(auto)]
+
+mod acl;
+mod bytes;
+mod memory;
+mod moment;
+mod object;
+mod principal;
+mod record;
+mod reply;
+mod request;
+mod rights;
+mod version;
+
+pub use acl::{Acl, AclEntry};
+pub use bytes::Bytes;
+pub use memory::NoMemory;
+pub use moment::Moment;
+pub use object::{ObjectId, Purse, PurseNo, Serial};
+pub use principal::{Caller, Principal};
+pub use record::{Record, Step};
+pub use reply::{Grant, Refusal, Reply};
+pub use request::Request;
+pub use rights::{Right, Rights};
+pub use version::{Item, Version};
