@@ -8,20 +8,20 @@ use Rattle.s4_types.specs.declared.rights.Right.TheVariants as right
 use Rattle.s4_types.specs.Names.{object_in}
 use Rattle.s4_types.specs.declared.rights.Right.{Right}
 use Rattle.s4_types.specs.declared.request.Request.{Request}
-use Rattle.s4_types.specs.declared.request.Request.TheVariants.{Create, Read, Write}
+use Rattle.s4_types.specs.declared.request.Request.TheVariants.{Create, Delete, Read, Write, Append, Truncate, GetAttr, SetAttr}
 use Rattle.s4_types.specs.declared.reply.Grant.{Grant}
 use Rattle.s4_types.specs.declared.reply.Grant.TheVariants as grant
 use Rattle.s4_types.specs.declared.reply.Refusal.{Refusal}
-use Rattle.s4_types.specs.declared.reply.Refusal.TheVariants.{Denied, NoObject, TooLong, NamesSpent, NoMemory}
+use Rattle.s4_types.specs.declared.reply.Refusal.TheVariants.{Denied, NoObject, Future, TooLong, NamesSpent, NoMemory}
 use Rattle.s4_types.specs.declared.reply.Reply.{Reply}
-use Rattle.s4_types.specs.declared.reply.Reply.TheVariants.{Done, Made, Data, Refused}
+use Rattle.s4_types.specs.declared.reply.Reply.TheVariants.{Done, Made, Data, Attr, Refused}
 use Rattle.s4_types.specs.declared.record.Record.{Record}
 use Rattle.s4_types.specs.Rights.{has}
 use Rattle.s4_types.specs.Kinds.{is_refused}
-use Rattle.s4_types.specs.Judgement.{Held, Found, judge, judge_now, judge_by_entry, entry_of, held_at, may_know}
+use Rattle.s4_types.specs.Judgement.{Held, Found, judge, judge_now, judge_past, judge_by_entry, judge_past_by_entry, entry_of, held_at, may_know}
 use Rattle.s4_types.specs.Outcome.{◌>>=◌, ◌>>◌, refuse_if, reply_of}
 use Rattle.s4_types.specs.Base.{Base}
-use Rattle.s4_types.specs.Answer.{answer, outcome, drawn, data_of}
+use Rattle.s4_types.specs.Answer.{answer, outcome, drawn, timely, moment_of, data_of, attributes_of}
 use Rattle.s4_types.specs.Play.{is_no_memory}
 
 -- a test that lets a request pass
@@ -62,9 +62,31 @@ plain-absent : (needed : Right) (b : Bool) → is_plain {A = Grant} (Err (cond b
 plain-absent needed true = refl
 plain-absent needed false = refl
 
+plain-past : (held : Held) (found : Option Found) → is_plain (judge_past_by_entry held found) ≡ true
+plain-past held None = refl
+plain-past held (Some found) =
+    plain-either (not (has found.rights right.Read)) (Err (Denied right.Read)) (cond (has found.rights right.Recover) (Ok (grant.Entry found.index held.since)) (Err (Denied right.Recover))) refl
+    (plain-either (has found.rights right.Recover) (Ok (grant.Entry found.index held.since)) (Err (Denied right.Recover)) refl refl)
+
+plain-judge_past : (caller : Caller) (o : ObjectId) (held : Option Held) → is_plain (judge_past caller o held) ≡ true
+plain-judge_past caller o None = plain-absent right.Read (may_know caller o.purse.creator)
+plain-judge_past caller o (Some held) = plain-either (caller.who == 0) (Ok grant.Admin) (judge_past_by_entry held (entry_of caller.who held.acl)) refl (plain-past held (entry_of caller.who held.acl))
+
+plain-timely : (t : ℕ) (at : Option ℕ) → is_plain (timely t at) ≡ true
+plain-timely t None = refl
+plain-timely t (Some m) = plain-refuse (nat_lt t m)
+  where
+    plain-refuse : (b : Bool) → is_plain (refuse_if b Future) ≡ true
+    plain-refuse true = refl
+    plain-refuse false = refl
+
 plain-judge_now : (caller : Caller) (o : ObjectId) (needed : Right) (held : Option Held) → is_plain (judge_now caller o needed held) ≡ true
 plain-judge_now caller o needed None = plain-absent needed (may_know caller o.purse.creator)
 plain-judge_now caller o needed (Some held) = plain-either (caller.who == 0) (Ok grant.Admin) (judge_by_entry held needed (entry_of caller.who held.acl)) refl (plain-entry held needed (entry_of caller.who held.acl))
+
+plain-judge : (h : List Record) (t : ℕ) (caller : Caller) (o : ObjectId) (needed : Right) (at : Option ℕ) → is_plain (judge h t caller o needed at) ≡ true
+plain-judge h t caller o needed None = plain-judge_now caller o needed (held_at o t h)
+plain-judge h t caller o needed (Some m) = plain-judge_past caller o (held_at o m h)
 
 -- the outcome is a refusal just if it says so, and none for want of memory
 abbrev is_told : Result Reply Refusal → Bool
@@ -81,6 +103,7 @@ told-bind (Ok x) next e f = f x
 told-bind (Err NoMemory) next e f = cc
 told-bind (Err (Denied right)) next e f = refl
 told-bind (Err NoObject) next e f = refl
+told-bind (Err Future) next e f = refl
 told-bind (Err TooLong) next e f = refl
 told-bind (Err NamesSpent) next e f = refl
 
@@ -89,6 +112,7 @@ told-then (Ok x) next e f = f
 told-then (Err NoMemory) next e f = cc
 told-then (Err (Denied right)) next e f = refl
 told-then (Err NoObject) next e f = refl
+told-then (Err Future) next e f = refl
 told-then (Err TooLong) next e f = refl
 told-then (Err NamesSpent) next e f = refl
 
@@ -96,20 +120,37 @@ pub told-outcome : (base : Base) (h : List Record) (t : ℕ) (caller : Caller) (
 told-outcome base h t caller (Create number) =
     let purse : Purse = record { creator = caller.who; number = number } in
     told-test (nat_le 65535 (drawn purse h)) NamesSpent (Ok (Made (object_in purse (drawn purse h + 1)))) refl refl
-told-outcome base h t caller (Read o offset length) =
-    told-bind (judge h t caller o right.Read) (λ g. Ok (Data g (take length (drop offset (data_of o t h))))) (plain-judge_now caller o right.Read (held_at o t h)) (λ g. refl)
+told-outcome base h t caller (Delete o) = told-then (judge h t caller o right.Delete None) (Ok Done) (plain-judge h t caller o right.Delete None) refl
+told-outcome base h t caller (Read o offset length at) =
+    told-then (timely t at) (judge h t caller o right.Read at >>= λ g. Ok (Data g (take length (drop offset (data_of o (moment_of t at) h))))) (plain-timely t at)
+    (told-bind (judge h t caller o right.Read at) (λ g. Ok (Data g (take length (drop offset (data_of o (moment_of t at) h))))) (plain-judge h t caller o right.Read at) (λ g. refl))
 told-outcome base h t caller (Write o offset bytes) =
-    told-test (nat_lt 4096 (offset + length bytes)) TooLong (judge h t caller o right.Write >> Ok Done) refl
-    (told-then (judge h t caller o right.Write) (Ok Done) (plain-judge_now caller o right.Write (held_at o t h)) refl)
+    told-test (nat_lt 4096 (offset + length bytes)) TooLong (judge h t caller o right.Write None >> Ok Done) refl
+    (told-then (judge h t caller o right.Write None) (Ok Done) (plain-judge h t caller o right.Write None) refl)
+told-outcome base h t caller (Append o bytes) =
+    told-test (nat_lt 4096 (length bytes)) TooLong (judge h t caller o right.Write None >> (refuse_if (nat_lt 4096 (length (data_of o t h) + length bytes)) TooLong >> Ok Done)) refl
+    (told-then (judge h t caller o right.Write None) (refuse_if (nat_lt 4096 (length (data_of o t h) + length bytes)) TooLong >> Ok Done) (plain-judge h t caller o right.Write None)
+    (told-test (nat_lt 4096 (length (data_of o t h) + length bytes)) TooLong (Ok Done) refl refl))
+told-outcome base h t caller (Truncate o length) =
+    told-test (nat_lt 4096 length) TooLong (judge h t caller o right.Write None >> Ok Done) refl
+    (told-then (judge h t caller o right.Write None) (Ok Done) (plain-judge h t caller o right.Write None) refl)
+told-outcome base h t caller (GetAttr o at) =
+    told-then (timely t at) (judge h t caller o right.Read at >>= λ g. Ok (Attr g (attributes_of o (moment_of t at) h))) (plain-timely t at)
+    (told-bind (judge h t caller o right.Read at) (λ g. Ok (Attr g (attributes_of o (moment_of t at) h))) (plain-judge h t caller o right.Read at) (λ g. refl))
+told-outcome base h t caller (SetAttr o bytes) =
+    told-test (nat_lt 256 (length bytes)) TooLong (judge h t caller o right.Write None >> Ok Done) refl
+    (told-then (judge h t caller o right.Write None) (Ok Done) (plain-judge h t caller o right.Write None) refl)
 
 replied : (r : Result Reply Refusal) → is_told r ≡ true → is_no_memory (reply_of r) ≡ false
 replied (Ok Done) e = refl
 replied (Ok (Made o)) e = refl
 replied (Ok (Data g bytes)) e = refl
+replied (Ok (Attr g bytes)) e = refl
 replied (Ok (Refused r)) e = cc
 replied (Err NoMemory) e = cc
 replied (Err (Denied right)) e = refl
 replied (Err NoObject) e = refl
+replied (Err Future) e = refl
 replied (Err TooLong) e = refl
 replied (Err NamesSpent) e = refl
 

@@ -5,18 +5,32 @@ use Rattle.s4_types.specs.declared.object.Purse.{Purse}
 use Rattle.s4_types.specs.declared.object.ObjectId.{ObjectId}
 use Rattle.s4_types.specs.declared.rights.Right.TheVariants as right
 use Rattle.s4_types.specs.declared.request.Request.{Request}
-use Rattle.s4_types.specs.declared.request.Request.TheVariants.{Create, Read, Write}
+use Rattle.s4_types.specs.declared.request.Request.TheVariants.{Create, Delete, Read, Write, Append, Truncate, GetAttr, SetAttr}
 use Rattle.s4_types.specs.declared.reply.Refusal.{Refusal}
-use Rattle.s4_types.specs.declared.reply.Refusal.TheVariants.{TooLong, NamesSpent}
+use Rattle.s4_types.specs.declared.reply.Refusal.TheVariants.{Future, TooLong, NamesSpent}
 use Rattle.s4_types.specs.declared.reply.Reply.{Reply}
-use Rattle.s4_types.specs.declared.reply.Reply.TheVariants.{Done, Made, Data}
+use Rattle.s4_types.specs.declared.reply.Reply.TheVariants.{Done, Made, Data, Attr}
 use Rattle.s4_types.specs.declared.record.Record.{Record}
 use Rattle.s4_types.specs.Names.{object_in}
 use Rattle.s4_types.specs.Kinds.{is_create, concerns}
-use Rattle.s4_types.specs.Versions.{Value, value_at, data_track}
+use Rattle.s4_types.specs.Versions.{Value, value_at, data_track, attribute_track}
 use Rattle.s4_types.specs.Judgement.{judge}
 use Rattle.s4_types.specs.Outcome.{◌>>=◌, ◌>>◌, refuse_if, reply_of}
 use Rattle.s4_types.specs.Base.{Base}
+
+-- TESTS
+
+-- a moment that the request names may not be to come
+abbrev pub timely : ℕ → Option ℕ → Result (Unit {0}) Refusal
+timely t None = Ok tt
+timely t (Some m) = refuse_if (nat_lt t m) Future
+
+-- the moment that a request speaks of
+abbrev pub moment_of : ℕ → Option ℕ → ℕ
+moment_of t None = t
+moment_of t (Some m) = m
+
+-- VALUES IN FORCE
 
 -- the value, or nothing where there is none
 abbrev pub value_or_empty : {X : Type 0} → Option (Value (List X)) → List X
@@ -25,6 +39,11 @@ value_or_empty (Some v) = v.value
 
 abbrev pub data_of : ObjectId → ℕ → List Record → List ℕ
 data_of o t h = value_or_empty (value_at data_track o t h)
+
+abbrev pub attributes_of : ObjectId → ℕ → List Record → List ℕ
+attributes_of o t h = value_or_empty (value_at attribute_track o t h)
+
+-- SERIALS
 
 -- whether the record drew a serial from the purse
 abbrev pub draws : Purse → Record → Bool
@@ -40,22 +59,64 @@ created h purse = do
   refuse_if (nat_le 65535 (drawn purse h)) NamesSpent
   Ok (Made (object_in purse (drawn purse h + 1)))
 
-abbrev pub data_read : List Record → ℕ → Caller → ObjectId → ℕ → ℕ → Result Reply Refusal
-data_read h t caller o offset length = do
-  grant ← judge h t caller o right.Read
-  Ok (Data grant (take length (drop offset (data_of o t h))))
+-- READING
+
+abbrev pub data_read : List Record → ℕ → Caller → ObjectId → ℕ → ℕ → Option ℕ → Result Reply Refusal
+data_read h t caller o offset length at = do
+  timely t at
+  grant ← judge h t caller o right.Read at
+  Ok (Data grant (take length (drop offset (data_of o (moment_of t at) h))))
+
+abbrev pub attributes_read : List Record → ℕ → Caller → ObjectId → Option ℕ → Result Reply Refusal
+attributes_read h t caller o at = do
+  timely t at
+  grant ← judge h t caller o right.Read at
+  Ok (Attr grant (attributes_of o (moment_of t at) h))
+
+-- CHANGES
+
+abbrev pub deleted : List Record → ℕ → Caller → ObjectId → Result Reply Refusal
+deleted h t caller o = do
+  judge h t caller o right.Delete None
+  Ok Done
 
 abbrev pub data_written : List Record → ℕ → Caller → ObjectId → ℕ → List ℕ → Result Reply Refusal
 data_written h t caller o offset bytes = do
   refuse_if (nat_lt 4096 (offset + length bytes)) TooLong
-  judge h t caller o right.Write
+  judge h t caller o right.Write None
   Ok Done
+
+abbrev pub data_appended : List Record → ℕ → Caller → ObjectId → List ℕ → Result Reply Refusal
+data_appended h t caller o bytes = do
+  refuse_if (nat_lt 4096 (length bytes)) TooLong
+  judge h t caller o right.Write None
+  refuse_if (nat_lt 4096 (length (data_of o t h) + length bytes)) TooLong
+  Ok Done
+
+abbrev pub data_truncated : List Record → ℕ → Caller → ObjectId → ℕ → Result Reply Refusal
+data_truncated h t caller o length = do
+  refuse_if (nat_lt 4096 length) TooLong
+  judge h t caller o right.Write None
+  Ok Done
+
+abbrev pub attributes_set : List Record → ℕ → Caller → ObjectId → List ℕ → Result Reply Refusal
+attributes_set h t caller o bytes = do
+  refuse_if (nat_lt 256 (length bytes)) TooLong
+  judge h t caller o right.Write None
+  Ok Done
+
+-- ALL REQUESTS
 
 -- each request's tests in a row, and what it is told where none fails
 abbrev pub outcome : Base → List Record → ℕ → Caller → Request → Result Reply Refusal
 outcome base h t caller (Create number) = created h (record { creator = caller.who; number = number })
-outcome base h t caller (Read o offset length) = data_read h t caller o offset length
+outcome base h t caller (Delete o) = deleted h t caller o
+outcome base h t caller (Read o offset length at) = data_read h t caller o offset length at
 outcome base h t caller (Write o offset bytes) = data_written h t caller o offset bytes
+outcome base h t caller (Append o bytes) = data_appended h t caller o bytes
+outcome base h t caller (Truncate o length) = data_truncated h t caller o length
+outcome base h t caller (GetAttr o at) = attributes_read h t caller o at
+outcome base h t caller (SetAttr o bytes) = attributes_set h t caller o bytes
 
 -- the reply to a request at the moment t, after the records h that came since the base
 abbrev pub answer : Base → List Record → ℕ → Caller → Request → Reply

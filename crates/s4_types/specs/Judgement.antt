@@ -1,10 +1,11 @@
 -- Who may do what.
-use Rattle.std.specs.Prelude.{ℕ, Bool, ◌+◌, ◌==◌, ◌||◌, Option, Some, None, Result, Ok, Err, List, [], ◌∷◌, if◌then◌else◌}
+use Rattle.std.specs.Prelude.{ℕ, Bool, not, ◌+◌, ◌==◌, ◌||◌, Option, Some, None, Result, Ok, Err, List, [], ◌∷◌, if◌then◌else◌}
 use Rattle.std.specs.Option.{option_map}
 use Rattle.s4_types.specs.declared.principal.Caller.{Caller}
 use Rattle.s4_types.specs.declared.object.ObjectId.{ObjectId}
 use Rattle.s4_types.specs.declared.acl.AclEntry.{AclEntry}
 use Rattle.s4_types.specs.declared.rights.Right.{Right}
+use Rattle.s4_types.specs.declared.rights.Right.TheVariants as right
 use Rattle.s4_types.specs.declared.reply.Grant.{Grant}
 use Rattle.s4_types.specs.declared.reply.Grant.TheVariants as grant
 use Rattle.s4_types.specs.declared.reply.Refusal.{Refusal}
@@ -53,12 +54,26 @@ judge_by_entry held needed None = Err (Denied needed)
 judge_by_entry held needed (Some found) =
     if has found.rights needed then Ok (grant.Entry found.index held.since) else Err (Denied needed)
 
+-- the past wants Read, and then Recover
+abbrev pub judge_past_by_entry : Held → Option Found → Result Grant Refusal
+judge_past_by_entry held None = Err (Denied right.Read)
+judge_past_by_entry held (Some found) =
+    if not (has found.rights right.Read) then Err (Denied right.Read)
+    else (if has found.rights right.Recover then Ok (grant.Entry found.index held.since) else Err (Denied right.Recover))
+
 -- the judgement on an object by its ACL, which isn't there where the object doesn't live
 abbrev pub judge_now : Caller → ObjectId → Right → Option Held → Result Grant Refusal
 judge_now caller o needed None = Err (denied_absent caller o.purse.creator NoObject needed)
 judge_now caller o needed (Some held) =
     if caller.who == 0 then Ok grant.Admin else judge_by_entry held needed (entry_of caller.who held.acl)
 
--- the judgement on an object at the moment t
-abbrev pub judge : List Record → ℕ → Caller → ObjectId → Right → Result Grant Refusal
-judge h t caller o needed = judge_now caller o needed (held_at o t h)
+-- the judgement by the ACL of a moment that the request names
+abbrev pub judge_past : Caller → ObjectId → Option Held → Result Grant Refusal
+judge_past caller o None = Err (denied_absent caller o.purse.creator NoObject right.Read)
+judge_past caller o (Some held) =
+    if caller.who == 0 then Ok grant.Admin else judge_past_by_entry held (entry_of caller.who held.acl)
+
+-- the judgement on an object, now at t or at the moment that the request names
+abbrev pub judge : List Record → ℕ → Caller → ObjectId → Right → Option ℕ → Result Grant Refusal
+judge h t caller o needed None = judge_now caller o needed (held_at o t h)
+judge h t caller o needed (Some m) = judge_past caller o (held_at o m h)

@@ -3,7 +3,7 @@ use Rattle.std.specs.Prelude.{ℕ, Bool, true, false, not, ◌&&◌, Option, Som
 use Rattle.s4_types.specs.declared.principal.Caller.{Caller}
 use Rattle.s4_types.specs.declared.object.Purse.{Purse}
 use Rattle.s4_types.specs.declared.request.Request.{Request}
-use Rattle.s4_types.specs.declared.request.Request.TheVariants.{Create, Read, Write}
+use Rattle.s4_types.specs.declared.request.Request.TheVariants.{Create, Delete, Read, Write, Append, Truncate, GetAttr, SetAttr}
 use Rattle.s4_types.specs.declared.reply.Reply.{Reply}
 use Rattle.s4_types.specs.declared.reply.Reply.TheVariants.{Refused}
 use Rattle.s4_types.specs.declared.record.Record.{Record}
@@ -11,7 +11,8 @@ use Rattle.s4_types.specs.Names.{same_purse}
 
 -- whether the request changes nothing, whatever it is answered
 abbrev pub only_reads : Request → Bool
-only_reads (Read o offset length) = true
+only_reads (Read o offset length at) = true
+only_reads (GetAttr o at) = true
 only_reads _ = false
 
 -- whether the request makes an object, where it is carried out
@@ -22,8 +23,13 @@ is_create _ = false
 -- the purse that the request names, or that it draws from
 abbrev pub purse_of : Caller → Request → Option Purse
 purse_of caller (Create number) = Some (record { creator = caller.who; number = number })
-purse_of caller (Read o offset length) = Some o.purse
+purse_of caller (Delete o) = Some o.purse
+purse_of caller (Read o offset length at) = Some o.purse
 purse_of caller (Write o offset bytes) = Some o.purse
+purse_of caller (Append o bytes) = Some o.purse
+purse_of caller (Truncate o length) = Some o.purse
+purse_of caller (GetAttr o at) = Some o.purse
+purse_of caller (SetAttr o bytes) = Some o.purse
 
 -- the creator of the purse, or else the caller
 abbrev pub creator_of : Caller → Option Purse → ℕ

@@ -1,10 +1,10 @@
 -- When an object lives, and what was in force on its tracks at which moments.
-use Rattle.std.specs.Prelude.{ℕ, Bool, true, false, cond, ◌+◌, ◌*◌, ◌-◌, ◌&&◌, nat_le, Option, Some, None, List, [], ◌∷◌, ◌++◌, length, take, drop, replicate, fold, find, if◌then◌else◌}
+use Rattle.std.specs.Prelude.{ℕ, Bool, true, false, not, cond, ◌+◌, ◌*◌, ◌-◌, ◌&&◌, nat_le, Option, Some, None, List, [], ◌∷◌, ◌++◌, length, take, drop, replicate, fold, find, if◌then◌else◌}
 use Rattle.std.specs.List.{list_any}
 use Rattle.s4_types.specs.declared.object.ObjectId.{ObjectId}
 use Rattle.s4_types.specs.declared.acl.AclEntry.{AclEntry}
 use Rattle.s4_types.specs.declared.request.Request.{Request}
-use Rattle.s4_types.specs.declared.request.Request.TheVariants.{Write}
+use Rattle.s4_types.specs.declared.request.Request.TheVariants.{Delete, Write, Append, Truncate, SetAttr}
 use Rattle.s4_types.specs.declared.reply.Reply.{Reply}
 use Rattle.s4_types.specs.declared.reply.Reply.TheVariants.{Made}
 use Rattle.s4_types.specs.declared.record.Record.{Record}
@@ -22,9 +22,17 @@ is_made o _ = false
 abbrev pub makes : ObjectId → Record → Bool
 makes o r = concerns o.purse r && is_made o r.reply
 
--- whether the object lives at the moment: it was made by then
+abbrev pub is_deleted : ObjectId → Request → Bool
+is_deleted o (Delete deleted) = same_object deleted o
+is_deleted o _ = false
+
+-- whether the record deleted the object
+abbrev pub deletes : ObjectId → Record → Bool
+deletes o r = concerns o.purse r && is_deleted o r.request
+
+-- whether the object lives at the moment: it was made by then, and not deleted by then
 abbrev pub lives_at : ℕ → ObjectId → List Record → Bool
-lives_at m o h = list_any (λ r. makes o r && nat_le r.moment m) h
+lives_at m o h = list_any (λ r. makes o r && nat_le r.moment m) h && not (list_any (λ r. deletes o r && nat_le r.moment m) h)
 
 -- TRACKS
 
@@ -51,6 +59,11 @@ begun m value = record { begin = m; end = None; value = value }
 abbrev pub ended : {V : Type 0} → ℕ → Value V → Value V
 ended m v = record { begin = v.begin; end = Some m; value = v.value }
 
+-- the newest value ends
+abbrev pub with_end : {V : Type 0} → ℕ → List (Value V) → List (Value V)
+with_end m [] = []
+with_end m (v ∷ past) = ended m v ∷ past
+
 -- the newest value ends where another one begins
 abbrev pub with_value : {V : Type 0} → ℕ → Option V → Value V → List (Value V) → List (Value V)
 with_value m None v past = v ∷ past
@@ -65,7 +78,8 @@ with_effect m effect (v ∷ past) = with_value m (effect v.value) v past
 abbrev pub after_change : {V : Type 0} → Track V → ObjectId → List (Value V) → Record → List (Value V)
 after_change track o values r =
     if makes o r then begun r.moment (track.start o) ∷ values
-    else with_effect r.moment (track.effect o r.request) values
+    else (if deletes o r then with_end r.moment values
+    else with_effect r.moment (track.effect o r.request) values)
 
 abbrev pub versions_after : {V : Type 0} → Track V → ObjectId → List (Value V) → Record → List (Value V)
 versions_after track o values r = if concerns o.purse r then after_change track o values r else values
@@ -94,11 +108,21 @@ when test x = cond test (Some x) None
 
 abbrev pub data_effect : ObjectId → Request → List ℕ → Option (List ℕ)
 data_effect o (Write changed offset bytes) old = when (same_object changed o) (written offset bytes old)
+data_effect o (Append changed bytes) old = when (same_object changed o) (old ++ bytes)
+data_effect o (Truncate changed length) old = when (same_object changed o) (of_length length old)
 data_effect o _ old = None
 
 -- an object's data are empty at first
 abbrev pub data_track : Track (List ℕ)
 data_track = record { start = λ o. []; effect = data_effect; cost = λ bytes. 64 + length bytes }
+
+abbrev pub attribute_effect : ObjectId → Request → List ℕ → Option (List ℕ)
+attribute_effect o (SetAttr changed bytes) old = when (same_object changed o) bytes
+attribute_effect o _ old = None
+
+-- and so are its attributes
+abbrev pub attribute_track : Track (List ℕ)
+attribute_track = record { start = λ o. []; effect = attribute_effect; cost = λ bytes. 64 + length bytes }
 
 abbrev pub acl_effect : ObjectId → Request → List AclEntry → Option (List AclEntry)
 acl_effect o request old = None

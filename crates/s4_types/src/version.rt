@@ -9,6 +9,8 @@ use crate::moment::Moment;
 pub enum Item {
     /// An object's data.
     Data(Bytes),
+    /// An object's attributes.
+    Attr(Bytes),
     /// Who may do what to an object.
     Acl(Acl),
 }

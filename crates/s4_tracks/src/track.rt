@@ -1,0 +1,136 @@
+//! One track: a chain of a store, and what is done to it.
+
+ghost use Rattle.std.specs.Prelude.{◌≡◌, ◌+◌, ◌<◌, ◌≤◌, nat_le, IfSome};
+ghost use Rattle.std.specs.Option.{option_copied};
+ghost use Rattle.std.specs.FinMap as finmap;
+ghost use Rattle.s4_store.specs.Chains.{items_of, IsOpen, StillOpen};
+ghost use Rattle.s4_tracks.specs.Chain.{IsSmall, in_force, current_of, latest as latest_of, is_by as is_by_of, with_end, with_put, cost_of as cost};
+
+use s4_store::{Chain, Store};
+use s4_types::{Item, Moment, Version};
+
+/// The values of one track, oldest first, on a chain of a store that its calls are lent
+/// (docs/MODEL.md, "Tracks").
+#[derive(Clone, Copy, Debug, PartialEq, Eq)]
+pub struct Track {
+    pub chain: Chain,
+}
+
+impl Track {
+    /// The value in force at the moment, with its begin and its end. It looks at the values from
+    /// the newest to the one that it finds.
+    pub fn at<'a, S: Store<Version>>(&self, store: &'a S, moment: Moment) -> Option<&'a Version>
+        requires { IsOpen (S.chains store.now) self.now.chain }
+        ensures { option_copied result ≡ in_force moment (items_of (S.chains store.now) self.now.chain) }
+    {
+        let found = latest(store, self.chain, moment)?;
+        if is_by(found.end, moment) {
+            None
+        } else {
+            Some(found)
+        }
+    }
+
+    /// The current value: the newest, where it has no end.
+    pub fn current<'a, S: Store<Version>>(&self, store: &'a S) -> Option<&'a Version>
+        requires { IsOpen (S.chains store.now) self.now.chain }
+        ensures { option_copied result ≡ current_of (items_of (S.chains store.now) self.now.chain) }
+    {
+        let newest = store.newest(self.chain)?;
+        if newest.end.is_some() {
+            None
+        } else {
+            Some(newest)
+        }
+    }
+
+    /// Ends the current value, if there is one, at a moment that isn't below its begin. Takes no
+    /// memory.
+    pub fn end<S: Store<Version>>(&self, store: &mut S, moment: Moment)
+        requires { IsOpen (S.chains store.old) self.now.chain }
+        ensures chains { S.chains store.new ≡ finmap.insert (S.chains store.old) self.now.chain (with_end moment (items_of (S.chains store.old) self.now.chain)) }
+        ensures still { StillOpen (S.chains store.old) (S.chains store.new) }
+        ensures room { S.room store.new ≡ S.room store.old }
+    {
+        let count = store.len(self.chain);
+        if count == 0 {
+            return;
+        }
+        let newest = store.get(self.chain, count - 1);
+        if newest.end.is_some() {
+            return;
+        }
+        let nothing = Version {
+            begin: moment,
+            end: None,
+            item: None,
+            cost: 0,
+        };
+        let mut ended = store.set(self.chain, count - 1, nothing);
+        ended.end = Some(moment);
+        store.set(self.chain, count - 1, ended);
+    }
+
+    /// Ends the current value, if there is one, and puts another after it, in room that was
+    /// reserved. Takes no memory.
+    pub fn put<S: Store<Version>>(&self, store: &mut S, moment: Moment, item: Item)
+        requires open { IsOpen (S.chains store.old) self.now.chain }
+        requires room { 0 < S.room store.old }
+        requires small { IsSmall item }
+        ensures chains { S.chains store.new ≡ finmap.insert (S.chains store.old) self.now.chain (with_put moment item (items_of (S.chains store.old) self.now.chain)) }
+        ensures still { StillOpen (S.chains store.old) (S.chains store.new) }
+        ensures room { S.room store.new + 1 ≡ S.room store.old }
+    {
+        self.end(store, moment);
+        let cost = cost_of(&item);
+        let begun = Version {
+            begin: moment,
+            end: None,
+            item: Some(item),
+            cost,
+        };
+        store.push(self.chain, begun);
+    }
+}
+
+/// What a value costs once it is past: 64 and its length, or 64 and 16 for each entry of an ACL.
+pub fn cost_of(item: &Item) -> u32
+    requires { IsSmall item.now }
+    ensures { result ≡ cost item.now }
+{
+    match item {
+        Item::Data(bytes) | Item::Attr(bytes) => 64 + bytes.len() as u32,
+        Item::Acl(acl) => 64 + 16 * acl.entries().len() as u32,
+    }
+}
+
+// Whether there is an end, and it is at most the moment.
+fn is_by(end: Option<Moment>, moment: Moment) -> bool
+    ensures { result ≡ is_by_of moment end }
+{
+    match end {
+        Some(end) => end.tick() <= moment.tick(),
+        None => false,
+    }
+}
+
+// The newest value that began by the moment.
+fn latest<'a, S: Store<Version>>(store: &'a S, chain: Chain, moment: Moment) -> Option<&'a Version>
+    requires { IsOpen (S.chains store.now) chain }
+    ensures { option_copied result ≡ latest_of moment (items_of (S.chains store.now) chain) }
+{
+    let count = store.len(chain);
+    for back in 0..count {
+        let version = store.get(chain, count - 1 - back);
+        if begins_by(version, moment) {
+            return Some(version);
+        }
+    }
+    None
+}
+
+fn begins_by(version: &Version, moment: Moment) -> bool
+    ensures { result ≡ nat_le version.now.begin moment }
+{
+    version.begin.tick() <= moment.tick()
+}
