@@ -1,44 +1,40 @@
--- What an accepted request puts, and what it makes.
-use Rattle.std.proofs.Common.{◌≡◌, ℕ, ◌+◌, ◌≤◌, Bool, true, false, cond, Option, Some, None, List, [], ◌∷◌, ◌++◌, refl, sym, ◌∙◌, ap, subst, length}
-use Rattle.std.specs.Prelude.{◌&&◌, ◌==◌, is_ok, nat_le, nat_lt, Result, Ok, Err, if◌then◌else◌}
+-- What an accepted request puts, ends and makes.
+use Rattle.std.proofs.Common.{◌≡◌, ℕ, ◌+◌, ◌≤◌, Bool, true, false, cond, Option, Some, None, List, [], ◌∷◌, ◌++◌, refl, sym, ◌∙◌, ap, subst}
+use Rattle.std.specs.Prelude.{◌&&◌, ◌==◌, nat_le, Result, Ok, if◌then◌else◌}
 use Rattle.s4_types.specs.declared.principal.Caller.{Caller}
 use Rattle.s4_types.specs.declared.object.Purse.{Purse}
 use Rattle.s4_types.specs.declared.object.ObjectId.{ObjectId}
-use Rattle.s4_types.specs.declared.rights.Right.TheVariants as right
 use Rattle.s4_types.specs.declared.request.Request.{Request}
-use Rattle.s4_types.specs.declared.request.Request.TheVariants.{Create, Write}
-use Rattle.s4_types.specs.declared.reply.Grant.{Grant}
+use Rattle.s4_types.specs.declared.request.Request.TheVariants.{Create, Delete, Write, Append, Truncate, SetAttr}
 use Rattle.s4_types.specs.declared.reply.Refusal.{Refusal}
-use Rattle.s4_types.specs.declared.reply.Refusal.TheVariants.{TooLong, NamesSpent}
-use Rattle.s4_types.specs.declared.reply.Reply.{Reply}
+use Rattle.s4_types.specs.declared.reply.Refusal.TheVariants.{NamesSpent}
 use Rattle.s4_types.specs.declared.reply.Reply.TheVariants.{Done, Made}
 use Rattle.s4_types.specs.declared.record.Record.{Record}
 use Rattle.s4_types.specs.declared.version.Version.{Version}
 use Rattle.s4_types.specs.declared.version.Item.{Item}
 use Rattle.s4_types.specs.declared.version.Item.TheVariants as item
-use Rattle.s4_types.specs.Acl.{first_acl}
 use Rattle.s4_types.specs.Names.{same_purse, same_object, object_in}
 use Rattle.s4_types.specs.Kinds.{is_refused, is_create, concerns}
-use Rattle.s4_types.specs.Versions.{Track, Value, versions, with_effect, makes, is_made, when, data_track, acl_track, data_effect, acl_effect, written} 
+use Rattle.s4_types.specs.Versions.{Track, Value, versions, with_effect, makes, deletes, is_made, is_deleted, lives_at, when, data_track, attribute_track, acl_track, of_length, written}
 use Rattle.s4_types.specs.Versions as model
-use Rattle.s4_types.specs.Judgement.{judge}
 use Rattle.s4_types.specs.Outcome.{◌>>◌, refuse_if, reply_of}
 use Rattle.s4_types.specs.Base.{Base}
 use Rattle.s4_types.specs.Answer.{answer, drawn, draws, data_of}
 use Rattle.s4_types.specs.Play.{last_of}
-use Rattle.s4_types.proofs.Booleans.{by_test, both, &&-true, &&-false}
-use Rattle.s4_types.proofs.SameNames.{purse_self, object_self}
+use Rattle.s4_types.proofs.Booleans.{by_test, both, not_both, &&-true, &&-false}
+use Rattle.s4_types.proofs.SameNames.{purse_self, object_self, object_is, same_purses}
 use Rattle.s4_types.proofs.Snoc.{versions-snoc}
-use Rattle.s4_types.proofs.Tests.{passes_test, passes_judgement}
+use Rattle.s4_tracks.specs.Chain.{begun, end_at, ended, with_end, with_put, cost_of}
+use Rattle.s4_tracks.proofs.Ending.{with_end-snoc}
 use Rattle.s4_drive.specs.declared.objects.Which.{Which}
 use Rattle.s4_drive.specs.declared.objects.Which.TheVariants as which
-use Rattle.s4_drive.specs.declared.objects.Kept.{Kept}
-use Rattle.s4_drive.specs.Chain.{begun, end_at, ended, with_end, with_put}
+use Rattle.s4_drive.specs.Chains.{same_which}
 use Rattle.s4_drive.specs.Laid.{version_of, laid, versions_on}
-use Rattle.s4_drive.specs.Sound.{IsSound, IsTrack, IsNewest, IsNext, was_made}
-use Rattle.s4_drive.specs.Stands.{PutsOn, StandsFor, same_which}
-use Rattle.s4_drive.proofs.Ending.{with_end-snoc}
-use Rattle.s4_drive.proofs.Reading.{granted-made, value-in-force}
+use Rattle.s4_drive.specs.Sound.{IsSound, IsNext, IsTrack, TrackStands, DataFits, AttributesFit, AclFits, was_made, was_deleted}
+use Rattle.s4_drive.specs.Stands.{MakesNone, PutsOn, EndsAll}
+use Rattle.s4_drive.proofs.Granting.{changed_by, changed-lives, changed-done, data-fit}
+use Rattle.s4_drive.proofs.Living.{lives_at-now}
+use Rattle.s4_drive.proofs.Reading.{data-in-force}
 use Rattle.s4_drive.proofs.Standing.{MakesOnly}
 
 either-same : {A : Type 0} (b : Bool) (x y : A) → x ≡ y → cond b x y ≡ y
@@ -49,94 +45,224 @@ effect-none : {V : Type 0} (t : ℕ) (values : List (Value V)) → with_effect t
 effect-none t [] = refl
 effect-none t (v ∷ past) = refl
 
--- A VALUE IN THE PLACE OF ANOTHER
+-- the current value of a track, where the object lives
+record IsLive {V : Type 0} (Fits : V → Type 0) (values : List (Value V)) : Type 0 where
+  newest : Value V
+  past : List (Value V)
+  whole : values ≡ newest ∷ past
+  current : newest.end ≡ None
+  fits : Fits newest.value
 
-module _ {V : Type 0} (track : Track V) (wrap : V → Item) (cost : (x : V) → Rattle.s4_drive.specs.Chain.cost_of (wrap x) ≡ track.cost x) where
+live-track : {V : Type 0} (Fits : V → Type 0) (m d : Bool) (last : ℕ) (values : List (Value V)) → m ≡ true → d ≡ false → IsTrack Fits m d last values → IsLive Fits values
+live-track Fits false d last values e f s = cc
+live-track Fits true true last values e f s = cc
+live-track Fits true false last [] e f s = absurd s
+live-track Fits true false last (v ∷ past) e f s = record { newest = v; past = past; whole = refl; current = s.current; fits = s.fits }
+
+-- VERSIONS
+
+module _ {V : Type 0} (track : Track V) (wrap : V → Item) (cost : (x : V) → cost_of (wrap x) ≡ track.cost x) where
   begun-laid : (m : ℕ) (x : V) → version_of track wrap (model.begun m x) ≡ begun m (wrap x)
   begun-laid m x = ap (λ n. record { begin = m; end = None; item = Some (wrap x); cost = n }) (sym (cost x))
 
   ended-laid : (m : ℕ) (v : Value V) → v.end ≡ None → version_of track wrap (model.ended m v) ≡ ended m (version_of track wrap v)
   ended-laid m v e = ap (λ x. record { begin = v.begin; end = x; item = Some (wrap v.value); cost = track.cost v.value }) (sym (ap (end_at m) e))
 
-  pub laid-put : (m : ℕ) (x : V) (v : Value V) (past : List (Value V)) → v.end ≡ None → laid track wrap (model.begun m x ∷ model.ended m v ∷ past) ≡ with_put m (wrap x) (laid track wrap (v ∷ past))
+  laid-end : (m : ℕ) (v : Value V) (past : List (Value V)) → v.end ≡ None → laid track wrap (model.ended m v ∷ past) ≡ with_end m (laid track wrap (v ∷ past))
+  laid-end m v past e = ap (λ w. laid track wrap past ++ w ∷ []) (ended-laid m v e) ∙ sym (with_end-snoc m (laid track wrap past) (version_of track wrap v))
+
+  laid-put : (m : ℕ) (x : V) (v : Value V) (past : List (Value V)) → v.end ≡ None → laid track wrap (model.begun m x ∷ model.ended m v ∷ past) ≡ with_put m (wrap x) (laid track wrap (v ∷ past))
   laid-put m x v past e =
       ap (λ w. (laid track wrap past ++ version_of track wrap (model.ended m v) ∷ []) ++ w ∷ []) (begun-laid m x)
-      ∙ ap (λ w. (laid track wrap past ++ w ∷ []) ++ begun m (wrap x) ∷ []) (ended-laid m v e)
-      ∙ ap (λ vs. vs ++ begun m (wrap x) ∷ []) (sym (with_end-snoc m (laid track wrap past) (version_of track wrap v)))
+      ∙ ap (λ vs. vs ++ begun m (wrap x) ∷ []) (laid-end m v past e)
 
--- what a record does that makes no object, to the values of a track
-module _ (h : List Record) (r : Record) (o : ObjectId) (about : (p : Purse) → concerns p r ≡ same_purse o.purse p) (made : (q : ObjectId) → is_made q r.reply ≡ false) where
-  pub makes-none : (q : ObjectId) → makes q r ≡ false
-  makes-none q = ap (λ b. concerns q.purse r && b) (made q) ∙ &&-false (concerns q.purse r)
+-- A RECORD ABOUT ONE OBJECT
 
-  after : {V : Type 0} (track : Track V) (q : ObjectId) → versions track q (h ++ r ∷ []) ≡ cond (same_purse o.purse q.purse) (with_effect r.moment (track.effect q r.request) (versions track q h)) (versions track q h)
-  after track q =
-      let vs = versions track q h in
-      versions-snoc track q h r
-      ∙ ap (λ b. if concerns q.purse r then (if b then model.begun r.moment (track.start q) ∷ vs else with_effect r.moment (track.effect q r.request) vs) else vs) (makes-none q)
-      ∙ ap (λ b. cond b (with_effect r.moment (track.effect q r.request) vs) vs) (about q.purse)
-
-  idle : {V : Type 0} (track : Track V) (q : ObjectId) → ((old : V) → track.effect q r.request old ≡ None) → versions track q (h ++ r ∷ []) ≡ versions track q h
-  idle track q none = after track q
-      ∙ either-same (same_purse o.purse q.purse) _ _ (ap (λ effect. with_effect r.moment effect (versions track q h)) (λ i old. none old i) ∙ effect-none r.moment (versions track q h))
-
-  -- a change of the data by what a function makes of them
-  pub puts_data : (f : List ℕ → List ℕ) → is_create r.request ≡ false
-      → ((q : ObjectId) (old : List ℕ) → data_effect q r.request old ≡ when (same_object o q) (f old))
-      → ((q : ObjectId) (old : List (Rattle.s4_types.specs.declared.acl.AclEntry.AclEntry)) → acl_effect q r.request old ≡ None)
-      → (v : Value (List ℕ)) (past : List (Value (List ℕ))) → versions data_track o h ≡ v ∷ past → v.end ≡ None
-      → PutsOn h r o which.Data (item.Data (f v.value))
-  puts_data f kind data_is acl_is v past is current = record {
-    here =
-        let next : versions data_track o (h ++ r ∷ []) ≡ model.begun r.moment (f v.value) ∷ model.ended r.moment v ∷ past
-        = after data_track o
-          ∙ ap (λ b. cond b (with_effect r.moment (data_effect o r.request) (versions data_track o h)) (versions data_track o h)) (purse_self o.purse)
-          ∙ ap (λ effect. with_effect r.moment effect (versions data_track o h)) (λ i old. data_is o old i)
-          ∙ ap (λ b. with_effect r.moment (λ old. when b (f old)) (versions data_track o h)) (object_self o)
-          ∙ ap (with_effect r.moment (λ old. Some (f old))) is in
-        ap (laid data_track item.Data) next ∙ laid-put data_track item.Data (λ x. refl) r.moment (f v.value) v past current
-        ∙ ap (λ vs. with_put r.moment (item.Data (f v.value)) (laid data_track item.Data vs)) (sym is);
-    elsewhere = elsewhere;
-    makes_none = makes-none;
+-- what a record does that is about the object and makes none
+module _ (h : List Record) (r : Record) (o : ObjectId) (about : (p : Purse) → concerns p r ≡ same_purse o.purse p) (made : (q : ObjectId) → is_made q r.reply ≡ false) (kind : is_create r.request ≡ false) where
+  makes-none : MakesNone r
+  makes-none = record {
+    makes_none = λ q. ap (λ b. concerns q.purse r && b) (made q) ∙ &&-false (concerns q.purse r);
     draws_none = λ p. ap (λ b. concerns p r && b) kind ∙ &&-false (concerns p r);
   }
+
+  module _ {V : Type 0} (track : Track V) (q : ObjectId) where
+    vs : List (Value V)
+    vs = versions track q h
+
+    changed : versions track q (h ++ r ∷ []) ≡ cond (same_purse o.purse q.purse) (cond (deletes q r) (model.with_end r.moment (versions track q h)) (with_effect r.moment (track.effect q r.request) (versions track q h))) (versions track q h)
+    changed = versions-snoc track q h r
+        ∙ ap (λ b. if concerns q.purse r then (if b then model.begun r.moment (track.start q) ∷ versions track q h else (if deletes q r then model.with_end r.moment (versions track q h) else with_effect r.moment (track.effect q r.request) (versions track q h))) else versions track q h) (makes-none.makes_none q)
+        ∙ ap (λ b. cond b (cond (deletes q r) (model.with_end r.moment (versions track q h)) (with_effect r.moment (track.effect q r.request) (versions track q h))) (versions track q h)) (about q.purse)
+
+    -- it deletes nothing
+    effected : is_deleted q r.request ≡ false → versions track q (h ++ r ∷ []) ≡ cond (same_purse o.purse q.purse) (with_effect r.moment (track.effect q r.request) (versions track q h)) (versions track q h)
+    effected e = changed ∙ ap (λ b. cond (same_purse o.purse q.purse) (cond (concerns q.purse r && b) (model.with_end r.moment (versions track q h)) (with_effect r.moment (track.effect q r.request) (versions track q h))) (versions track q h)) e
+        ∙ ap (λ b. cond (same_purse o.purse q.purse) (cond b (model.with_end r.moment (versions track q h)) (with_effect r.moment (track.effect q r.request) (versions track q h))) (versions track q h)) (&&-false (concerns q.purse r))
+
+    -- and changes nothing on this track
+    idle : is_deleted q r.request ≡ false → ((old : V) → track.effect q r.request old ≡ None) → versions track q (h ++ r ∷ []) ≡ versions track q h
+    idle e none = effected e ∙ either-same (same_purse o.purse q.purse) _ _ (ap (λ effect. with_effect r.moment effect (versions track q h)) (λ i old. none old i) ∙ effect-none r.moment (versions track q h))
+
+  module _ {V : Type 0} {Fits : V → Type 0} (track : Track V) (wrap : V → Item) (cost : (x : V) → cost_of (wrap x) ≡ track.cost x) (live : IsLive Fits (versions track o h)) where
+    -- a value is put in the place of another
+    module _ (f : V → V) (undeleted : (q : ObjectId) → is_deleted q r.request ≡ false) (does : (q : ObjectId) (old : V) → track.effect q r.request old ≡ when (same_object o q) (f old)) where
+      put-here : laid track wrap (versions track o (h ++ r ∷ [])) ≡ with_put r.moment (wrap (f live.newest.value)) (laid track wrap (versions track o h))
+      put-here =
+          let next : versions track o (h ++ r ∷ []) ≡ model.begun r.moment (f live.newest.value) ∷ model.ended r.moment live.newest ∷ live.past
+          = effected track o (undeleted o)
+            ∙ ap (λ b. cond b (with_effect r.moment (track.effect o r.request) (versions track o h)) (versions track o h)) (purse_self o.purse)
+            ∙ ap (λ effect. with_effect r.moment effect (versions track o h)) (λ i old. does o old i)
+            ∙ ap (λ b. with_effect r.moment (λ old. when b (f old)) (versions track o h)) (object_self o)
+            ∙ ap (with_effect r.moment (λ old. Some (f old))) live.whole in
+          ap (laid track wrap) next ∙ laid-put track wrap cost r.moment (f live.newest.value) live.newest live.past live.current
+          ∙ ap (λ values. with_put r.moment (wrap (f live.newest.value)) (laid track wrap values)) (sym live.whole)
+
+      put-typed : (q : ObjectId) → laid track wrap (versions track q (h ++ r ∷ [])) ≡ (if same_object o q then with_put r.moment (wrap (f live.newest.value)) (laid track wrap (versions track q h)) else laid track wrap (versions track q h))
+      put-typed q = by_test (same_object o q)
+          (λ e. subst (λ p. laid track wrap (versions track p (h ++ r ∷ [])) ≡ with_put r.moment (wrap (f live.newest.value)) (laid track wrap (versions track p h))) (object_is o q e) put-here
+          ∙ sym (ap (λ b. if b then with_put r.moment (wrap (f live.newest.value)) (laid track wrap (versions track q h)) else laid track wrap (versions track q h)) e))
+          (λ e. ap (laid track wrap) (idle track q (undeleted q) (λ old. does q old ∙ ap (λ b. when b (f old)) e))
+          ∙ sym (ap (λ b. if b then with_put r.moment (wrap (f live.newest.value)) (laid track wrap (versions track q h)) else laid track wrap (versions track q h)) e))
+
+    -- the object ends
+    module _ (deleting : (q : ObjectId) → is_deleted q r.request ≡ same_object o q) (none : (q : ObjectId) (old : V) → track.effect q r.request old ≡ None) where
+      end-here : laid track wrap (versions track o (h ++ r ∷ [])) ≡ with_end r.moment (laid track wrap (versions track o h))
+      end-here =
+          let deleted : deletes o r ≡ true = ap (λ b. concerns o.purse r && b) (deleting o ∙ object_self o) ∙ &&-true (concerns o.purse r) ∙ about o.purse ∙ purse_self o.purse in
+          ap (laid track wrap) (changed track o
+          ∙ ap (λ b. cond b (cond (deletes o r) (model.with_end r.moment (versions track o h)) (with_effect r.moment (track.effect o r.request) (versions track o h))) (versions track o h)) (purse_self o.purse)
+          ∙ ap (λ b. cond b (model.with_end r.moment (versions track o h)) (with_effect r.moment (track.effect o r.request) (versions track o h))) deleted
+          ∙ ap (model.with_end r.moment) live.whole)
+          ∙ laid-end track wrap cost r.moment live.newest live.past live.current ∙ ap (λ values. with_end r.moment (laid track wrap values)) (sym live.whole)
+
+      end-typed : (q : ObjectId) → laid track wrap (versions track q (h ++ r ∷ [])) ≡ (if same_object o q then with_end r.moment (laid track wrap (versions track q h)) else laid track wrap (versions track q h))
+      end-typed q = by_test (same_object o q)
+          (λ e. subst (λ p. laid track wrap (versions track p (h ++ r ∷ [])) ≡ with_end r.moment (laid track wrap (versions track p h))) (object_is o q e) end-here
+          ∙ sym (ap (λ b. if b then with_end r.moment (laid track wrap (versions track q h)) else laid track wrap (versions track q h)) e))
+          (λ e. ap (laid track wrap) (idle track q (deleting q ∙ e) (none q))
+          ∙ sym (ap (λ b. if b then with_end r.moment (laid track wrap (versions track q h)) else laid track wrap (versions track q h)) e))
+
+-- a test that a second test of tracks doesn't pass
+else-both : {A : Type 0} (b : Bool) (x y z : A) → z ≡ y → z ≡ (if b && false then x else y)
+else-both b x y z e = e ∙ sym (ap (λ c. if c then x else y) (&&-false b))
+
+then-both : {A : Type 0} (b : Bool) (x y z : A) → z ≡ (if b then x else y) → z ≡ (if b && true then x else y)
+then-both b x y z e = e ∙ sym (ap (λ c. if c then x else y) (&&-true b))
+
+-- THE KINDS OF CHANGES
+
+module _ {base : Base} {h : List Record} {r : Record} (s : IsSound h) (n : IsNext base h r) (granted : is_refused r.reply ≡ false) (o : ObjectId) (request : Request) (asked : r.request ≡ request) (of_o : changed_by request ≡ Some o) where
+  accepted : is_refused (answer base h r.moment r.caller request) ≡ false
+  accepted = sym (ap is_refused (n.answered ∙ ap (answer base h r.moment r.caller) asked)) ∙ granted
+
+  -- the object lives
+  lives : lives_at r.moment o h ≡ true
+  lives = changed-lives base h r.moment r.caller request o accepted of_o
+
+  alive : (was_made o h ≡ true) × (was_deleted o h ≡ false)
+  alive =
+      let parts = both (was_made o h) (Rattle.std.proofs.Common.not (was_deleted o h)) (sym (lives_at-now r.moment (last_of h) o h n.later s.moments) ∙ lives) in
+      (parts.0, turned (was_deleted o h) parts.1)
     where
-      elsewhere : (q : ObjectId) (u : Which) → (same_object o q && same_which which.Data u) ≡ false → versions_on u q (h ++ r ∷ []) ≡ versions_on u q h
-      elsewhere q which.Data e = ap (laid data_track item.Data) (idle data_track q (λ old. data_is q old ∙ ap (λ b. when b (f old)) (sym (&&-true (same_object o q)) ∙ e)))
-      elsewhere q which.Acl e = ap (laid acl_track item.Acl) (idle acl_track q (acl_is q))
+      turned : (b : Bool) → Rattle.std.proofs.Common.not b ≡ true → b ≡ false
+      turned true f = cc
+      turned false f = refl
 
--- WRITE
+  pub changed_made : was_made o h ≡ true
+  changed_made = alive.0
 
-done_is : (b : Bool) (r : Refusal) (judged : Result Grant Refusal) → is_refused (reply_of (refuse_if b r >> (judged >> Ok Done))) ≡ false → reply_of (refuse_if b r >> (judged >> Ok Done)) ≡ Done
-done_is true r judged e = cc
-done_is false r (Ok g) e = refl
-done_is false r (Err s) e = cc
+  plain : Record
+  plain = record { moment = r.moment; caller = r.caller; request = request; reply = Done }
 
-module _ {base : Base} {h : List Record} {r : Record} (n : IsNext base h r) (granted : is_refused r.reply ≡ false) where
-  module _ {o : ObjectId} {offset : ℕ} {bytes : List ℕ} (asked : r.request ≡ Write o offset bytes) where
-    answered : r.reply ≡ reply_of (refuse_if (nat_lt 4096 (offset + length bytes)) TooLong >> (judge h r.moment r.caller o right.Write >> Ok Done))
-    answered = n.answered ∙ ap (answer base h r.moment r.caller) asked
+  is-plain : r ≡ record { moment = r.moment; caller = r.caller; request = request; reply = Done }
+  is-plain =
+      let told : r.reply ≡ Done = n.answered ∙ ap (answer base h r.moment r.caller) asked ∙ changed-done base h r.moment r.caller request o accepted of_o in
+      λ i. record { moment = r.moment; caller = r.caller; request = asked i; reply = told i }
 
-    passes : is_refused (reply_of (refuse_if (nat_lt 4096 (offset + length bytes)) TooLong >> (judge h r.moment r.caller o right.Write >> Ok Done))) ≡ false
-    passes = sym (ap is_refused answered) ∙ granted
+  live-data : IsLive DataFits (versions data_track o h)
+  live-data = let stands : TrackStands DataFits o h (versions data_track o h) = s.tracks o which.Data in live-track DataFits (was_made o h) (was_deleted o h) (last_of h) (versions data_track o h) alive.0 alive.1 stands.shape
 
-    pub write_made : was_made o h ≡ true
-    write_made = granted-made o r.moment h r.caller right.Write (passes_judgement (judge h r.moment r.caller o right.Write) (Ok Done)
-        (passes_test (nat_lt 4096 (offset + length bytes)) TooLong (judge h r.moment r.caller o right.Write >> Ok Done) passes).1).0
+  live-attributes : IsLive AttributesFit (versions attribute_track o h)
+  live-attributes = let stands : TrackStands AttributesFit o h (versions attribute_track o h) = s.tracks o which.Attributes in live-track AttributesFit (was_made o h) (was_deleted o h) (last_of h) (versions attribute_track o h) alive.0 alive.1 stands.shape
 
-    write_told : r.reply ≡ Done
-    write_told = answered ∙ done_is (nat_lt 4096 (offset + length bytes)) TooLong (judge h r.moment r.caller o right.Write) passes
+  live-acl : IsLive AclFits (versions acl_track o h)
+  live-acl = let stands : TrackStands AclFits o h (versions acl_track o h) = s.tracks o which.Acl in live-track AclFits (was_made o h) (was_deleted o h) (last_of h) (versions acl_track o h) alive.0 alive.1 stands.shape
 
-    write_is : r ≡ record { moment = r.moment; caller = r.caller; request = Write o offset bytes; reply = Done }
-    write_is = λ i. record { moment = r.moment; caller = r.caller; request = asked i; reply = write_told i }
+  current-data : live-data.newest.value ≡ data_of o r.moment h
+  current-data = data-in-force s o r.moment n.later lives live-data.newest live-data.past live-data.whole
 
-    pub write_puts : (s : IsSound h) → PutsOn h r o which.Data (item.Data (written offset bytes (data_of o r.moment h)))
-    write_puts s =
-        let x = value-in-force s o r.moment n.later write_made in
-        let plain : Record = record { moment = r.moment; caller = r.caller; request = Write o offset bytes; reply = Done } in
-        subst (λ old. PutsOn h r o which.Data (item.Data (written offset bytes old))) (sym x.3)
-        (subst (λ p. PutsOn h p o which.Data (item.Data (written offset bytes x.0.value))) (sym write_is)
-        (puts_data h plain o (λ p. refl) (λ q. refl) (written offset bytes) refl (λ q old. refl) (λ q old. refl) x.0 x.1 x.2.0 x.2.1))
+module _ (h : List Record) (t : ℕ) (caller : Caller) (o : ObjectId) where
+  abbrev done : Request → Record
+  done request = record { moment = t; caller = caller; request = request; reply = Done }
+
+  puts-data : (request : Request) (f : List ℕ → List ℕ) (live : IsLive DataFits (versions data_track o h))
+      → ((p : Purse) → concerns p (done request) ≡ same_purse o.purse p) → is_create request ≡ false → ((q : ObjectId) → is_deleted q request ≡ false)
+      → ((q : ObjectId) (old : List ℕ) → model.data_effect q request old ≡ when (same_object o q) (f old))
+      → ((q : ObjectId) (old : List ℕ) → model.attribute_effect q request old ≡ None)
+      → PutsOn h (done request) o which.Data (item.Data (f live.newest.value))
+  puts-data request f live about kind undeleted does none = record { makes = makes-none h (done request) o about (λ q. refl) kind; tracks = tracks }
+    where
+      tracks : (q : ObjectId) (u : Which) → versions_on u q (h ++ done request ∷ []) ≡ (if same_object o q && same_which which.Data u then with_put t (item.Data (f live.newest.value)) (versions_on u q h) else versions_on u q h)
+      tracks q which.Data = then-both (same_object o q) _ _ _ (put-typed h (done request) o about (λ q. refl) kind data_track item.Data (λ x. refl) live f undeleted does q)
+      tracks q which.Attributes = else-both (same_object o q) _ _ _ (ap (laid attribute_track item.Attr) (idle h (done request) o about (λ q. refl) kind attribute_track q (undeleted q) (none q)))
+      tracks q which.Acl = else-both (same_object o q) _ _ _ (ap (laid acl_track item.Acl) (idle h (done request) o about (λ q. refl) kind acl_track q (undeleted q) (λ old. refl)))
+
+  puts-attributes : (bytes : List ℕ) (live : IsLive AttributesFit (versions attribute_track o h)) → PutsOn h (done (SetAttr o bytes)) o which.Attributes (item.Attr bytes)
+  puts-attributes bytes live = record { makes = makes-none h (done (SetAttr o bytes)) o (λ p. refl) (λ q. refl) refl; tracks = tracks }
+    where
+      tracks : (q : ObjectId) (u : Which) → versions_on u q (h ++ done (SetAttr o bytes) ∷ []) ≡ (if same_object o q && same_which which.Attributes u then with_put t (item.Attr bytes) (versions_on u q h) else versions_on u q h)
+      tracks q which.Attributes = then-both (same_object o q) _ _ _ (put-typed h (done (SetAttr o bytes)) o (λ p. refl) (λ q. refl) refl attribute_track item.Attr (λ x. refl) live (λ old. bytes) (λ q. refl) (λ q old. refl) q)
+      tracks q which.Data = else-both (same_object o q) _ _ _ (ap (laid data_track item.Data) (idle h (done (SetAttr o bytes)) o (λ p. refl) (λ q. refl) refl data_track q refl (λ old. refl)))
+      tracks q which.Acl = else-both (same_object o q) _ _ _ (ap (laid acl_track item.Acl) (idle h (done (SetAttr o bytes)) o (λ p. refl) (λ q. refl) refl acl_track q refl (λ old. refl)))
+
+  ends-all : IsLive DataFits (versions data_track o h) → IsLive AttributesFit (versions attribute_track o h) → IsLive AclFits (versions acl_track o h) → EndsAll h (done (Delete o)) o
+  ends-all a b c = record { makes = makes-none h (done (Delete o)) o (λ p. refl) (λ q. refl) refl; tracks = tracks }
+    where
+      tracks : (q : ObjectId) (u : Which) → versions_on u q (h ++ done (Delete o) ∷ []) ≡ (if same_object o q then with_end t (versions_on u q h) else versions_on u q h)
+      tracks q which.Data = end-typed h (done (Delete o)) o (λ p. refl) (λ q. refl) refl data_track item.Data (λ x. refl) a (λ q. refl) (λ q old. refl) q
+      tracks q which.Attributes = end-typed h (done (Delete o)) o (λ p. refl) (λ q. refl) refl attribute_track item.Attr (λ x. refl) b (λ q. refl) (λ q old. refl) q
+      tracks q which.Acl = end-typed h (done (Delete o)) o (λ p. refl) (λ q. refl) refl acl_track item.Acl (λ x. refl) c (λ q. refl) (λ q old. refl) q
+
+module _ {base : Base} {h : List Record} {r : Record} (s : IsSound h) (n : IsNext base h r) (granted : is_refused r.reply ≡ false) (o : ObjectId) where
+  pub write_puts : (offset : ℕ) (bytes : List ℕ) → r.request ≡ Write o offset bytes → PutsOn h r o which.Data (item.Data (written offset bytes (data_of o r.moment h)))
+  write_puts offset bytes asked =
+      let live = live-data s n granted o (Write o offset bytes) asked refl in
+      subst (λ old. PutsOn h r o which.Data (item.Data (written offset bytes old))) (current-data s n granted o (Write o offset bytes) asked refl)
+      (subst (λ p. PutsOn h p o which.Data (item.Data (written offset bytes live.newest.value))) (sym (is-plain s n granted o (Write o offset bytes) asked refl))
+      (puts-data h r.moment r.caller o (Write o offset bytes) (written offset bytes) live (λ p. refl) refl (λ q. refl) (λ q old. refl) (λ q old. refl)))
+
+  -- and what it leaves fits
+  pub write_fits : (offset : ℕ) (bytes : List ℕ) → r.request ≡ Write o offset bytes → DataFits (written offset bytes (data_of o r.moment h))
+  write_fits offset bytes asked =
+      let live = live-data s n granted o (Write o offset bytes) asked refl in
+      let is = current-data s n granted o (Write o offset bytes) asked refl in
+      data-fit base h r.moment r.caller (Write o offset bytes) o (sym (ap is_refused (n.answered ∙ ap (answer base h r.moment r.caller) asked)) ∙ granted)
+      (data_of o r.moment h) (written offset bytes (data_of o r.moment h)) (ap (λ b. when b (written offset bytes (data_of o r.moment h))) (object_self o)) refl (subst DataFits is live.fits)
+
+  pub append_puts : (bytes : List ℕ) → r.request ≡ Append o bytes → PutsOn h r o which.Data (item.Data (data_of o r.moment h ++ bytes))
+  append_puts bytes asked =
+      let live = live-data s n granted o (Append o bytes) asked refl in
+      subst (λ old. PutsOn h r o which.Data (item.Data (old ++ bytes))) (current-data s n granted o (Append o bytes) asked refl)
+      (subst (λ p. PutsOn h p o which.Data (item.Data (live.newest.value ++ bytes))) (sym (is-plain s n granted o (Append o bytes) asked refl))
+      (puts-data h r.moment r.caller o (Append o bytes) (λ old. old ++ bytes) live (λ p. refl) refl (λ q. refl) (λ q old. refl) (λ q old. refl)))
+
+  pub truncate_puts : (length : ℕ) → r.request ≡ Truncate o length → PutsOn h r o which.Data (item.Data (of_length length (data_of o r.moment h)))
+  truncate_puts length asked =
+      let live = live-data s n granted o (Truncate o length) asked refl in
+      subst (λ old. PutsOn h r o which.Data (item.Data (of_length length old))) (current-data s n granted o (Truncate o length) asked refl)
+      (subst (λ p. PutsOn h p o which.Data (item.Data (of_length length live.newest.value))) (sym (is-plain s n granted o (Truncate o length) asked refl))
+      (puts-data h r.moment r.caller o (Truncate o length) (of_length length) live (λ p. refl) refl (λ q. refl) (λ q old. refl) (λ q old. refl)))
+
+  pub set_attributes_puts : (bytes : List ℕ) → r.request ≡ SetAttr o bytes → PutsOn h r o which.Attributes (item.Attr bytes)
+  set_attributes_puts bytes asked =
+      subst (λ p. PutsOn h p o which.Attributes (item.Attr bytes)) (sym (is-plain s n granted o (SetAttr o bytes) asked refl))
+      (puts-attributes h r.moment r.caller o bytes (live-attributes s n granted o (SetAttr o bytes) asked refl))
+
+  pub delete_ends : r.request ≡ Delete o → EndsAll h r o
+  delete_ends asked =
+      subst (λ p. EndsAll h p o) (sym (is-plain s n granted o (Delete o) asked refl))
+      (ends-all h r.moment r.caller o (live-data s n granted o (Delete o) asked refl) (live-attributes s n granted o (Delete o) asked refl) (live-acl s n granted o (Delete o) asked refl))
 
 -- CREATE
 
@@ -155,12 +281,13 @@ module _ (h : List Record) (t : ℕ) (caller : Caller) (number : ℕ) where
 
   made-here : {V : Type 0} (track : Track V) → versions track new_object (h ++ creation ∷ []) ≡ model.begun t (track.start new_object) ∷ versions track new_object h
   made-here track = versions-snoc track new_object h creation
-      ∙ ap (λ b. if b then (if makes new_object creation then model.begun t (track.start new_object) ∷ versions track new_object h else with_effect t (track.effect new_object (Create number)) (versions track new_object h)) else versions track new_object h) (purse_self purse_of_new)
-      ∙ ap (λ b. if b then model.begun t (track.start new_object) ∷ versions track new_object h else with_effect t (track.effect new_object (Create number)) (versions track new_object h)) (makes-new new_object ∙ object_self new_object)
+      ∙ ap (λ b. if b then (if makes new_object creation then model.begun t (track.start new_object) ∷ versions track new_object h else (if deletes new_object creation then model.with_end t (versions track new_object h) else with_effect t (track.effect new_object (Create number)) (versions track new_object h))) else versions track new_object h) (purse_self purse_of_new)
+      ∙ ap (λ b. if b then model.begun t (track.start new_object) ∷ versions track new_object h else (if deletes new_object creation then model.with_end t (versions track new_object h) else with_effect t (track.effect new_object (Create number)) (versions track new_object h))) (makes-new new_object ∙ object_self new_object)
 
   not-here : {V : Type 0} (track : Track V) (q : ObjectId) → ((old : V) → track.effect q (Create number) old ≡ None) → same_object new_object q ≡ false → versions track q (h ++ creation ∷ []) ≡ versions track q h
   not-here track q none e = versions-snoc track q h creation
-      ∙ ap (λ b. if same_purse purse_of_new q.purse then (if b then model.begun t (track.start q) ∷ versions track q h else with_effect t (track.effect q (Create number)) (versions track q h)) else versions track q h) (makes-new q ∙ e)
+      ∙ ap (λ b. if same_purse purse_of_new q.purse then (if b then model.begun t (track.start q) ∷ versions track q h else (if deletes q creation then model.with_end t (versions track q h) else with_effect t (track.effect q (Create number)) (versions track q h))) else versions track q h) (makes-new q ∙ e)
+      ∙ ap (λ b. if same_purse purse_of_new q.purse then (if b then model.with_end t (versions track q h) else with_effect t (track.effect q (Create number)) (versions track q h)) else versions track q h) (&&-false (same_purse purse_of_new q.purse))
       ∙ either-same (same_purse purse_of_new q.purse) _ _ (ap (λ effect. with_effect t effect (versions track q h)) (λ i old. none old i) ∙ effect-none t (versions track q h))
 
   creation_makes : MakesOnly h creation new_object
@@ -169,12 +296,14 @@ module _ (h : List Record) (t : ℕ) (caller : Caller) (number : ℕ) where
     makes_it = makes-new;
     draws_it = λ p. &&-true (same_purse purse_of_new p);
     data_here = made-here data_track;
+    attributes_here = made-here attribute_track;
     acl_here = made-here acl_track;
     elsewhere = elsewhere;
   }
     where
       elsewhere : (q : ObjectId) (w : Which) → same_object new_object q ≡ false → versions_on w q (h ++ creation ∷ []) ≡ versions_on w q h
       elsewhere q which.Data e = ap (laid data_track item.Data) (not-here data_track q (λ old. refl) e)
+      elsewhere q which.Attributes e = ap (laid attribute_track item.Attr) (not-here attribute_track q (λ old. refl) e)
       elsewhere q which.Acl e = ap (laid acl_track item.Acl) (not-here acl_track q (λ old. refl) e)
 
 made_it : (b : Bool) (r : Refusal) (o : ObjectId) → is_refused (reply_of (refuse_if b r >> Ok (Made o))) ≡ false → reply_of (refuse_if b r >> Ok (Made o)) ≡ Made o

@@ -1,8 +1,9 @@
-pub mod Ending
-pub mod Keys
-pub mod Sounding
+pub mod Living
+pub mod Following
+pub mod Granting
 pub mod Reading
-pub mod Standing
+pub mod Sounding
 pub mod Opening
+pub mod Standing
 pub mod Effects
 pub mod Runs

@@ -1,111 +1,154 @@
 -- What is held tells what is in force.
-use Rattle.std.proofs.Common.{◌≡◌, ℕ, ◌-◌, ◌≤◌, Bool, true, false, cond, Option, Some, None, List, [], ◌∷◌, ◌++◌, refl, sym, ◌∙◌, ap, subst, arith, slice_get, length}
-use Rattle.std.specs.Prelude.{nat_le, is_some, is_ok, Result, Ok, Err}
-use Rattle.std.specs.List.{find, list_all}
+use Rattle.std.proofs.Common.{◌≡◌, ℕ, ◌≤◌, Bool, true, false, cond, Option, Some, None, List, [], ◌∷◌, ◌++◌, refl, sym, ◌∙◌, ap, subst, arith, fold}
+use Rattle.std.specs.Prelude.{nat_le, is_some, if◌then◌else◌}
+use Rattle.std.specs.List.{find}
 use Rattle.std.specs.Option.{option_map}
-use Rattle.std.specs.BTreeMap.{get}
-use Rattle.s4_types.specs.declared.principal.Caller.{Caller}
+use Rattle.std.proofs.lemmas.List.Sums.{fold-append}
 use Rattle.s4_types.specs.declared.object.Purse.{Purse}
 use Rattle.s4_types.specs.declared.object.ObjectId.{ObjectId}
 use Rattle.s4_types.specs.declared.acl.AclEntry.{AclEntry}
-use Rattle.s4_types.specs.declared.rights.Right.{Right}
 use Rattle.s4_types.specs.declared.record.Record.{Record}
 use Rattle.s4_types.specs.declared.version.Version.{Version}
 use Rattle.s4_types.specs.declared.version.Item.{Item}
 use Rattle.s4_types.specs.declared.version.Item.TheVariants as item
-use Rattle.s4_types.specs.Versions.{Track, Value, versions, value_at, lives_at, data_track, acl_track}
-use Rattle.s4_types.specs.Judgement.{Held, held_at, held_of, judge, judge_now}
-use Rattle.s4_types.specs.Answer.{value_or_empty, data_of}
+use Rattle.s4_types.specs.Versions.{Track, Value, versions, value_at, lives_at, data_track, attribute_track, acl_track}
+use Rattle.s4_types.specs.Judgement.{held_of}
+use Rattle.s4_types.specs.Answer.{value_or_empty, data_of, moment_of}
 use Rattle.s4_types.specs.Play.{last_of}
 use Rattle.s4_types.proofs.Snoc.{newest-snoc}
 use Rattle.s4_store.specs.Chains.{Chains, items_of, newest_of}
+use Rattle.s4_tracks.specs.Chain.{is_by, newer, latest, unended, in_force, endless, current_of}
+use Rattle.s4_drive.specs.declared.objects.Which.{Which}
 use Rattle.s4_drive.specs.declared.objects.Which.TheVariants as which
 use Rattle.s4_drive.specs.declared.objects.Kept.{Kept}
 use Rattle.s4_drive.specs.Held.{bytes_in, held_in}
-use Rattle.s4_drive.specs.Laid.{version_of, laid, versions_on}
-use Rattle.s4_drive.specs.Sound.{IsSound, IsTrack, IsNewest, was_made}
-use Rattle.s4_drive.specs.Stands.{StandsFor, chain_of, held}
-use Rattle.s4_drive.proofs.Sounding.{lives_at-now, lives_at-made}
+use Rattle.s4_drive.specs.Chains.{chain_of, held}
+use Rattle.s4_drive.specs.Laid.{version_of, laid, versions_on, version_at, version_in}
+use Rattle.s4_drive.specs.Sound.{IsSound, IsTrack, TrackStands, DataFits, AttributesFit, AclFits, held_by, was_made, was_deleted}
+use Rattle.s4_drive.specs.Stands.{StandsFor}
 
--- the newest value of a track
-abbrev newest : {V : Type 0} → List (Value V) → Option (Value V)
-newest [] = None
-newest (v ∷ past) = Some v
+-- FROM VALUES TO VERSIONS
 
-found-newest : {V : Type 0} (Fits : V → Type 0) (m : Bool) (last t : ℕ) (values : List (Value V)) → last ≤ t → IsTrack Fits m last values
-    → cond m (find (λ v. nat_le v.begin t) values) None ≡ newest values
-found-newest Fits false last t values l s = sym (ap newest s)
-found-newest Fits true last t [] l s = refl
-found-newest Fits true last t (v ∷ past) l s =
+module _ {V : Type 0} (track : Track V) (wrap : V → Item) where
+  latest-laid : (m : ℕ) (values : List (Value V)) → latest m (laid track wrap values) ≡ option_map (version_of track wrap) (find (λ v. nat_le v.begin m) values)
+  latest-laid m [] = refl
+  latest-laid m (v ∷ past) =
+      fold-append (newer m) None (laid track wrap past) (version_of track wrap v ∷ [])
+      ∙ ap (λ o. if nat_le v.begin m then Some (version_of track wrap v) else o) (latest-laid m past)
+      ∙ (elim (nat_le v.begin m) as (λ b. (if b then Some (version_of track wrap v) else option_map (version_of track wrap) (find (λ v. nat_le v.begin m) past)) ≡ option_map (version_of track wrap) (cond b (Some v) (find (λ v. nat_le v.begin m) past))) [ true ↦ refl | false ↦ refl ])
+
+  unended-found : (m : ℕ) (values : List (Value V)) → unended m (option_map (version_of track wrap) (find (λ v. nat_le v.begin m) values)) ≡ option_map (version_of track wrap) (held_by m values)
+  unended-found m [] = refl
+  unended-found m (v ∷ past) = elim (nat_le v.begin m) as (λ b. unended m (option_map (version_of track wrap) (cond b (Some v) (find (λ v. nat_le v.begin m) past))) ≡ option_map (version_of track wrap) (if b then (if is_by m v.end then None else Some v) else held_by m past)) [
+    | true ↦ (elim (is_by m v.end) as (λ b. (if b then None else Some (version_of track wrap v)) ≡ option_map (version_of track wrap) (if b then None else Some v)) [ true ↦ refl | false ↦ refl ])
+    | false ↦ unended-found m past
+  ]
+
+  -- at a moment the chain holds what the values hold
+  in_force-laid : (m : ℕ) (values : List (Value V)) → in_force m (laid track wrap values) ≡ option_map (version_of track wrap) (held_by m values)
+  in_force-laid m values = ap (unended m) (latest-laid m values) ∙ unended-found m values
+
+-- what is held where the object lives is the definition's value in force
+found-held : {V : Type 0} (m : ℕ) (values : List (Value V)) (lives : Bool) → lives ≡ is_some (held_by m values) → cond lives (find (λ v. nat_le v.begin m) values) None ≡ held_by m values
+found-held m [] true e = refl
+found-held m [] false e = refl
+found-held {V} m (v ∷ past) lives e = of (λ b k. found-held m past b k) (nat_le v.begin m) (is_by m v.end) refl refl e
+  where
+    of : ((b : Bool) → b ≡ is_some (held_by m past) → cond b (find (λ v. nat_le v.begin m) past) None ≡ held_by m past) → (a b : Bool) → nat_le v.begin m ≡ a → is_by m v.end ≡ b → lives ≡ is_some (if a then (if b then None else Some v) else held_by m past)
+        → cond lives (cond a (Some v) (find (λ v. nat_le v.begin m) past)) None ≡ (if a then (if b then None else Some v) else held_by m past)
+    of rest true true f g k = ap (λ b. cond b (Some v) None) k
+    of rest true false f g k = ap (λ b. cond b (Some v) None) k
+    of rest false b f g k = rest lives k
+
+value_at-held : {V : Type 0} (track : Track V) (Fits : V → Type 0) (o : ObjectId) (h : List Record) (m : ℕ) → TrackStands Fits o h (versions track o h) → value_at track o m h ≡ held_by m (versions track o h)
+value_at-held track Fits o h m s = found-held m (versions track o h) (lives_at m o h) (s.lives m)
+
+-- from the last moment on the current value is held
+current-laid : {V : Type 0} (track : Track V) (wrap : V → Item) (Fits : V → Type 0) (made deleted : Bool) (last t : ℕ) (values : List (Value V)) → last ≤ t → IsTrack Fits made deleted last values
+    → current_of (laid track wrap values) ≡ option_map (version_of track wrap) (held_by t values)
+current-laid track wrap Fits false deleted last t values l s = ap (λ vs. current_of (laid track wrap vs)) s ∙ sym (ap (λ vs. option_map (version_of track wrap) (held_by t vs)) s)
+current-laid track wrap Fits true deleted last t [] l s = refl
+current-laid track wrap Fits true false last t (v ∷ past) l s =
     let low : v.begin ≤ last = s.begun in
     let begun : nat_le v.begin t ≡ true = grind arith in
-    rw begun refl
+    ap endless (newest-snoc (laid track wrap past) (version_of track wrap v))
+    ∙ ap (λ e. if is_some e then None else Some (version_of track wrap v)) s.current
+    ∙ sym (ap (λ b. option_map (version_of track wrap) (if b then (if is_by t v.end then None else Some v) else held_by t past)) begun
+      ∙ ap (λ e. option_map (version_of track wrap) (if is_by t e then None else Some v)) s.current)
+current-laid track wrap Fits true true last t (v ∷ past) l s =
+    let low : v.begin ≤ last = s.begun in
+    let begun : nat_le v.begin t ≡ true = grind arith in
+    let early : s.end ≤ last = s.past in
+    let over : nat_le s.end t ≡ true = grind arith in
+    ap endless (newest-snoc (laid track wrap past) (version_of track wrap v))
+    ∙ ap (λ e. if is_some e then None else Some (version_of track wrap v)) s.ended
+    ∙ sym (ap (λ b. option_map (version_of track wrap) (if b then (if is_by t v.end then None else Some v) else held_by t past)) begun
+      ∙ ap (λ e. option_map (version_of track wrap) (if is_by t e then None else Some v)) s.ended
+      ∙ ap (λ b. option_map (version_of track wrap) (if b then None else Some v)) over)
 
--- from the last moment on the newest value is in force
-value_at-now : {V : Type 0} (track : Track V) (Fits : V → Type 0) (o : ObjectId) (h : List Record) (t : ℕ) → last_of h ≤ t → list_all (λ r. nat_le r.moment (last_of h)) h ≡ true
-    → IsTrack Fits (was_made o h) (last_of h) (versions track o h) → value_at track o t h ≡ newest (versions track o h)
-value_at-now track Fits o h t l moments s =
-    ap (λ b. cond b (find (λ v. nat_le v.begin t) (versions track o h)) None) (lives_at-now t (last_of h) o h l moments)
-    ∙ found-newest Fits (was_made o h) (last_of h) t (versions track o h) l s
+-- the data in force from the last moment on are the newest value
+pub data-in-force : {h : List Record} → IsSound h → (o : ObjectId) (t : ℕ) → last_of h ≤ t → lives_at t o h ≡ true → (v : Value (List ℕ)) (past : List (Value (List ℕ))) → versions data_track o h ≡ v ∷ past → v.value ≡ data_of o t h
+data-in-force {h} s o t later lives v past is =
+    let stands : TrackStands DataFits o h (versions data_track o h) = s.tracks o which.Data in
+    sym (ap value_or_empty (ap (λ b. cond b (find (λ v. nat_le v.begin t) (versions data_track o h)) None) lives ∙ ap (find (λ v. nat_le v.begin t)) is ∙ newest (was_made o h) (was_deleted o h) (subst (IsTrack DataFits (was_made o h) (was_deleted o h) (last_of h)) is stands.shape)))
+  where
+    newest : (m d : Bool) → IsTrack DataFits m d (last_of h) (v ∷ past) → find (λ v. nat_le v.begin t) (v ∷ past) ≡ Some v
+    newest false d shape = cc
+    newest true false shape = let low : v.begin ≤ last_of h = shape.begun in let begun : nat_le v.begin t ≡ true = grind arith in rw begun refl
+    newest true true shape = let low : v.begin ≤ last_of h = shape.begun in let begun : nat_le v.begin t ≡ true = grind arith in rw begun refl
 
-newest_of-laid : {V : Type 0} (track : Track V) (wrap : V → Item) (values : List (Value V)) → newest_of (laid track wrap values) ≡ option_map (version_of track wrap) (newest values)
-newest_of-laid track wrap [] = refl
-newest_of-laid track wrap (v ∷ past) = newest-snoc (laid track wrap past) (version_of track wrap v)
+-- FROM CHAINS
 
-bytes_in-data : (x : Option (Value (List ℕ))) → bytes_in (option_map (version_of data_track item.Data) x) ≡ value_or_empty x
-bytes_in-data None = refl
-bytes_in-data (Some v) = refl
+module _ {chains : Chains Version} {found : ObjectId → Option Kept} {serials : Purse → ℕ} {h : List Record} (s : StandsFor chains found serials h) (o : ObjectId) where
+  -- at a moment
+  pub held-at : (m : ℕ) (w : Which) → in_force m (held chains (found o) w) ≡ version_at w o m h
+  held-at m which.Data = ap (in_force m) (s.tracks o which.Data) ∙ in_force-laid data_track item.Data m (versions data_track o h) ∙ ap (option_map (version_of data_track item.Data)) (sym (value_at-held data_track DataFits o h m (s.sound.tracks o which.Data)))
+  held-at m which.Attributes = ap (in_force m) (s.tracks o which.Attributes) ∙ in_force-laid attribute_track item.Attr m (versions attribute_track o h) ∙ ap (option_map (version_of attribute_track item.Attr)) (sym (value_at-held attribute_track AttributesFit o h m (s.sound.tracks o which.Attributes)))
+  held-at m which.Acl = ap (in_force m) (s.tracks o which.Acl) ∙ in_force-laid acl_track item.Acl m (versions acl_track o h) ∙ ap (option_map (version_of acl_track item.Acl)) (sym (value_at-held acl_track AclFits o h m (s.sound.tracks o which.Acl)))
 
-held_in-acl : (x : Option (Value (List AclEntry))) → held_in (option_map (version_of acl_track item.Acl) x) ≡ option_map held_of x
-held_in-acl None = refl
-held_in-acl (Some v) = refl
-
-module _ {chains : Chains Version} {found : ObjectId → Option Kept} {serials : Purse → ℕ} {h : List Record} (s : StandsFor chains found serials h) (o : ObjectId) (t : ℕ) (later : last_of h ≤ t) where
-  data-now : value_at data_track o t h ≡ newest (versions data_track o h)
-  data-now = value_at-now data_track _ o h t later s.sound.moments (s.sound.data_stands o)
-
-  acl-now : value_at acl_track o t h ≡ newest (versions acl_track o h)
-  acl-now = value_at-now acl_track _ o h t later s.sound.moments (s.sound.acl_stands o)
-
-  -- what is held of the data, and of the ACL
-  pub data-held : bytes_in (newest_of (held chains (found o) which.Data)) ≡ data_of o t h
-  data-held = ap (λ vs. bytes_in (newest_of vs)) (s.tracks o which.Data) ∙ ap bytes_in (newest_of-laid data_track item.Data (versions data_track o h))
-      ∙ bytes_in-data (newest (versions data_track o h)) ∙ ap value_or_empty (sym data-now)
-
-  pub acl-held : held_in (newest_of (held chains (found o) which.Acl)) ≡ held_at o t h
-  acl-held = ap (λ vs. held_in (newest_of vs)) (s.tracks o which.Acl) ∙ ap held_in (newest_of-laid acl_track item.Acl (versions acl_track o h))
-      ∙ held_in-acl (newest (versions acl_track o h)) ∙ ap (option_map held_of) (sym acl-now)
+  -- now
+  pub held-now : (t : ℕ) → last_of h ≤ t → (w : Which) → current_of (held chains (found o) w) ≡ version_at w o t h
+  held-now t l which.Data = ap current_of (s.tracks o which.Data)
+      ∙ current-laid data_track item.Data DataFits (was_made o h) (was_deleted o h) (last_of h) t (versions data_track o h) l (shape-of which.Data)
+      ∙ ap (option_map (version_of data_track item.Data)) (sym (value_at-held data_track DataFits o h t (s.sound.tracks o which.Data)))
+    where
+      shape-of : (w : Which) → IsTrack DataFits (was_made o h) (was_deleted o h) (last_of h) (versions data_track o h)
+      shape-of w = let stands : TrackStands DataFits o h (versions data_track o h) = s.sound.tracks o which.Data in stands.shape
+  held-now t l which.Attributes = ap current_of (s.tracks o which.Attributes)
+      ∙ current-laid attribute_track item.Attr AttributesFit (was_made o h) (was_deleted o h) (last_of h) t (versions attribute_track o h) l
+        (let stands : TrackStands AttributesFit o h (versions attribute_track o h) = s.sound.tracks o which.Attributes in stands.shape)
+      ∙ ap (option_map (version_of attribute_track item.Attr)) (sym (value_at-held attribute_track AttributesFit o h t (s.sound.tracks o which.Attributes)))
+  held-now t l which.Acl = ap current_of (s.tracks o which.Acl)
+      ∙ current-laid acl_track item.Acl AclFits (was_made o h) (was_deleted o h) (last_of h) t (versions acl_track o h) l
+        (let stands : TrackStands AclFits o h (versions acl_track o h) = s.sound.tracks o which.Acl in stands.shape)
+      ∙ ap (option_map (version_of acl_track item.Acl)) (sym (value_at-held acl_track AclFits o h t (s.sound.tracks o which.Acl)))
 
   -- the same, where the object is kept or isn't
-  pub data-kept : (k : Kept) → found o ≡ Some k → bytes_in (newest_of (items_of chains k.data.chain)) ≡ data_of o t h
-  data-kept k e = sym (ap (λ f. bytes_in (newest_of (held chains f which.Data))) e) ∙ data-held
+  pub kept-version : (t : ℕ) → last_of h ≤ t → (at : Option ℕ) (w : Which) (k : Kept) → found o ≡ Some k → version_in at (items_of chains (chain_of w k)) ≡ version_at w o (moment_of t at) h
+  kept-version t l None w k e = sym (ap (λ f. current_of (held chains f w)) e) ∙ held-now t l w
+  kept-version t l (Some m) w k e = sym (ap (λ f. in_force m (held chains f w)) e) ∙ held-at m w
 
-  pub data-none : found o ≡ None → [] ≡ data_of o t h
-  data-none e = sym (ap (λ f. bytes_in (newest_of (held chains f which.Data))) e) ∙ data-held
+  pub none-at : (m : ℕ) (w : Which) → found o ≡ None → None ≡ version_at w o m h
+  none-at m w e = sym (ap (λ f. in_force m (held chains f w)) e) ∙ held-at m w
 
-  pub acl-kept : (k : Kept) → found o ≡ Some k → held_in (newest_of (items_of chains k.acl.chain)) ≡ held_at o t h
-  acl-kept k e = sym (ap (λ f. held_in (newest_of (held chains f which.Acl))) e) ∙ acl-held
-
-  pub acl-none : found o ≡ None → None ≡ held_at o t h
-  acl-none e = sym (ap (λ f. held_in (newest_of (held chains f which.Acl))) e) ∙ acl-held
-
--- who is granted a thing on an object has an object that was made
-pub granted-made : (o : ObjectId) (t : ℕ) (h : List Record) (caller : Caller) (needed : Right) → is_ok (judge h t caller o needed) ≡ true → was_made o h ≡ true
-granted-made o t h caller needed e = lives_at-made t o h (lives (lives_at t o h) (find (λ v. nat_le v.begin t) (versions acl_track o h)) e)
+-- what a version holds is the definition's value
+pub bytes_in-data : (o : ObjectId) (m : ℕ) (h : List Record) → bytes_in (version_at which.Data o m h) ≡ value_or_empty (value_at data_track o m h)
+bytes_in-data o m h = of (value_at data_track o m h)
   where
-    lives : (b : Bool) (x : Option (Value (List AclEntry))) → is_ok (judge_now caller o needed (option_map held_of (cond b x None))) ≡ true → b ≡ true
-    lives true x f = refl
-    lives false x f = cc
+    of : (x : Option (Value (List ℕ))) → bytes_in (option_map (version_of data_track item.Data) x) ≡ value_or_empty x
+    of None = refl
+    of (Some v) = refl
 
--- an object that was made has current data
-pub value-in-force : {h : List Record} → IsSound h → (o : ObjectId) (t : ℕ) → last_of h ≤ t → was_made o h ≡ true
-    → (v : Value (List ℕ)) × (past : List (Value (List ℕ))) × ((versions data_track o h ≡ v ∷ past) × (v.end ≡ None)) × (data_of o t h ≡ v.value)
-value-in-force {h} s o t later made = of (versions data_track o h) refl (subst (λ b. IsTrack Rattle.s4_drive.specs.Sound.DataFits b (last_of h) (versions data_track o h)) made (s.data_stands o))
+pub bytes_in-attributes : (o : ObjectId) (m : ℕ) (h : List Record) → bytes_in (version_at which.Attributes o m h) ≡ value_or_empty (value_at attribute_track o m h)
+bytes_in-attributes o m h = of (value_at attribute_track o m h)
   where
-    now : value_at data_track o t h ≡ newest (versions data_track o h)
-    now = value_at-now data_track _ o h t later s.moments (s.data_stands o)
+    of : (x : Option (Value (List ℕ))) → bytes_in (option_map (version_of attribute_track item.Attr) x) ≡ value_or_empty x
+    of None = refl
+    of (Some v) = refl
 
-    of : (vs : List (Value (List ℕ))) → versions data_track o h ≡ vs → IsTrack Rattle.s4_drive.specs.Sound.DataFits true (last_of h) vs
-        → (v : Value (List ℕ)) × (past : List (Value (List ℕ))) × ((versions data_track o h ≡ v ∷ past) × (v.end ≡ None)) × (data_of o t h ≡ v.value)
-    of [] e newest' = absurd newest'
-    of (v ∷ past) e newest' = (v, past, (e, newest'.current), ap value_or_empty (now ∙ ap newest e))
+pub held_in-acl : (o : ObjectId) (m : ℕ) (h : List Record) → held_in (version_at which.Acl o m h) ≡ option_map held_of (value_at acl_track o m h)
+held_in-acl o m h = of (value_at acl_track o m h)
+  where
+    of : (x : Option (Value (List AclEntry))) → held_in (option_map (version_of acl_track item.Acl) x) ≡ option_map held_of x
+    of None = refl
+    of (Some v) = refl

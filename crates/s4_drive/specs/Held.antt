@@ -4,7 +4,7 @@ use Rattle.std.specs.Option.{option_map}
 use Rattle.s4_types.specs.Judgement as judgement
 use Rattle.s4_types.specs.declared.version.Version.{Version}
 use Rattle.s4_types.specs.declared.version.Item.{Item}
-use Rattle.s4_types.specs.declared.version.Item.TheVariants.{Data, Acl}
+use Rattle.s4_types.specs.declared.version.Item.TheVariants.{Data, Attr, Acl}
 use Rattle.s4_drive.specs.declared.judge.Held.{Held}
 
 abbrev pub shown_held : Option Held → Option judgement.Held
@@ -16,6 +16,7 @@ shown_entry entry = option_map (λ e. record { index = e.0; rights = e.1 }) entr
 -- the bytes that a version holds
 abbrev pub bytes_of_item : Option Item → List ℕ
 bytes_of_item (Some (Data bytes)) = bytes
+bytes_of_item (Some (Attr bytes)) = bytes
 bytes_of_item _ = []
 
 abbrev pub bytes_in : Option Version → List ℕ

@@ -1,7 +1,7 @@
 pub mod Keys
-pub mod Chain
 pub mod Held
 pub mod Laid
 pub mod Sound
+pub mod Chains
 pub mod Stands
 pub mod Step

@@ -1,44 +1,78 @@
 -- What holds of every history whose records were answered in turn.
-use Rattle.std.specs.Prelude.{◌≡◌, ℕ, ◌≤◌, Bool, true, false, nat_le, None, List, [], ◌∷◌, ◌++◌, length}
+use Rattle.std.specs.Prelude.{◌≡◌, ℕ, ◌≤◌, Bool, true, false, nat_le, is_some, Option, Some, None, List, [], ◌∷◌, ◌++◌, length, if◌then◌else◌}
 use Rattle.std.specs.List.{list_all, list_any}
 use Rattle.s4_types.specs.declared.object.ObjectId.{ObjectId}
 use Rattle.s4_types.specs.declared.acl.AclEntry.{AclEntry}
 use Rattle.s4_types.specs.declared.record.Record.{Record}
-use Rattle.s4_types.specs.Versions.{Value, versions, makes, data_track, acl_track}
+use Rattle.s4_types.specs.Versions.{Value, versions, makes, deletes, lives_at, data_track, attribute_track, acl_track}
 use Rattle.s4_types.specs.Base.{Base}
 use Rattle.s4_types.specs.Answer.{answer, drawn}
 use Rattle.s4_types.specs.Play.{last_of}
+use Rattle.s4_tracks.specs.Chain.{is_by}
+use Rattle.s4_drive.specs.declared.objects.Which.{Which}
+use Rattle.s4_drive.specs.declared.objects.Which.TheVariants as which
 
--- whether some record made the object
+-- whether some record made the object, and whether some record deleted it
 abbrev pub was_made : ObjectId → List Record → Bool
 was_made o h = list_any (makes o) h
+
+abbrev pub was_deleted : ObjectId → List Record → Bool
+was_deleted o h = list_any (deletes o) h
 
 -- which values a track may have
 abbrev pub DataFits : List ℕ → Type 0
 DataFits bytes = length bytes ≤ 4096
 
+abbrev pub AttributesFit : List ℕ → Type 0
+AttributesFit bytes = length bytes ≤ 256
+
 abbrev pub AclFits : List AclEntry → Type 0
 AclFits acl = length acl ≤ 16
 
--- the newest value of a track is current, and began by the moment
-pub record IsNewest {V : Type 0} (Fits : V → Type 0) (last : ℕ) (v : Value V) : Type 0 where
+-- the newest value that began by the moment, where it hasn't ended by then
+abbrev pub held_by : {V : Type 0} → ℕ → List (Value V) → Option (Value V)
+held_by m [] = None
+held_by m (v ∷ past) = if nat_le v.begin m then (if is_by m v.end then None else Some v) else held_by m past
+
+-- the newest value is current, and began by the moment
+pub record IsCurrent {V : Type 0} (Fits : V → Type 0) (last : ℕ) (v : Value V) : Type 0 where
   pub begun : v.begin ≤ last
   pub current : v.end ≡ None
   pub fits : Fits v.value
 
--- an object has values on its tracks just if it was made
-abbrev pub IsTrack : {V : Type 0} → (V → Type 0) → Bool → ℕ → List (Value V) → Type 0
-IsTrack Fits false last values = values ≡ []
-IsTrack Fits true last [] = ⊥
-IsTrack Fits true last (v ∷ past) = IsNewest Fits last v
+-- the newest value ended by the moment
+pub record IsOver {V : Type 0} (last : ℕ) (v : Value V) : Type 0 where
+  pub begun : v.begin ≤ last
+  pub end : ℕ
+  pub ended : v.end ≡ Some end
+  pub past : end ≤ last
+
+-- an object has values just if it was made, and the newest is current just if it wasn't deleted
+abbrev pub IsTrack : {V : Type 0} → (V → Type 0) → Bool → Bool → ℕ → List (Value V) → Type 0
+IsTrack Fits false deleted last values = values ≡ []
+IsTrack Fits true deleted last [] = ⊥
+IsTrack Fits true false last (v ∷ past) = IsCurrent Fits last v
+IsTrack Fits true true last (v ∷ past) = IsOver last v
+
+-- the values of a track agree with the object's life
+pub record TrackStands {V : Type 0} (Fits : V → Type 0) (o : ObjectId) (h : List Record) (values : List (Value V)) : Type 0 where
+  pub shape : IsTrack Fits (was_made o h) (was_deleted o h) (last_of h) values
+  -- at each moment a value is held just if the object lives then
+  pub lives : (m : ℕ) → lives_at m o h ≡ is_some (held_by m values)
+
+abbrev pub StandsOn : Which → ObjectId → List Record → Type 0
+StandsOn which.Data o h = TrackStands DataFits o h (versions data_track o h)
+StandsOn which.Attributes o h = TrackStands AttributesFit o h (versions attribute_track o h)
+StandsOn which.Acl o h = TrackStands AclFits o h (versions acl_track o h)
 
 pub record IsSound (h : List Record) : Type 0 where
   -- no record is newer than the last
   pub moments : list_all (λ r. nat_le r.moment (last_of h)) h ≡ true
   -- an object that was made has a serial that was drawn
   pub named : (o : ObjectId) → was_made o h ≡ true → o.serial ≤ drawn o.purse h
-  pub data_stands : (o : ObjectId) → IsTrack DataFits (was_made o h) (last_of h) (versions data_track o h)
-  pub acl_stands : (o : ObjectId) → IsTrack AclFits (was_made o h) (last_of h) (versions acl_track o h)
+  -- an object that was deleted was made
+  pub made_first : (o : ObjectId) → was_deleted o h ≡ true → was_made o h ≡ true
+  pub tracks : (o : ObjectId) (w : Which) → StandsOn w o h
 
 -- the record is the next one of the history
 pub record IsNext (base : Base) (h : List Record) (r : Record) : Type 0 where

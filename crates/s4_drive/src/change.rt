@@ -1,27 +1,14 @@
 //! One value in the place of another.
 
 ghost use Rattle.std.specs.Prelude.{◌≡◌, true, OnOk, OnErr, ◌++◌, ◌∷◌, []};
-ghost use Rattle.s4_drive.specs.Chain.{IsSmall};
+ghost use Rattle.s4_tracks.specs.Chain.{IsSmall};
 ghost use Rattle.s4_drive.specs.Sound.{IsSound, was_made};
-ghost use Rattle.s4_drive.specs.Stands.{IsKept, Stands, PutsOn, chain_of};
+ghost use Rattle.s4_drive.specs.Stands.{IsKept, Stands, PutsOn};
 
-use crate::objects::{Kept, Which};
+use crate::objects::Which;
 use crate::parts::Parts;
-use crate::track::Track;
 use s4_store::Store;
 use s4_types::{Item, NoMemory, ObjectId, Record, Version};
-
-impl Kept {
-    /// One of the object's tracks.
-    pub fn track(&self, which: Which) -> Track
-        ensures { result.chain ≡ chain_of which self.now }
-    {
-        match which {
-            Which::Data => self.data,
-            Which::Acl => self.acl,
-        }
-    }
-}
 
 /// Puts the value on the object's track that the record puts there.
 pub fn put<S: Store<Version>>(

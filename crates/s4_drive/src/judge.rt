@@ -1,7 +1,9 @@
 //! Who may do what.
 
 ghost use Rattle.std.specs.Prelude.{◌≡◌};
-ghost use Rattle.s4_types.specs.Judgement.{judge_now as judged};
+ghost use Rattle.s4_types.specs.declared.reply.Refusal.TheVariants as refusal;
+ghost use Rattle.s4_types.specs.declared.rights.Right.TheVariants as right_of;
+ghost use Rattle.s4_types.specs.Judgement.{judge_now as judged, judge_past as judged_past, denied_absent};
 ghost use Rattle.s4_drive.specs.Held.{shown_held};
 
 use crate::acl::entry_of;
@@ -38,9 +40,38 @@ pub fn judge_now(
     }
 }
 
+/// Grants or refuses by the ACL that was in force at a moment, which needs Read and then Recover.
+pub fn judge_past(
+    caller: Caller,
+    object: &ObjectId,
+    held: &Option<Held<'_>>,
+) -> Result<Grant, Refusal>
+    ensures { result ≡ judged_past caller object.now (shown_held held.now) }
+{
+    let Some(held) = held else {
+        return Err(absent(caller, object, Right::Read));
+    };
+    if caller.who.is_administrator() {
+        return Ok(Grant::Admin);
+    }
+    let Some((index, rights)) = entry_of(held.acl, caller.who) else {
+        return Err(Refusal::Denied(Right::Read));
+    };
+    if !rights.has(Right::Read) {
+        Err(Refusal::Denied(Right::Read))
+    } else if !rights.has(Right::Recover) {
+        Err(Refusal::Denied(Right::Recover))
+    } else {
+        Ok(Grant::Entry {
+            index,
+            since: held.since,
+        })
+    }
+}
+
 // What the caller is told of an object that doesn't live.
 fn absent(caller: Caller, object: &ObjectId, right: Right) -> Refusal
-    ensures { result ≡ Rattle.s4_types.specs.Judgement.denied_absent caller object.now.purse.creator Refusal.NoObject right }
+    ensures { result ≡ denied_absent caller object.now.purse.creator refusal.NoObject right }
 {
     if caller.who.is_administrator() || caller.who == object.purse.creator {
         Refusal::NoObject

@@ -2,17 +2,20 @@
 #![tactic(auto)]
 
 mod acl;
+mod append;
+mod attributes;
+mod begin;
 mod change;
 mod create;
+mod delete;
 mod drive;
 mod judge;
 mod moments;
-mod names;
 mod objects;
 mod parts;
 mod read;
 mod step;
-mod track;
+mod truncate;
 mod values;
 mod write;
 

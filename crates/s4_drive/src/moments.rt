@@ -1,9 +1,10 @@
-//! Whether the moments of a run go down.
+//! Which moments a run and a request may name.
 
-ghost use Rattle.std.specs.Prelude.{◌↔◌, IsTrue};
+ghost use Rattle.std.specs.Prelude.{◌≡◌, ◌↔◌, IsTrue};
+ghost use Rattle.s4_types.specs.Answer.{timely as timely_at};
 ghost use Rattle.s4_types.specs.Play.{NeverDown};
 
-use s4_types::{Moment, Step};
+use s4_types::{Moment, Refusal, Step};
 
 /// Whether the moments of the steps never go down, from this moment on: what `Drive::run` wants.
 pub fn never_down(from: Moment, steps: &[Step]) -> bool
@@ -22,4 +23,14 @@ pub fn never_down(from: Moment, steps: &[Step]) -> bool
         }
     }
     true
+}
+
+/// Refuses a moment that is to come.
+pub fn timely(moment: Moment, at: Option<Moment>) -> Result<(), Refusal>
+    ensures { result ≡ timely_at moment at }
+{
+    match at {
+        Some(at) if at > moment => Err(Refusal::Future),
+        _ => Ok(()),
+    }
 }

@@ -2,12 +2,11 @@
 
 ghost use Rattle.std.specs.Prelude.{◌≡◌, Some, OnOk, OnErr, if◌then◌else◌};
 ghost use Rattle.std.specs.BTreeMap.{get};
-ghost use Rattle.s4_store.specs.Chains.{IsOpen, items_of};
 ghost use Rattle.s4_types.specs.declared.object.ObjectId.{ObjectId};
 ghost use Rattle.s4_types.specs.Names.{same_object};
 ghost use Rattle.s4_drive.specs.Keys.{object_cmp};
 
-use crate::track::Track;
+use s4_tracks::Track;
 use s4_types::{NoMemory, ObjectId};
 use std::collections::BTreeMap;
 
@@ -15,6 +14,7 @@ use std::collections::BTreeMap;
 #[derive(Clone, Copy, Debug, PartialEq, Eq)]
 pub enum Which {
     Data,
+    Attributes,
     Acl,
 }
 
@@ -22,7 +22,23 @@ pub enum Which {
 #[derive(Clone, Copy, Debug, PartialEq, Eq)]
 pub struct Kept {
     pub data: Track,
+    pub attributes: Track,
     pub acl: Track,
+}
+
+impl Kept {
+    ghost use Rattle.s4_drive.specs.Chains.{chain_of};
+
+    /// One of the object's tracks.
+    pub fn track(&self, which: Which) -> Track
+        ensures { result.chain ≡ chain_of which self.now }
+    {
+        match which {
+            Which::Data => self.data,
+            Which::Attributes => self.attributes,
+            Which::Acl => self.acl,
+        }
+    }
 }
 
 /// Keeps an object that isn't kept yet.

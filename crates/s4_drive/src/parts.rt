@@ -1,20 +1,23 @@
 //! What the drive keeps beside its history, and what it tells of the objects.
 
-ghost use Rattle.std.specs.Prelude.{◌≡◌, ℕ, ◌≤◌, ◌+◌, ◌==◌, Some, None, IfSome, IfNone, is_some, nat_le, true};
+ghost use Rattle.std.specs.Prelude.{◌≡◌, ℕ, ◌≤◌, ◌+◌, IfSome, is_some, nat_le, not};
+ghost use Rattle.std.specs.Option.{option_copied};
 ghost use Rattle.std.specs.BTreeMap.{get};
-ghost use Rattle.s4_types.specs.Answer.{drawn, data_of};
+ghost use Rattle.s4_types.specs.Answer.{drawn, moment_of, data_of, attributes_of};
 ghost use Rattle.s4_types.specs.Judgement.{held_at, judge as judge_of};
 ghost use Rattle.s4_types.specs.Names.{object_in};
 ghost use Rattle.s4_types.specs.Play.{last_of};
 ghost use Rattle.s4_drive.specs.Held.{shown_held};
 ghost use Rattle.s4_drive.specs.Keys.{object_cmp};
-ghost use Rattle.s4_drive.specs.Sound.{was_made};
+ghost use Rattle.s4_store.specs.Chains.{items_of, IsOpen};
+ghost use Rattle.s4_drive.specs.Laid.{version_at, version_in};
 
-use crate::judge::{Held, judge_now};
-use crate::names::Names;
-use crate::objects::Kept;
+use crate::judge::{Held, judge_now, judge_past};
+use crate::objects::{Kept, Which};
 use crate::values::{bytes_of, held_of};
+use s4_names::Names;
 use s4_store::Store;
+use s4_tracks::Track;
 use s4_types::{
     Caller, Grant, Moment, ObjectId, Purse, Record, Refusal, Right, Serial, Version,
 };
@@ -45,7 +48,7 @@ impl<S: Store<Version>> Parts<S> {
     pub fn next_object(&self, purse: &Purse) -> Option<ObjectId>
         requires { IsKept S.chains self.now }
         ensures some { IfSome result (λ o. o ≡ object_in purse.now (drawn purse.now self.now.history.items + 1)) }
-        ensures left { is_some result ≡ Rattle.std.specs.Prelude.not (nat_le 65535 (drawn purse.now self.now.history.items)) }
+        ensures left { is_some result ≡ not (nat_le 65535 (drawn purse.now self.now.history.items)) }
     {
         let drawn = self.names.drawn(purse);
         if drawn == u16::MAX {
@@ -58,37 +61,74 @@ impl<S: Store<Version>> Parts<S> {
         })
     }
 
-    /// The ACL in force, where the object lives.
-    pub fn acl(&self, object: &ObjectId) -> Option<Held<'_>>
+    /// The version in force on one of an object's tracks, now or at a moment.
+    pub fn version(
+        &self,
+        object: &ObjectId,
+        which: Which,
+        at: Option<Moment>,
+    ) -> Option<&Version>
         requires { IsKept S.chains self.now }
-        ensures { (t : ℕ) → last_of self.now.history.items ≤ t → shown_held result ≡ held_at object.now t self.now.history.items }
-    {
-        let kept = self.kept(object)?;
-        held_of(self.store.newest(kept.acl.chain))
-    }
-
-    /// The data in force, nothing where the object doesn't live.
-    pub fn data(&self, object: &ObjectId) -> &[u8]
-        requires { IsKept S.chains self.now }
-        ensures { (t : ℕ) → last_of self.now.history.items ≤ t → result.now ≡ data_of object.now t self.now.history.items }
+        ensures { (t : ℕ) → last_of self.now.history.items ≤ t → option_copied result ≡ version_at which object.now (moment_of t at) self.now.history.items }
     {
         match self.kept(object) {
-            Some(kept) => bytes_of(self.store.newest(kept.data.chain)),
-            None => &[],
+            Some(kept) => version_of(&self.store, kept.track(which), at),
+            None => None,
         }
     }
 
-    /// Grants or refuses by the ACL in force.
+    /// The data in force, nothing where the object doesn't live.
+    pub fn data(&self, object: &ObjectId, at: Option<Moment>) -> &[u8]
+        requires { IsKept S.chains self.now }
+        ensures { (t : ℕ) → last_of self.now.history.items ≤ t → result.now ≡ data_of object.now (moment_of t at) self.now.history.items }
+    {
+        bytes_of(self.version(object, Which::Data, at))
+    }
+
+    /// The attributes in force, nothing where the object doesn't live.
+    pub fn attributes(&self, object: &ObjectId, at: Option<Moment>) -> &[u8]
+        requires { IsKept S.chains self.now }
+        ensures { (t : ℕ) → last_of self.now.history.items ≤ t → result.now ≡ attributes_of object.now (moment_of t at) self.now.history.items }
+    {
+        bytes_of(self.version(object, Which::Attributes, at))
+    }
+
+    /// The ACL in force, where the object lives.
+    pub fn acl(&self, object: &ObjectId, at: Option<Moment>) -> Option<Held<'_>>
+        requires { IsKept S.chains self.now }
+        ensures { (t : ℕ) → last_of self.now.history.items ≤ t → shown_held result ≡ held_at object.now (moment_of t at) self.now.history.items }
+    {
+        held_of(self.version(object, Which::Acl, at))
+    }
+
+    /// Grants or refuses by the ACL in force, now or at a moment.
     pub fn judge(
         &self,
         caller: Caller,
         object: &ObjectId,
         right: Right,
+        at: Option<Moment>,
     ) -> Result<Grant, Refusal>
         requires { IsKept S.chains self.now }
-        ensures { (t : ℕ) → last_of self.now.history.items ≤ t → result ≡ judge_of self.now.history.items t caller object.now right }
+        ensures { (t : ℕ) → last_of self.now.history.items ≤ t → result ≡ judge_of self.now.history.items t caller object.now right at }
     {
-        let held = self.acl(object);
-        judge_now(caller, object, &held, right)
+        let names_a_moment = at.is_some();
+        let held = self.acl(object, at);
+        if names_a_moment {
+            judge_past(caller, object, &held)
+        } else {
+            judge_now(caller, object, &held, right)
+        }
+    }
+}
+
+// The version in force on a track, now or at a moment.
+fn version_of<S: Store<Version>>(store: &S, track: Track, at: Option<Moment>) -> Option<&Version>
+    requires { IsOpen (S.chains store.now) track.chain }
+    ensures { option_copied result ≡ version_in at (items_of (S.chains store.now) track.chain) }
+{
+    match at {
+        None => track.current(store),
+        Some(moment) => track.at(store, moment),
     }
 }

@@ -1,14 +1,15 @@
 //! Read: a range of an object's data.
 
-ghost use Rattle.std.specs.Prelude.{◌≡◌, ℕ, ◌≤◌, take, drop};
+ghost use Rattle.std.specs.Prelude.{◌≡◌, ◌≤◌, take, drop, IfOk, IfErr};
 ghost use Rattle.s4_types.specs.Answer.{data_read};
 ghost use Rattle.s4_types.specs.Play.{last_of};
 ghost use Rattle.s4_drive.specs.Stands.{IsKept};
 ghost use Rattle.s4_drive.specs.Step.{IsOutcome};
 
+use crate::moments::timely;
 use crate::parts::Parts;
 use s4_store::Store;
-use s4_types::{Bytes, Caller, ObjectId, Refusal, Reply, Right, Version};
+use s4_types::{Bytes, Caller, Moment, ObjectId, Refusal, Reply, Right, Version};
 use std::alloc::Global;
 
 /// The bytes from the offset on, at most so many.
@@ -20,25 +21,41 @@ pub fn range_of(bytes: &[u8], offset: u32, length: u32) -> &[u8]
     &rest[..(length as usize).min(rest.len())]
 }
 
+/// What a Read asks for.
+#[derive(Clone, Copy)]
+pub struct Range {
+    pub offset: u32,
+    pub length: u32,
+    pub at: Option<Moment>,
+}
+
 /// The outcome of a Read.
 pub fn outcome<S: Store<Version>>(
     alloc: Global,
     parts: &Parts<S>,
+    moment: Moment,
     caller: Caller,
     object: &ObjectId,
-    offset: u32,
-    length: u32,
+    range: Range,
 ) -> Result<Reply, Refusal>
-    requires { IsKept S.chains parts.now }
-    ensures { (t : ℕ) → last_of parts.now.history.items ≤ t → IsOutcome result (data_read parts.now.history.items t caller object.now offset length) }
+    requires kept { IsKept S.chains parts.now }
+    requires later { last_of parts.now.history.items ≤ moment }
+    ensures { IsOutcome result (data_read parts.now.history.items moment caller object.now range.offset range.length range.at) }
 {
-    let grant = parts.judge(caller, object, Right::Read)?;
-    let range = range_of(parts.data(object), offset, length);
-    match Vec::from_slice(alloc, range) {
-        Ok(bytes) => Ok(Reply::Data {
-            grant,
-            bytes: Bytes::new(bytes),
-        }),
+    timely(moment, range.at)?;
+    let grant = parts.judge(caller, object, Right::Read, range.at)?;
+    let data = range_of(parts.data(object, range.at), range.offset, range.length);
+    let bytes = copied(alloc, data)?;
+    Ok(Reply::Data { grant, bytes })
+}
+
+/// These bytes once more; want of memory is a refusal.
+pub fn copied(alloc: Global, bytes: &[u8]) -> Result<Bytes, Refusal>
+    ensures value { IfOk result (λ copy. copy ≡ bytes.now) }
+    ensures refused { IfErr result (λ refusal. refusal ≡ Refusal.NoMemory) }
+{
+    match Vec::from_slice(alloc, bytes) {
+        Ok(copy) => Ok(Bytes::new(copy)),
         Err(_) => Err(Refusal::NoMemory),
     }
 }

@@ -9,7 +9,8 @@ ghost use Rattle.s4_drive.specs.Stands.{IsKept, Stands};
 ghost use Rattle.s4_drive.specs.Step.{IsOutcome};
 
 use crate::parts::Parts;
-use crate::{create, read, write};
+use crate::read::Range;
+use crate::{append, attributes, create, delete, read, truncate, write};
 use s4_store::Store;
 use s4_types::{Caller, Moment, NoMemory, Purse, Record, Refusal, Reply, Request, Version};
 use std::alloc::{AllocError, Global};
@@ -53,16 +54,35 @@ fn outcome<S: Store<Version>>(
             };
             create::outcome(parts, &purse)
         }
+        Request::Delete { object } => delete::outcome(parts, moment, caller, object),
         Request::Read {
             object,
             offset,
             length,
-        } => read::outcome(alloc, parts, caller, object, *offset, *length),
+            at,
+        } => {
+            let range = Range {
+                offset: *offset,
+                length: *length,
+                at: *at,
+            };
+            read::outcome(alloc, parts, moment, caller, object, range)
+        }
         Request::Write {
             object,
             offset,
             bytes,
-        } => write::outcome(parts, caller, object, *offset, bytes),
+        } => write::outcome(parts, moment, caller, object, *offset, bytes),
+        Request::Append { object, bytes } => append::outcome(parts, moment, caller, object, bytes),
+        Request::Truncate { object, length } => {
+            truncate::outcome(parts, moment, caller, object, *length)
+        }
+        Request::GetAttr { object, at } => {
+            attributes::get_outcome(alloc, parts, moment, caller, object, at)
+        }
+        Request::SetAttr { object, bytes } => {
+            attributes::set_outcome(parts, moment, caller, object, bytes)
+        }
     }
 }
 
@@ -85,11 +105,20 @@ pub fn apply<S: Store<Version>>(
     }
     match &added.request {
         Request::Create { number } => create::apply(alloc, parts, added, *number),
-        Request::Read { .. } => Ok(()),
+        Request::Delete { object } => {
+            delete::apply(parts, added, object);
+            Ok(())
+        }
+        Request::Read { .. } | Request::GetAttr { .. } => Ok(()),
         Request::Write {
             object,
             offset,
             bytes,
         } => write::apply(alloc, parts, added, object, *offset, bytes),
+        Request::Append { object, bytes } => append::apply(alloc, parts, added, object, bytes),
+        Request::Truncate { object, length } => {
+            truncate::apply(alloc, parts, added, object, *length)
+        }
+        Request::SetAttr { object, bytes } => attributes::set(parts, added, object, bytes),
     }
 }

@@ -7,13 +7,13 @@ ghost use Rattle.s4_drive.specs.Held.{shown_held, bytes_in, held_in};
 use crate::judge::Held;
 use s4_types::{Item, Version};
 
-/// The bytes of a value of the data, none where there is no value.
+/// The bytes of a value of the data or of the attributes, none where there is no value.
 pub fn bytes_of(version: Option<&Version>) -> &[u8]
     ensures { result.now ≡ bytes_in (option_copied version.entry) }
 {
     match version {
         Some(Version {
-            item: Some(Item::Data(bytes)),
+            item: Some(Item::Data(bytes) | Item::Attr(bytes)),
             ..
         }) => bytes.as_slice(),
         _ => &[],

@@ -1,12 +1,12 @@
 //! Write: bytes over an object's data, from an offset on.
 
-ghost use Rattle.std.specs.Prelude.{◌≡◌, ℕ, ◌+◌, ◌≤◌, false, IfOk, OnOk, OnErr, length, ◌++◌, ◌∷◌, []};
+ghost use Rattle.std.specs.Prelude.{◌≡◌, ◌+◌, ◌≤◌, false, IfOk, OnOk, OnErr, length, ◌++◌, ◌∷◌, []};
 ghost use Rattle.s4_types.specs.declared.request.Request.TheVariants as request;
 ghost use Rattle.s4_types.specs.Answer.{data_written};
+ghost use Rattle.s4_types.specs.Versions.{written as written_of};
 ghost use Rattle.s4_types.specs.Base.{opened};
 ghost use Rattle.s4_types.specs.Kinds.{is_refused};
 ghost use Rattle.s4_types.specs.Play.{last_of};
-ghost use Rattle.s4_types.specs.Versions.{written as written_of};
 ghost use Rattle.s4_drive.specs.Sound.{IsSound, IsNext};
 ghost use Rattle.s4_drive.specs.Stands.{IsKept, Stands};
 
@@ -15,26 +15,28 @@ use crate::objects::Which;
 use crate::parts::Parts;
 use s4_store::Store;
 use s4_types::{
-    Bytes, Caller, Item, NoMemory, ObjectId, Record, Refusal, Reply, Request, Right, Version,
+    Bytes, Caller, Item, Moment, NoMemory, ObjectId, Record, Refusal, Reply, Request, Right, Version,
 };
 use std::alloc::Global;
 
 /// The outcome of a Write.
 pub fn outcome<S: Store<Version>>(
     parts: &Parts<S>,
+    moment: Moment,
     caller: Caller,
     object: &ObjectId,
     offset: u32,
     bytes: &Bytes,
 ) -> Result<Reply, Refusal>
-    requires { IsKept S.chains parts.now }
-    ensures { (t : ℕ) → last_of parts.now.history.items ≤ t → result ≡ data_written parts.now.history.items t caller object.now offset bytes.now }
+    requires kept { IsKept S.chains parts.now }
+    requires later { last_of parts.now.history.items ≤ moment }
+    ensures { result ≡ data_written parts.now.history.items moment caller object.now offset bytes.now }
 {
     let limit = Request::DATA_LIMIT as usize;
     if bytes.len() > limit.saturating_sub(offset as usize) || offset as usize > limit {
         return Err(Refusal::TooLong);
     }
-    parts.judge(caller, object, Right::Write)?;
+    parts.judge(caller, object, Right::Write, None)?;
     Ok(Reply::Done)
 }
 
@@ -77,7 +79,8 @@ pub fn apply<S: Store<Version>>(
     ensures history { parts.new.history ≡ parts.old.history }
     ensures window { parts.new.window ≡ parts.old.window }
 {
-    let new = written(alloc, parts.data(object), offset as usize, bytes.as_slice())?;
+    let old = parts.data(object, None);
+    let new = written(alloc, old, offset as usize, bytes.as_slice())?;
     let item = Item::Data(Bytes::new(new));
     put(parts, added, object, Which::Data, item)
 }

@@ -112,6 +112,11 @@ module _ {T : Type 0} where
   pub fresh_differs : (m : Chains T) (c d : ℕ) → finmap.get m c ≡ None → IsOpen m d → (d == c) ≡ false
   fresh_differs m c d none opened = by_test (d == c) (λ t. absurd (fresh_is_closed m c none (subst (IsOpen m) (eqb-true d c t) opened))) (λ t. t)
 
+  -- a chain that was opened is closed
+  pub remove-insert : (m : Chains T) (c : ℕ) (xs : List T) → finmap.get m c ≡ None → finmap.remove (finmap.insert m c xs) c ≡ m
+  remove-insert m c xs fresh = sym (remove_by_get (finmap.insert m c xs) m c fresh (λ q ne. sym (get_elsewhere m c q xs
+      (by_test (q == c) (λ e. absurd (ne (eqb-true q c e))) (λ e. e)))))
+
 -- the empty map has no chains
 pub get-empty : (T : Type 0) (q : ℕ) → finmap.get (finmap.empty {X = List T} {R = nat_cmp}) q ≡ None
 get-empty T q = finmap.get-empty nat_cmp q

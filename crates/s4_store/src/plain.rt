@@ -52,17 +52,9 @@ impl<T> Store<T> for PlainStore<T> {
     ghost room = { room_of };
 
     fn open(&mut self) -> Result<Chain, NoMemory> {
-        match first_closed(&self.is_open) {
-            Some(number) => {
-                self.is_open[number] = true;
-                Ok(Chain::new(number))
-            }
-            None => {
-                let number = self.is_open.len();
-                self.is_open.push(true)?;
-                Ok(Chain::new(number))
-            }
-        }
+        let number = self.is_open.len();
+        self.is_open.push(true)?;
+        Ok(Chain::new(number))
     }
 
     fn reserve(&mut self, count: usize) -> Result<(), NoMemory> {
@@ -131,13 +123,6 @@ impl<T> Store<T> for PlainStore<T> {
         let number = chain.number();
         self.is_open[number] = false;
     }
-}
-
-// The first number that no chain has.
-fn first_closed(is_open: &[bool]) -> Option<usize>
-    ensures { IfSome result (λ number. slice_get is_open.now number ≡ Some false) }
-{
-    is_open.iter().position(|is_open| !*is_open)
 }
 
 // How many items a chain has.

@@ -1,10 +1,10 @@
 //! One track: a chain of a store, and what is done to it.
 
-ghost use Rattle.std.specs.Prelude.{◌≡◌, ◌+◌, ◌<◌, ◌≤◌, nat_le, IfSome};
+ghost use Rattle.std.specs.Prelude.{◌≡◌, ◌+◌, ◌<◌, ◌++◌, ◌∷◌, [], nat_le};
 ghost use Rattle.std.specs.Option.{option_copied};
 ghost use Rattle.std.specs.FinMap as finmap;
 ghost use Rattle.s4_store.specs.Chains.{items_of, IsOpen, StillOpen};
-ghost use Rattle.s4_tracks.specs.Chain.{IsSmall, in_force, current_of, latest as latest_of, is_by as is_by_of, with_end, with_put, cost_of as cost};
+ghost use Rattle.s4_tracks.specs.Chain.{IsSmall, begun, in_force, current_of, latest as latest_of, is_by as is_by_of, with_end, with_put, cost_of as cost};
 
 use s4_store::{Chain, Store};
 use s4_types::{Item, Moment, Version};
@@ -42,6 +42,25 @@ impl Track {
         } else {
             Some(newest)
         }
+    }
+
+    /// Puts a value at the end, in room that was reserved. Takes no memory.
+    pub fn begin<S: Store<Version>>(&self, store: &mut S, moment: Moment, item: Item)
+        requires open { IsOpen (S.chains store.old) self.now.chain }
+        requires room { 0 < S.room store.old }
+        requires small { IsSmall item }
+        ensures chains { S.chains store.new ≡ finmap.insert (S.chains store.old) self.now.chain (items_of (S.chains store.old) self.now.chain ++ begun moment item ∷ []) }
+        ensures still { StillOpen (S.chains store.old) (S.chains store.new) }
+        ensures room { S.room store.new + 1 ≡ S.room store.old }
+    {
+        let cost = cost_of(&item);
+        let begun = Version {
+            begin: moment,
+            end: None,
+            item: Some(item),
+            cost,
+        };
+        store.push(self.chain, begun);
     }
 
     /// Ends the current value, if there is one, at a moment that isn't below its begin. Takes no
@@ -82,14 +101,7 @@ impl Track {
         ensures room { S.room store.new + 1 ≡ S.room store.old }
     {
         self.end(store, moment);
-        let cost = cost_of(&item);
-        let begun = Version {
-            begin: moment,
-            end: None,
-            item: Some(item),
-            cost,
-        };
-        store.push(self.chain, begun);
+        self.begin(store, moment, item);
     }
 }
 

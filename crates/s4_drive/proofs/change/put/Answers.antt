@@ -1,7 +1,7 @@
 use Rattle.std.proofs.Common.{sym, ap, ◌∙◌}
 use Rattle.std.specs.FinMap as finmap
 use Rattle.s4_store.specs.Chains.{items_of}
-use Rattle.s4_drive.specs.Chain.{with_put}
+use Rattle.s4_tracks.specs.Chain.{with_put}
 use Rattle.s4_drive.proofs.Standing.{stands_put}
 use Rattle.s4_drive.proofs.change.put.Goals as goal
 

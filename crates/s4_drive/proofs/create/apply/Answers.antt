@@ -1,10 +1,12 @@
 use Rattle.std.proofs.Common.{◌≡◌, ◌+◌, Some, sym, ap, subst, ◌∙◌}
-use Rattle.std.specs.Prelude.{IfSome, if◌then◌else◌}
+use Rattle.std.specs.Prelude.{IfSome, OnOk, if◌then◌else◌}
+use Rattle.s4_types.specs.declared.object.Purse.{Purse}
 use Rattle.std.specs.BTreeMap.{get}
 use Rattle.s4_types.specs.declared.object.ObjectId.{ObjectId}
 use Rattle.s4_types.specs.Names.{same_purse, same_object}
-use Rattle.s4_drive.specs.Keys.{object_cmp, drawn_in}
-use Rattle.s4_drive.specs.Stands.{Begins}
+use Rattle.s4_names.specs.Drawn.{drawn_in}
+use Rattle.s4_drive.specs.Keys.{object_cmp}
+use Rattle.s4_drive.specs.Chains.{Begins}
 use Rattle.s4_drive.proofs.Standing.{stands_made}
 use Rattle.s4_drive.proofs.Effects.{create_makes, new_object}
 use Rattle.s4_drive.proofs.create.apply.Goals as goal
@@ -21,10 +23,12 @@ returns-in-Ok-clause-ok g c =
     = subst (λ m. Begins m (g.S.Store.chains c.begin.new.store) k r.moment o.purse.creator) c.in_ok-reserve-2.ensures.chains
       (subst (λ (x : ObjectId). Begins (g.S.Store.chains c.reserve-2.new.self) (g.S.Store.chains c.begin.new.store) k r.moment x.purse.creator) is
       (c.begin.ensures (g.S.Store.chains c.reserve-2.new.self) c.in_ok-kept.ensures.ok)) in
+    let drawn : (p : Purse) → drawn_in c.draw-drawn.new.self p ≡ (if same_purse o.purse p then drawn_in c.reserve.new.self o.purse + 1 else drawn_in c.reserve.new.self p)
+    = subst (λ x. OnOk x ((p : Purse) → drawn_in c.draw-drawn.new.self p ≡ (if same_purse o.purse p then drawn_in c.reserve.new.self o.purse + 1 else drawn_in c.reserve.new.self p))) c.unwrap.ensures c.draw-drawn.ensures.drawn in
     stands_made c.requires.kept r c.requires.sound o (create_makes c.requires.next c.requires.granted c.args.number c.requires.asked) begins
     (get object_cmp c.keep.new.objects)
     (λ q. c.in-Ok.ensures.ok q ∙ ap (λ x. if same_object x q then Some k else get object_cmp before.objects q) is)
-    (drawn_in c.draw.new.self.drawn)
-    (λ p. c.draw.ensures p
-    ∙ ap (λ n. if same_purse o.purse p then n + 1 else drawn_in c.reserve.new.self.drawn p) (c.in_ok-reserve.ensures.same o.purse)
-    ∙ ap (λ n. if same_purse o.purse p then drawn_in before.names.drawn o.purse + 1 else n) (c.in_ok-reserve.ensures.same p))
+    (drawn_in c.draw-drawn.new.self)
+    (λ p. drawn p
+    ∙ ap (λ n. if same_purse o.purse p then n + 1 else drawn_in c.reserve.new.self p) (c.in_ok-reserve.ensures.drawn o.purse)
+    ∙ ap (λ n. if same_purse o.purse p then drawn_in before.names o.purse + 1 else n) (c.in_ok-reserve.ensures.drawn p))

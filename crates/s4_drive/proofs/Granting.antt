@@ -1,0 +1,288 @@
+-- What an accepted request tells of the object that it is about.
+use Rattle.std.proofs.Common.{◌≡◌, ℕ, ◌+◌, ◌-◌, ◌≤◌, Bool, true, false, not, cond, Option, Some, None, List, [], ◌∷◌, ◌++◌, refl, sym, ◌∙◌, ap, subst, arith, length, take, drop, length-append, length-drop}
+use Rattle.std.specs.Prelude.{◌&&◌, ◌||◌, ◌==◌, nat_le, nat_lt, is_ok, Result, Ok, Err, replicate}
+use Rattle.std.specs.List.{find}
+use Rattle.std.specs.Option.{option_map}
+use Rattle.std.proofs.lemmas.List.{length-take, length-replicate}
+use Rattle.s4_types.specs.declared.principal.Caller.{Caller}
+use Rattle.s4_types.specs.declared.object.Purse.{Purse}
+use Rattle.s4_types.specs.declared.object.ObjectId.{ObjectId}
+use Rattle.s4_types.specs.declared.acl.AclEntry.{AclEntry}
+use Rattle.s4_types.specs.declared.rights.Right.{Right}
+use Rattle.s4_types.specs.declared.rights.Right.TheVariants as right
+use Rattle.s4_types.specs.declared.request.Request.{Request}
+use Rattle.s4_types.specs.declared.request.Request.TheVariants.{Create, Delete, Read, Write, Append, Truncate, GetAttr, SetAttr}
+use Rattle.s4_types.specs.declared.reply.Grant.{Grant}
+use Rattle.s4_types.specs.declared.reply.Refusal.{Refusal}
+use Rattle.s4_types.specs.declared.reply.Refusal.TheVariants.{Future, TooLong, NamesSpent}
+use Rattle.s4_types.specs.declared.reply.Reply.{Reply}
+use Rattle.s4_types.specs.declared.reply.Reply.TheVariants.{Done, Made, Data, Attr, Refused}
+use Rattle.s4_types.specs.declared.record.Record.{Record}
+use Rattle.s4_types.specs.Names.{same_object, object_in}
+use Rattle.s4_types.specs.Kinds.{is_refused, is_create}
+use Rattle.s4_types.specs.Versions.{Value, versions, is_made, is_deleted, lives_at, of_length, written, when, acl_track, data_effect, attribute_effect}
+use Rattle.s4_types.specs.Judgement.{judge, judge_now, held_of}
+use Rattle.s4_types.specs.Outcome.{◌>>=◌, ◌>>◌, refuse_if, reply_of}
+use Rattle.s4_types.specs.Base.{Base}
+use Rattle.s4_types.specs.Answer.{answer, outcome, drawn, timely, moment_of, data_of, attributes_of}
+use Rattle.s4_types.proofs.Booleans.{by_test}
+use Rattle.s4_types.proofs.SameNames.{object_is}
+use Rattle.s4_types.proofs.Tests.{passes_test, passes_judgement}
+use Rattle.s4_drive.specs.Sound.{DataFits, AttributesFit}
+
+-- MAKING
+
+-- the object is the next one of its purse
+pub record IsNextOf (h : List Record) (caller : Caller) (request : Request) (o : ObjectId) : Type 0 where
+  pub serial : o.serial ≡ drawn o.purse h + 1
+  pub creates : is_create request ≡ true
+
+-- whether the outcome makes no object
+abbrev makes_nothing : Result Reply Refusal → Bool
+makes_nothing (Ok (Made o)) = false
+makes_nothing _ = true
+
+nothing-then : {A : Type 0} (first : Result A Refusal) (next : Result Reply Refusal) → makes_nothing next ≡ true → makes_nothing (first >> next) ≡ true
+nothing-then (Ok x) next e = e
+nothing-then (Err r) next e = refl
+
+nothing-bind : {A : Type 0} (first : Result A Refusal) (next : A → Result Reply Refusal) → ((x : A) → makes_nothing (next x) ≡ true) → makes_nothing (first >>= next) ≡ true
+nothing-bind (Ok x) next e = e x
+nothing-bind (Err r) next e = refl
+
+nothing-made : (o : ObjectId) (r : Result Reply Refusal) → makes_nothing r ≡ true → is_made o (reply_of r) ≡ false
+nothing-made o (Ok Done) e = refl
+nothing-made o (Ok (Made p)) e = cc
+nothing-made o (Ok (Data g bytes)) e = refl
+nothing-made o (Ok (Attr g bytes)) e = refl
+nothing-made o (Ok (Refused r)) e = refl
+nothing-made o (Err r) e = refl
+
+pub makes_nothing-outcome : (base : Base) (h : List Record) (t : ℕ) (caller : Caller) (request : Request) → is_create request ≡ false → makes_nothing (outcome base h t caller request) ≡ true
+makes_nothing-outcome base h t caller (Create number) e = cc
+makes_nothing-outcome base h t caller (Delete p) e = nothing-then (judge h t caller p right.Delete None) (Ok Done) refl
+makes_nothing-outcome base h t caller (Read p offset length at) e =
+    nothing-then (timely t at) _ (nothing-bind (judge h t caller p right.Read at) (λ g. Ok (Data g (take length (drop offset (data_of p (moment_of t at) h))))) (λ g. refl))
+makes_nothing-outcome base h t caller (Write p offset bytes) e =
+    nothing-then (refuse_if (nat_lt 4096 (offset + length bytes)) TooLong) _ (nothing-then (judge h t caller p right.Write None) (Ok Done) refl)
+makes_nothing-outcome base h t caller (Append p bytes) e =
+    nothing-then (refuse_if (nat_lt 4096 (length bytes)) TooLong) _ (nothing-then (judge h t caller p right.Write None) _
+    (nothing-then (refuse_if (nat_lt 4096 (length (data_of p t h) + length bytes)) TooLong) (Ok Done) refl))
+makes_nothing-outcome base h t caller (Truncate p length) e =
+    nothing-then (refuse_if (nat_lt 4096 length) TooLong) _ (nothing-then (judge h t caller p right.Write None) (Ok Done) refl)
+makes_nothing-outcome base h t caller (GetAttr p at) e =
+    nothing-then (timely t at) _ (nothing-bind (judge h t caller p right.Read at) (λ g. Ok (Attr g (attributes_of p (moment_of t at) h))) (λ g. refl))
+makes_nothing-outcome base h t caller (SetAttr p bytes) e =
+    nothing-then (refuse_if (nat_lt 256 (length bytes)) TooLong) _ (nothing-then (judge h t caller p right.Write None) (Ok Done) refl)
+
+clash : {A : Type 0} (b : Bool) → b ≡ false → b ≡ true → A
+clash true e f = absurd (no e)
+  where
+    no : true ≡ false → ⊥
+    no g = cc
+clash false e f = absurd (no f)
+  where
+    no : false ≡ true → ⊥
+    no g = cc
+
+next-made : (h : List Record) (caller : Caller) (number : ℕ) (o : ObjectId) → is_made o (answer (record { window = 0 }) h 0 caller (Create number)) ≡ true → IsNextOf h caller (Create number) o
+next-made h caller number o e =
+    let purse : Purse = record { creator = caller.who; number = number } in
+    let of : (b : Bool) → is_made o (reply_of (refuse_if b NamesSpent >> Ok (Made (object_in purse (drawn purse h + 1))))) ≡ true → IsNextOf h caller (Create number) o
+    = λ b. elim b as (λ b. is_made o (reply_of (refuse_if b NamesSpent >> Ok (Made (object_in purse (drawn purse h + 1))))) ≡ true → IsNextOf h caller (Create number) o) [
+      | true ↦ λ f. cc
+      | false ↦ λ f. subst (IsNextOf h caller (Create number)) (object_is (object_in purse (drawn purse h + 1)) o f) (record { serial = refl; creates = refl })
+    ] in
+    of (nat_le 65535 (drawn purse h)) e
+
+pub made_is : (base : Base) (h : List Record) (t : ℕ) (caller : Caller) (request : Request) (o : ObjectId) → is_made o (answer base h t caller request) ≡ true → IsNextOf h caller request o
+made_is base h t caller (Create number) o e = next-made h caller number o e
+made_is base h t caller (Delete p) o e = clash _ (nothing-made o _ (makes_nothing-outcome base h t caller (Delete p) refl)) e
+made_is base h t caller (Read p offset length at) o e = clash _ (nothing-made o _ (makes_nothing-outcome base h t caller (Read p offset length at) refl)) e
+made_is base h t caller (Write p offset bytes) o e = clash _ (nothing-made o _ (makes_nothing-outcome base h t caller (Write p offset bytes) refl)) e
+made_is base h t caller (Append p bytes) o e = clash _ (nothing-made o _ (makes_nothing-outcome base h t caller (Append p bytes) refl)) e
+made_is base h t caller (Truncate p length) o e = clash _ (nothing-made o _ (makes_nothing-outcome base h t caller (Truncate p length) refl)) e
+made_is base h t caller (GetAttr p at) o e = clash _ (nothing-made o _ (makes_nothing-outcome base h t caller (GetAttr p at) refl)) e
+made_is base h t caller (SetAttr p bytes) o e = clash _ (nothing-made o _ (makes_nothing-outcome base h t caller (SetAttr p bytes) refl)) e
+
+create-deletes : (request : Request) (o : ObjectId) → is_create request ≡ true → is_deleted o request ≡ false
+create-deletes (Create number) o e = refl
+create-deletes (Delete p) o e = cc
+create-deletes (Read p offset length at) o e = cc
+create-deletes (Write p offset bytes) o e = cc
+create-deletes (Append p bytes) o e = cc
+create-deletes (Truncate p length) o e = cc
+create-deletes (GetAttr p at) o e = cc
+create-deletes (SetAttr p bytes) o e = cc
+
+pub create_deletes_none : (request : Request) (o : ObjectId) → is_create request ≡ true → is_deleted o request ≡ false
+create_deletes_none = create-deletes
+
+-- CHANGING
+
+-- who is granted a thing on an object now has an object that lives
+pub granted-lives : (o : ObjectId) (t : ℕ) (h : List Record) (caller : Caller) (needed : Right) → is_ok (judge h t caller o needed None) ≡ true → lives_at t o h ≡ true
+granted-lives o t h caller needed e = lives (lives_at t o h) (find (λ v. nat_le v.begin t) (versions acl_track o h)) e
+  where
+    lives : (b : Bool) (x : Option (Value (List AclEntry))) → is_ok (judge_now caller o needed (option_map held_of (cond b x None))) ≡ true → b ≡ true
+    lives true x f = refl
+    lives false x f = cc
+
+-- the object that the request changes or deletes, where it does
+abbrev pub changed_by : Request → Option ObjectId
+changed_by (Delete p) = Some p
+changed_by (Write p offset bytes) = Some p
+changed_by (Append p bytes) = Some p
+changed_by (Truncate p length) = Some p
+changed_by (SetAttr p bytes) = Some p
+changed_by _ = None
+
+pub changed-lives : (base : Base) (h : List Record) (t : ℕ) (caller : Caller) (request : Request) (o : ObjectId) → is_refused (answer base h t caller request) ≡ false → changed_by request ≡ Some o → lives_at t o h ≡ true
+changed-lives base h t caller (Create number) o e f = cc
+changed-lives base h t caller (Read p offset length at) o e f = cc
+changed-lives base h t caller (GetAttr p at) o e f = cc
+changed-lives base h t caller (Delete p) o e f =
+    let is : p ≡ o = cc in
+    subst (λ q. lives_at t q h ≡ true) is (granted-lives p t h caller right.Delete (passes_judgement (judge h t caller p right.Delete None) (Ok Done) e).0)
+changed-lives base h t caller (Write p offset bytes) o e f =
+    let is : p ≡ o = cc in
+    subst (λ q. lives_at t q h ≡ true) is (granted-lives p t h caller right.Write (passes_judgement (judge h t caller p right.Write None) (Ok Done)
+    (passes_test (nat_lt 4096 (offset + length bytes)) TooLong (judge h t caller p right.Write None >> Ok Done) e).1).0)
+changed-lives base h t caller (Append p bytes) o e f =
+    let is : p ≡ o = cc in
+    let rest : Result Reply Refusal = refuse_if (nat_lt 4096 (length (data_of p t h) + length bytes)) TooLong >> Ok Done in
+    subst (λ q. lives_at t q h ≡ true) is (granted-lives p t h caller right.Write (passes_judgement (judge h t caller p right.Write None) rest
+    (passes_test (nat_lt 4096 (length bytes)) TooLong (judge h t caller p right.Write None >> rest) e).1).0)
+changed-lives base h t caller (Truncate p length) o e f =
+    let is : p ≡ o = cc in
+    subst (λ q. lives_at t q h ≡ true) is (granted-lives p t h caller right.Write (passes_judgement (judge h t caller p right.Write None) (Ok Done)
+    (passes_test (nat_lt 4096 length) TooLong (judge h t caller p right.Write None >> Ok Done) e).1).0)
+changed-lives base h t caller (SetAttr p bytes) o e f =
+    let is : p ≡ o = cc in
+    subst (λ q. lives_at t q h ≡ true) is (granted-lives p t h caller right.Write (passes_judgement (judge h t caller p right.Write None) (Ok Done)
+    (passes_test (nat_lt 256 (length bytes)) TooLong (judge h t caller p right.Write None >> Ok Done) e).1).0)
+
+some-when : {A : Type 0} (b : Bool) (x y : A) → when b x ≡ Some y → (b ≡ true) × (x ≡ y)
+some-when true x y e = (refl, cc)
+some-when false x y e = cc
+
+same-changed : (p o : ObjectId) → same_object p o ≡ true → Some p ≡ Some o
+same-changed p o e = ap (λ q. Some q) (object_is p o e)
+
+pub deleted-changed : (request : Request) (o : ObjectId) → is_deleted o request ≡ true → changed_by request ≡ Some o
+deleted-changed (Delete p) o e = same-changed p o e
+deleted-changed (Create number) o e = cc
+deleted-changed (Read p offset length at) o e = cc
+deleted-changed (Write p offset bytes) o e = cc
+deleted-changed (Append p bytes) o e = cc
+deleted-changed (Truncate p length) o e = cc
+deleted-changed (GetAttr p at) o e = cc
+deleted-changed (SetAttr p bytes) o e = cc
+
+pub data-changed : (request : Request) (o : ObjectId) (old new : List ℕ) → data_effect o request old ≡ Some new → changed_by request ≡ Some o
+data-changed (Write p offset bytes) o old new e = same-changed p o (some-when (same_object p o) (written offset bytes old) new e).0
+data-changed (Append p bytes) o old new e = same-changed p o (some-when (same_object p o) (old ++ bytes) new e).0
+data-changed (Truncate p length) o old new e = same-changed p o (some-when (same_object p o) (of_length length old) new e).0
+data-changed (Create number) o old new e = cc
+data-changed (Delete p) o old new e = cc
+data-changed (Read p offset length at) o old new e = cc
+data-changed (GetAttr p at) o old new e = cc
+data-changed (SetAttr p bytes) o old new e = cc
+
+pub attributes-changed : (request : Request) (o : ObjectId) (old new : List ℕ) → attribute_effect o request old ≡ Some new → changed_by request ≡ Some o
+attributes-changed (SetAttr p bytes) o old new e = same-changed p o (some-when (same_object p o) bytes new e).0
+attributes-changed (Create number) o old new e = cc
+attributes-changed (Delete p) o old new e = cc
+attributes-changed (Read p offset length at) o old new e = cc
+attributes-changed (Write p offset bytes) o old new e = cc
+attributes-changed (Append p bytes) o old new e = cc
+attributes-changed (Truncate p length) o old new e = cc
+attributes-changed (GetAttr p at) o old new e = cc
+
+-- LENGTHS
+
+pub length-of_length : (n : ℕ) (bytes : List ℕ) → length (of_length n bytes) ≡ n
+length-of_length n bytes = simp (length-append, length-take, length-replicate) (omega arith)
+
+pub length-written : (offset : ℕ) (bytes old : List ℕ) → offset + length bytes ≤ 4096 → length old ≤ 4096 → length (written offset bytes old) ≤ 4096
+length-written offset bytes old l m =
+    simp (length-append, length-take, length-replicate, length-drop) (omega arith)
+
+-- the data that a request leaves fit, where they are those in force
+pub data-fit : (base : Base) (h : List Record) (t : ℕ) (caller : Caller) (request : Request) (o : ObjectId) → is_refused (answer base h t caller request) ≡ false
+    → (old new : List ℕ) → data_effect o request old ≡ Some new → old ≡ data_of o t h → DataFits old → DataFits new
+data-fit base h t caller (Write p offset bytes) o e old new f is fits =
+    let short : nat_lt 4096 (offset + length bytes) ≡ false = (passes_test (nat_lt 4096 (offset + length bytes)) TooLong (judge h t caller p right.Write None >> Ok Done) e).0 in
+    let low : offset + length bytes ≤ 4096 = grind arith in
+    subst DataFits (some-when (same_object p o) (written offset bytes old) new f).1 (length-written offset bytes old low fits)
+data-fit base h t caller (Append p bytes) o e old new f is fits =
+    let rest : Result Reply Refusal = refuse_if (nat_lt 4096 (length (data_of p t h) + length bytes)) TooLong >> Ok Done in
+    let short : nat_lt 4096 (length (data_of p t h) + length bytes) ≡ false
+    = (passes_test (nat_lt 4096 (length (data_of p t h) + length bytes)) TooLong (Ok Done)
+      (passes_judgement (judge h t caller p right.Write None) rest (passes_test (nat_lt 4096 (length bytes)) TooLong (judge h t caller p right.Write None >> rest) e).1).1).0 in
+    let both' = some-when (same_object p o) (old ++ bytes) new f in
+    let same : length old ≡ length (data_of p t h) = ap length is ∙ ap (λ q. length (data_of q t h)) (sym (object_is p o both'.0)) in
+    let low : length (data_of p t h) + length bytes ≤ 4096 = grind arith in
+    subst DataFits both'.1 (simp length-append (omega arith))
+data-fit base h t caller (Truncate p n) o e old new f is fits =
+    let short : nat_lt 4096 n ≡ false = (passes_test (nat_lt 4096 n) TooLong (judge h t caller p right.Write None >> Ok Done) e).0 in
+    let low : n ≤ 4096 = grind arith in
+    subst DataFits (some-when (same_object p o) (of_length n old) new f).1 (rw (length-of_length n old) low)
+data-fit base h t caller (Create number) o e old new f is fits = cc
+data-fit base h t caller (Delete p) o e old new f is fits = cc
+data-fit base h t caller (Read p offset length at) o e old new f is fits = cc
+data-fit base h t caller (GetAttr p at) o e old new f is fits = cc
+data-fit base h t caller (SetAttr p bytes) o e old new f is fits = cc
+
+pub attributes-fit : (base : Base) (h : List Record) (t : ℕ) (caller : Caller) (request : Request) (o : ObjectId) → is_refused (answer base h t caller request) ≡ false
+    → (old new : List ℕ) → attribute_effect o request old ≡ Some new → AttributesFit new
+attributes-fit base h t caller (SetAttr p bytes) o e old new f =
+    let short : nat_lt 256 (length bytes) ≡ false = (passes_test (nat_lt 256 (length bytes)) TooLong (judge h t caller p right.Write None >> Ok Done) e).0 in
+    let low : length bytes ≤ 256 = grind arith in
+    subst AttributesFit (some-when (same_object p o) bytes new f).1 low
+attributes-fit base h t caller (Create number) o e old new f = cc
+attributes-fit base h t caller (Delete p) o e old new f = cc
+attributes-fit base h t caller (Read p offset length at) o e old new f = cc
+attributes-fit base h t caller (Write p offset bytes) o e old new f = cc
+attributes-fit base h t caller (Append p bytes) o e old new f = cc
+attributes-fit base h t caller (Truncate p length) o e old new f = cc
+attributes-fit base h t caller (GetAttr p at) o e old new f = cc
+
+-- TELLING
+
+-- whether the outcome is Done, or a refusal
+abbrev only_done : Result Reply Refusal → Bool
+only_done (Ok Done) = true
+only_done (Ok _) = false
+only_done (Err r) = true
+
+done-then : {A : Type 0} (first : Result A Refusal) (next : Result Reply Refusal) → only_done next ≡ true → only_done (first >> next) ≡ true
+done-then (Ok x) next e = e
+done-then (Err r) next e = refl
+
+told-done : (r : Result Reply Refusal) → only_done r ≡ true → is_refused (reply_of r) ≡ false → reply_of r ≡ Done
+told-done (Ok Done) e f = refl
+told-done (Ok (Made o)) e f = cc
+told-done (Ok (Data g bytes)) e f = cc
+told-done (Ok (Attr g bytes)) e f = cc
+told-done (Ok (Refused r)) e f = cc
+told-done (Err r) e f = cc
+
+only_done-outcome : (base : Base) (h : List Record) (t : ℕ) (caller : Caller) (request : Request) (o : ObjectId) → changed_by request ≡ Some o → only_done (outcome base h t caller request) ≡ true
+only_done-outcome base h t caller (Create number) o e = cc
+only_done-outcome base h t caller (Read p offset length at) o e = cc
+only_done-outcome base h t caller (GetAttr p at) o e = cc
+only_done-outcome base h t caller (Delete p) o e = done-then (judge h t caller p right.Delete None) (Ok Done) refl
+only_done-outcome base h t caller (Write p offset bytes) o e =
+    done-then (refuse_if (nat_lt 4096 (offset + length bytes)) TooLong) _ (done-then (judge h t caller p right.Write None) (Ok Done) refl)
+only_done-outcome base h t caller (Append p bytes) o e =
+    done-then (refuse_if (nat_lt 4096 (length bytes)) TooLong) _ (done-then (judge h t caller p right.Write None) _
+    (done-then (refuse_if (nat_lt 4096 (length (data_of p t h) + length bytes)) TooLong) (Ok Done) refl))
+only_done-outcome base h t caller (Truncate p length) o e =
+    done-then (refuse_if (nat_lt 4096 length) TooLong) _ (done-then (judge h t caller p right.Write None) (Ok Done) refl)
+only_done-outcome base h t caller (SetAttr p bytes) o e =
+    done-then (refuse_if (nat_lt 256 (length bytes)) TooLong) _ (done-then (judge h t caller p right.Write None) (Ok Done) refl)
+
+-- an accepted change is told Done
+pub changed-done : (base : Base) (h : List Record) (t : ℕ) (caller : Caller) (request : Request) (o : ObjectId) → is_refused (answer base h t caller request) ≡ false → changed_by request ≡ Some o → answer base h t caller request ≡ Done
+changed-done base h t caller request o e f = told-done (outcome base h t caller request) (only_done-outcome base h t caller request o f) e
