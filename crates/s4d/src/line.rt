@@ -1,0 +1,48 @@
+//! The lines of a script.
+
+use crate::fault::ParseError;
+use crate::{requests, words};
+use s4_types::{Caller, Moment, Request};
+use std::alloc::Global;
+
+/// The most words that a line has.
+const MOST_WORDS: usize = 6;
+
+/// A line after the first: a request at a moment.
+#[derive(Debug, PartialEq, Drop)]
+pub struct Line {
+    pub moment: Moment,
+    pub caller: Caller,
+    pub request: Request,
+}
+
+/// The window that the first line opens the drive with.
+pub fn parse_window(alloc: Global, line: &[u8]) -> Result<u64, ParseError> {
+    match words_of(alloc, line)?.as_slice() {
+        ["window", ticks] => words::number(ticks),
+        _ => Err(ParseError::Bad),
+    }
+}
+
+/// What a line after the first asks for.
+pub fn parse_line(alloc: Global, line: &[u8]) -> Result<Line, ParseError> {
+    let words = words_of(alloc, line)?;
+    let [moment, who, verb, words @ ..] = words.as_slice() else {
+        return Err(ParseError::Bad);
+    };
+    Ok(Line {
+        moment: words::moment(moment)?,
+        caller: Caller {
+            who: words::principal(who)?,
+            client: 0,
+        },
+        request: requests::parse_request(alloc, verb, words)?,
+    })
+}
+
+/// The words of a line. Of a line with too many words there is one more than any line has.
+fn words_of(alloc: Global, line: &[u8]) -> Result<Vec<&str>, ParseError> {
+    let line = std::str::from_utf8(line).map_err(|_| ParseError::Bad)?;
+    let words = line.split(' ').take(MOST_WORDS + 1).collect(alloc)?;
+    Ok(words)
+}

@@ -1,0 +1,104 @@
+//! The texts of replies.
+
+use s4_types::{Grant, ObjectId, Refusal, Reply, Right};
+use std::fmt;
+
+/// A reply as its line.
+#[derive(Clone, Copy)]
+pub struct ReplyText<'a>(pub &'a Reply);
+
+impl fmt::Display for ReplyText<'_> {
+    fn fmt<W: fmt::Write>(&self, f: &mut fmt::Formatter<W>) -> fmt::Result {
+        match self.0 {
+            Reply::Done => write!(f, "done"),
+            Reply::Made(object) => write!(f, "made {}", ObjectText(*object)),
+            Reply::Data { grant, bytes } => {
+                write!(
+                    f,
+                    "data {} {}",
+                    BytesText(bytes.as_slice()),
+                    GrantText(*grant)
+                )
+            }
+            Reply::Refused(refusal) => write!(f, "{}", RefusalText(*refusal)),
+        }
+    }
+}
+
+/// An object as `7.0.1`.
+#[derive(Clone, Copy)]
+struct ObjectText(ObjectId);
+
+impl fmt::Display for ObjectText {
+    fn fmt<W: fmt::Write>(&self, f: &mut fmt::Formatter<W>) -> fmt::Result {
+        let ObjectId { purse, serial } = self.0;
+        let creator = purse.creator.number();
+        let number = purse.number.number();
+        let serial = serial.number();
+        write!(f, "{creator}.{number}.{serial}")
+    }
+}
+
+/// Bytes as hexadecimal digits in lower case, or as the word `empty`.
+#[derive(Clone, Copy)]
+struct BytesText<'a>(&'a [u8]);
+
+impl fmt::Display for BytesText<'_> {
+    fn fmt<W: fmt::Write>(&self, f: &mut fmt::Formatter<W>) -> fmt::Result {
+        if self.0.is_empty() {
+            return write!(f, "empty");
+        }
+        for byte in self.0 {
+            write!(f, "{byte:02x}")?;
+        }
+        Ok(())
+    }
+}
+
+/// Why a read was granted.
+#[derive(Clone, Copy)]
+struct GrantText(Grant);
+
+impl fmt::Display for GrantText {
+    fn fmt<W: fmt::Write>(&self, f: &mut fmt::Formatter<W>) -> fmt::Result {
+        match self.0 {
+            Grant::Admin => write!(f, "by admin"),
+            Grant::Entry { index, since } => {
+                let since = since.tick();
+                write!(f, "by {index} since {since}")
+            }
+        }
+    }
+}
+
+/// Why a request was refused.
+#[derive(Clone, Copy)]
+struct RefusalText(Refusal);
+
+impl fmt::Display for RefusalText {
+    fn fmt<W: fmt::Write>(&self, f: &mut fmt::Formatter<W>) -> fmt::Result {
+        match self.0 {
+            Refusal::Denied(right) => write!(f, "denied {}", RightText(right)),
+            Refusal::NoObject => write!(f, "no-object"),
+            Refusal::TooLong => write!(f, "too-long"),
+            Refusal::NamesSpent => write!(f, "names-spent"),
+            Refusal::NoMemory => write!(f, "no-memory"),
+        }
+    }
+}
+
+#[derive(Clone, Copy)]
+struct RightText(Right);
+
+impl fmt::Display for RightText {
+    fn fmt<W: fmt::Write>(&self, f: &mut fmt::Formatter<W>) -> fmt::Result {
+        match self.0 {
+            Right::Read => write!(f, "read"),
+            Right::Write => write!(f, "write"),
+            Right::Delete => write!(f, "delete"),
+            Right::Control => write!(f, "control"),
+            Right::Recover => write!(f, "recover"),
+            Right::Admin => write!(f, "admin"),
+        }
+    }
+}

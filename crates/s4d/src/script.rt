@@ -1,0 +1,86 @@
+//! Scripts: a line that opens the drive, and then a line for each request.
+
+ghost use Rattle.std.specs.Prelude.{◌≡◌, ◌<◌, ◌≤◌, ◌↔◌, IsNone, IfSome, []};
+ghost use Rattle.s4_types.specs.Play.{last_of};
+ghost use Rattle.s4_drive.specs.Step.{Steps};
+
+use crate::fault::Fault;
+use crate::line::{Line, parse_line, parse_window};
+use crate::replies::ReplyText;
+use crate::text;
+use s4_drive::Drive;
+use s4_store::PlainStore;
+use s4_types::{Moment, Reply, Version};
+use std::alloc::Global;
+use std::io::{Read, Write};
+
+/// Runs a script on a fresh drive, and writes a line for each reply. At a fault in a line, the
+/// replies of all lines before it are written.
+pub fn run_script<R: Read + Drop, W: Write>(
+    alloc: Global,
+    mut reader: R,
+    writer: &mut W,
+) -> Result<(), Fault> {
+    let text = text::read_text(alloc, &mut reader)?;
+    let outcome = run_lines(alloc, &text, writer);
+    if outcome != Err(Fault::CannotWrite) {
+        writer.flush().map_err(Fault::writing)?;
+    }
+    outcome
+}
+
+fn run_lines<W: Write>(alloc: Global, text: &[u8], writer: &mut W) -> Result<(), Fault> {
+    let mut run = None;
+    for (index, line) in text.split_inclusive(|byte| *byte == b'\n').enumerate() {
+        let number = index.saturating_add(1);
+        let line = line.strip_suffix(b"\n").unwrap_or(line);
+        match &mut run {
+            None => {
+                let window = parse_window(alloc, line).map_err(|error| error.at(number))?;
+                run = Some(Run::open(alloc, window));
+            }
+            Some(run) => {
+                let line = parse_line(alloc, line).map_err(|error| error.at(number))?;
+                let reply = run.reply(&line).ok_or(Fault::MomentGoesBack(number))?;
+                writeln!(writer, "{}", ReplyText(&reply)).map_err(Fault::writing)?;
+            }
+        }
+    }
+    Ok(())
+}
+
+/// A script that is being run. A request that met want of memory leaves no record, so the newest
+/// record may be older than the newest line.
+#[derive(Drop)]
+struct Run {
+    drive: Drive<PlainStore<Version>>,
+    /// The moment of the newest line, 0 before the first.
+    moment: Moment,
+    ghost in_order: { last_of drive.history ≤ moment },
+}
+
+impl Run {
+    fn open(alloc: Global, window: u64) -> Run
+        ensures drive { result.drive ≡ record { window = window; history = [] } }
+        ensures moment { result.moment ≡ 0 }
+    {
+        Run {
+            drive: Drive::new(alloc, PlainStore::new(alloc), window),
+            moment: Moment::new(0),
+        }
+    }
+
+    /// The reply to a line, or none where its moment goes back.
+    fn reply(&mut self, line: &Line) -> Option<Reply>
+        ensures back { IsNone result ↔ (line.now.moment < self.old.moment) }
+        ensures unchanged { IsNone result → self.new ≡ self.old }
+        ensures reply { IfSome result (Steps self.old.drive self.new.drive line.now.moment line.now.caller line.now.request) }
+        ensures moment { IfSome result (λ reply. self.new.moment ≡ line.now.moment) }
+    {
+        if line.moment < self.moment {
+            return None;
+        }
+        self.moment = line.moment;
+        Some(self.drive.step(line.moment, line.caller, &line.request))
+    }
+}

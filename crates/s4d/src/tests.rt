@@ -1,0 +1,416 @@
+use crate::command;
+use crate::fault::{Fault, FaultText};
+use crate::line::{parse_line, parse_window};
+use crate::replies::ReplyText;
+use crate::rows::{FAULT_BAD_LINE, FIRST_REQUESTS, ROWS};
+use crate::script::run_script;
+use crate::text::read_up_to;
+use s4_drive::{Drive, never_down};
+use s4_store::PlainStore;
+use s4_types::{
+    Bytes, Grant, Moment, ObjectId, Principal, Purse, PurseNo, Refusal, Reply, Right, Serial, Step,
+    Version,
+};
+use std::alloc::Global;
+use std::io;
+use std::io::{ErrorKind, Read, Write};
+use std::test::Fail;
+
+/// What the program writes to standard error at that outcome.
+fn error_text(alloc: Global, outcome: &Result<(), Fault>) -> Result<String, Fail> {
+    match outcome {
+        Ok(()) => Ok(String::new(alloc)),
+        Err(fault) => Ok(format!(in alloc; "{}\n", FaultText(fault))?),
+    }
+}
+
+#[test]
+fn rows_as_scripts(rt: HostRuntime) -> Result<(), Fail> {
+    let alloc = rt.alloc();
+    for row in ROWS {
+        let mut output = Vec::new(alloc);
+        let outcome = run_script(alloc, row.script.as_bytes(), &mut output);
+        let error = error_text(alloc, &outcome)?;
+        assert_eq!(rt; output.as_slice(), row.output.as_bytes(), "{}", row.name);
+        assert_eq!(rt; error.as_str(), row.error, "{}", row.name);
+    }
+    Ok(())
+}
+
+/// The drive that a script opens, and the steps that its further lines make.
+fn parsed(alloc: Global, script: &str) -> Result<(Drive<PlainStore<Version>>, Vec<Step>), Fail> {
+    let mut lines = script.lines();
+    let first = lines.next().ok_or("a first line")?;
+    let window = parse_window(alloc, first.as_bytes())?;
+    let mut steps = Vec::new(alloc);
+    for text in lines {
+        let line = parse_line(alloc, text.as_bytes())?;
+        steps.push(Step::Request {
+            moment: line.moment,
+            caller: line.caller,
+            request: line.request,
+        })?;
+    }
+    Ok((Drive::new(alloc, PlainStore::new(alloc), window), steps))
+}
+
+#[test]
+fn rows_as_runs(rt: HostRuntime) -> Result<(), Fail> {
+    let alloc = rt.alloc();
+    for row in ROWS {
+        if row.error.is_empty() && !row.script.is_empty() {
+            let (mut drive, steps) = parsed(alloc, row.script)?;
+            assert!(rt; never_down(drive.last(), &steps), "{}", row.name);
+            let replies = drive.run(&steps)?;
+            let mut output = String::new(alloc);
+            for reply in &replies {
+                writeln!(output, "{}", ReplyText(reply))?;
+            }
+            assert_eq!(rt; output.as_str(), row.output, "{}", row.name);
+            assert_eq!(rt; drive.history().len(), steps.len(), "{}", row.name);
+        }
+    }
+    Ok(())
+}
+
+#[test]
+fn lines_of_scripts(rt: HostRuntime) -> Result<(), Fail> {
+    let alloc = rt.alloc();
+    let cases: [(&[u8], &str, &str); 30] = [
+        // The last line may lack its line feed, and digits may be in either case.
+        (b"window 0", "", ""),
+        (b"window 18446744073709551615\n", "", ""),
+        (
+            b"window 9\n18446744073709551615 4294967294 create 15",
+            "made 4294967294.15.1\n",
+            "",
+        ),
+        (
+            b"window 9\n0 7 create 0\n0 7 write 7.0.1 0 aBcD\n0 0 read 7.0.1 0 4294967295\n",
+            "made 7.0.1\ndone\ndata abcd by admin\n",
+            "",
+        ),
+        (
+            b"window 9\n0 7 write 7.0.1 4294967295 empty\n",
+            "too-long\n",
+            "",
+        ),
+        (
+            b"window 9\n0 7 write 4294967294.15.65535 0 empty\n",
+            "denied write\n",
+            "",
+        ),
+        // What is wrong in the line.
+        (b"\n", "", "s4d: line 1: bad line\n"),
+        (b"window 9\r\n", "", "s4d: line 1: bad line\n"),
+        (
+            b"window 18446744073709551616\n",
+            "",
+            "s4d: line 1: bad line\n",
+        ),
+        (b"window 9 9\n", "", "s4d: line 1: bad line\n"),
+        (b"window 9\n\n", "", "s4d: line 2: bad line\n"),
+        (
+            b"window 9\n0 7 create 0\n\n",
+            "made 7.0.1\n",
+            "s4d: line 3: bad line\n",
+        ),
+        (b"window 9\n0 7 create 0\r\n", "", "s4d: line 2: bad line\n"),
+        (
+            b"window 9\n0 7 create \xff\n",
+            "",
+            "s4d: line 2: bad line\n",
+        ),
+        (b"window 9\n0  7 create 0\n", "", "s4d: line 2: bad line\n"),
+        (b"window 9\n0 7 create 0 \n", "", "s4d: line 2: bad line\n"),
+        (b"window 9\n0 7 create\n", "", "s4d: line 2: bad line\n"),
+        (b"window 9\n0 7 create 00\n", "", "s4d: line 2: bad line\n"),
+        (b"window 9\n0 7 create +1\n", "", "s4d: line 2: bad line\n"),
+        (b"window 9\n0 7 create 16\n", "", "s4d: line 2: bad line\n"),
+        (
+            b"window 9\n0 4294967295 create 0\n",
+            "",
+            "s4d: line 2: bad line\n",
+        ),
+        (
+            b"window 9\n18446744073709551616 7 create 0\n",
+            "",
+            "s4d: line 2: bad line\n",
+        ),
+        (
+            b"window 9\n0 7 read 7.0.0 0 1\n",
+            "",
+            "s4d: line 2: bad line\n",
+        ),
+        (
+            b"window 9\n0 7 read 7.0.65536 0 1\n",
+            "",
+            "s4d: line 2: bad line\n",
+        ),
+        (
+            b"window 9\n0 7 read 7.0 0 1\n",
+            "",
+            "s4d: line 2: bad line\n",
+        ),
+        (
+            b"window 9\n0 7 read 7.0.1 4294967296 1\n",
+            "",
+            "s4d: line 2: bad line\n",
+        ),
+        (
+            b"window 9\n0 7 write 7.0.1 0 abc\n",
+            "",
+            "s4d: line 2: bad line\n",
+        ),
+        (
+            b"window 9\n0 7 write 7.0.1 0 \n",
+            "",
+            "s4d: line 2: bad line\n",
+        ),
+        (
+            b"window 9\n0 7 write 7.0.1 0 EMPTY\n",
+            "",
+            "s4d: line 2: bad line\n",
+        ),
+        // A line is read whole before its moment is looked at.
+        (
+            b"window 9\n5 9 read 7.0.1 0 1\n4 7 create x\n",
+            "denied read\n",
+            "s4d: line 3: bad line\n",
+        ),
+    ];
+    for (script, wanted, told) in cases {
+        let mut output = Vec::new(alloc);
+        let outcome = run_script(alloc, script, &mut output);
+        let error = error_text(alloc, &outcome)?;
+        assert_eq!(rt; output.as_slice(), wanted.as_bytes(), "at {script:?}");
+        assert_eq!(rt; error.as_str(), told, "at {script:?}");
+    }
+    Ok(())
+}
+
+/// Gives a byte at a time, each after an interruption, and fails at the end where it is told to.
+#[derive(Drop)]
+struct Trickle<'a> {
+    bytes: &'a [u8],
+    is_ready: bool,
+    fails: bool,
+}
+
+impl Read for Trickle<'_> {
+    fn read(&mut self, buf: &mut [u8]) -> io::Result<usize> {
+        self.is_ready = !self.is_ready;
+        if self.is_ready {
+            return Err(io::Error::from(ErrorKind::Interrupted));
+        }
+        if self.bytes.is_empty() && self.fails {
+            return Err(io::Error::from(ErrorKind::BrokenPipe));
+        }
+        let most = buf.len().min(1);
+        self.bytes.read(&mut buf[..most])
+    }
+}
+
+/// Takes so many bytes at a time while there is room, and then fails.
+#[derive(Drop)]
+struct Narrow {
+    taken: Vec<u8>,
+    width: usize,
+    room: usize,
+    flushes: bool,
+}
+
+impl Narrow {
+    fn new(alloc: Global, width: usize, room: usize) -> Narrow {
+        Narrow {
+            taken: Vec::new(alloc),
+            width,
+            room,
+            flushes: true,
+        }
+    }
+}
+
+impl Write for Narrow {
+    fn write(&mut self, buf: &[u8]) -> io::Result<usize> {
+        if self.room == 0 {
+            return Err(io::Error::from(ErrorKind::StorageFull));
+        }
+        let count = buf.len().min(self.width).min(self.room);
+        self.taken.extend_from_slice(&buf[..count])?;
+        self.room -= count;
+        Ok(count)
+    }
+
+    fn flush(&mut self) -> io::Result<()> {
+        if self.flushes {
+            Ok(())
+        } else {
+            Err(io::Error::from(ErrorKind::BrokenPipe))
+        }
+    }
+}
+
+#[test]
+fn failing_readers(rt: HostRuntime) -> Result<(), Fail> {
+    let alloc = rt.alloc();
+    let row = FIRST_REQUESTS;
+    for (fails, wanted, told) in [
+        (false, row.output, Ok(())),
+        (true, "", Err(Fault::CannotRead)),
+    ] {
+        let reader = Trickle {
+            bytes: row.script.as_bytes(),
+            is_ready: false,
+            fails,
+        };
+        let mut output = Vec::new(alloc);
+        assert_eq!(rt; run_script(alloc, reader, &mut output), told);
+        assert_eq!(rt; output.as_slice(), wanted.as_bytes());
+    }
+    Ok(())
+}
+
+#[test]
+fn failing_writers(rt: HostRuntime) -> Result<(), Fail> {
+    let alloc = rt.alloc();
+    let row = FIRST_REQUESTS;
+    let script = row.script.as_bytes();
+    let whole = row.output.as_bytes();
+    for width in [1, 3, 4096] {
+        for room in 0..whole.len() {
+            let mut writer = Narrow::new(alloc, width, room);
+            let outcome = run_script(alloc, script, &mut writer);
+            assert_eq!(rt; outcome, Err(Fault::CannotWrite));
+            assert_eq!(rt; writer.taken.as_slice(), &whole[..room]);
+        }
+        let mut writer = Narrow::new(alloc, width, whole.len());
+        assert_eq!(rt; run_script(alloc, script, &mut writer), Ok(()));
+        assert_eq!(rt; writer.taken.as_slice(), whole);
+    }
+    for script in [script, FAULT_BAD_LINE.script.as_bytes()] {
+        let mut writer = Narrow::new(alloc, 4096, 4096);
+        writer.flushes = false;
+        assert_eq!(rt;
+            run_script(alloc, script, &mut writer),
+            Err(Fault::CannotWrite)
+        );
+    }
+    Ok(())
+}
+
+#[test]
+fn bound_of_texts(rt: HostRuntime) -> Result<(), Fail> {
+    let alloc = rt.alloc();
+    // A byte takes two reads, and the end takes two.
+    for (limit, is_whole) in [(8, true), (7, false)] {
+        let mut reader = Trickle {
+            bytes: b"abc",
+            is_ready: false,
+            fails: false,
+        };
+        assert_eq!(rt; read_up_to(alloc, &mut reader, limit).is_ok(), is_whole);
+    }
+    for (limit, is_whole) in [(3, true), (2, false)] {
+        let mut reader = b"abc".as_slice();
+        assert_eq!(rt; read_up_to(alloc, &mut reader, limit).is_ok(), is_whole);
+    }
+    Ok(())
+}
+
+#[test]
+fn texts_of_replies(rt: HostRuntime) -> Result<(), Fail> {
+    let alloc = rt.alloc();
+    let purse = Purse {
+        creator: Principal::new(7).ok_or("a principal")?,
+        number: PurseNo::new(15).ok_or("a purse number")?,
+    };
+    let serial = Serial::new(65535).ok_or("a serial")?;
+    let since = Moment::new(18446744073709551615);
+    let replies = [
+        (Reply::Done, "done"),
+        (Reply::Made(ObjectId { purse, serial }), "made 7.15.65535"),
+        (
+            Reply::Data {
+                grant: Grant::Admin,
+                bytes: Bytes::new(vec![in alloc; 0, 255]?),
+            },
+            "data 00ff by admin",
+        ),
+        (
+            Reply::Data {
+                grant: Grant::Entry { index: 15, since },
+                bytes: Bytes::new(Vec::new(alloc)),
+            },
+            "data empty by 15 since 18446744073709551615",
+        ),
+        (Reply::Refused(Refusal::Denied(Right::Read)), "denied read"),
+        (
+            Reply::Refused(Refusal::Denied(Right::Write)),
+            "denied write",
+        ),
+        (
+            Reply::Refused(Refusal::Denied(Right::Delete)),
+            "denied delete",
+        ),
+        (
+            Reply::Refused(Refusal::Denied(Right::Control)),
+            "denied control",
+        ),
+        (
+            Reply::Refused(Refusal::Denied(Right::Recover)),
+            "denied recover",
+        ),
+        (
+            Reply::Refused(Refusal::Denied(Right::Admin)),
+            "denied admin",
+        ),
+        (Reply::Refused(Refusal::NoObject), "no-object"),
+        (Reply::Refused(Refusal::TooLong), "too-long"),
+        (Reply::Refused(Refusal::NamesSpent), "names-spent"),
+        (Reply::Refused(Refusal::NoMemory), "no-memory"),
+    ];
+    for (reply, wanted) in &replies {
+        let text = ReplyText(reply).to_string(alloc)?;
+        assert_eq!(rt; text.as_str(), *wanted);
+    }
+    Ok(())
+}
+
+#[test]
+fn faults(rt: HostRuntime) -> Result<(), Fail> {
+    let alloc = rt.alloc();
+    for (fault, wanted) in [
+        (Fault::BadLine(12), "s4d: line 12: bad line"),
+        (Fault::MomentGoesBack(2), "s4d: line 2: moment goes back"),
+        (Fault::CannotRead, "s4d: cannot read"),
+        (Fault::CannotWrite, "s4d: cannot write"),
+        (Fault::NoMemory, "s4d: no memory"),
+    ] {
+        assert_eq!(rt; FaultText(&fault).to_string(alloc)?.as_str(), wanted);
+        assert_eq!(rt; fault.status(), 1);
+    }
+    Ok(())
+}
+
+#[test]
+fn command_lines(rt: HostRuntime) -> Result<(), Fail> {
+    let alloc = rt.alloc();
+    let cases: [(&[&str], u8); 6] = [
+        (&["s4d", "run"], 0),
+        (&["s4d", "--help"], 0),
+        (&["s4d"], 2),
+        (&["s4d", "walk"], 2),
+        (&["s4d", "run", "first.script"], 2),
+        (&["s4d", "run", "--window"], 2),
+    ];
+    for (words, wanted) in cases {
+        let mut given = Vec::new(alloc);
+        for word in words {
+            given.push(String::from_str(alloc, word)?)?;
+        }
+        let status = command::parse(alloc, &given).map_or_else(|fault| fault.status(), |_| 0);
+        assert_eq!(rt; status, wanted, "at {words:?}");
+    }
+    Ok(())
+}

@@ -1,0 +1,70 @@
+//! The words of a line, by what they spell.
+
+use crate::fault::ParseError;
+use hex::FromHexError;
+use s4_types::{Bytes, Moment, ObjectId, Principal, Purse, PurseNo, Serial};
+use std::alloc::Global;
+
+/// A decimal number without sign and without leading zeros, in the range of its type.
+pub fn number<T: TryFrom<u64>>(word: &str) -> Result<T, ParseError>
+where
+    T::Error: Drop,
+{
+    let is_plain = match word.as_bytes() {
+        [b'0'] => true,
+        [b'0', ..] => false,
+        digits => digits.iter().all(|digit| digit.is_ascii_digit()),
+    };
+    if !is_plain {
+        return Err(ParseError::Bad);
+    }
+    let number = word.parse::<u64>().map_err(|_| ParseError::Bad)?;
+    T::try_from(number).map_err(|_| ParseError::Bad)
+}
+
+pub fn moment(word: &str) -> Result<Moment, ParseError> {
+    Ok(Moment::new(number(word)?))
+}
+
+pub fn principal(word: &str) -> Result<Principal, ParseError> {
+    Principal::new(number(word)?).ok_or(ParseError::Bad)
+}
+
+pub fn purse_number(word: &str) -> Result<PurseNo, ParseError> {
+    PurseNo::new(number(word)?).ok_or(ParseError::Bad)
+}
+
+fn serial(word: &str) -> Result<Serial, ParseError> {
+    Serial::new(number(word)?).ok_or(ParseError::Bad)
+}
+
+/// A purse, as `7.0`.
+fn purse(word: &str) -> Result<Purse, ParseError> {
+    let (creator, number) = word.split_once('.').ok_or(ParseError::Bad)?;
+    Ok(Purse {
+        creator: principal(creator)?,
+        number: purse_number(number)?,
+    })
+}
+
+/// An object, as `7.0.1`.
+pub fn object(word: &str) -> Result<ObjectId, ParseError> {
+    let (in_purse, number) = word.rsplit_once('.').ok_or(ParseError::Bad)?;
+    Ok(ObjectId {
+        purse: purse(in_purse)?,
+        serial: serial(number)?,
+    })
+}
+
+/// Bytes as hexadecimal digits in either case, or as the word `empty`.
+pub fn bytes(alloc: Global, word: &str) -> Result<Bytes, ParseError> {
+    match word {
+        "empty" => Ok(Bytes::new(Vec::new(alloc))),
+        "" => Err(ParseError::Bad),
+        digits => match hex::decode(alloc, digits) {
+            Ok(bytes) => Ok(Bytes::new(bytes)),
+            Err(FromHexError::OutOfMemory) => Err(ParseError::NoMemory),
+            Err(_) => Err(ParseError::Bad),
+        },
+    }
+}
