@@ -8,3 +8,4 @@ pub mod Outcome
 pub mod Base
 pub mod Answer
 pub mod Play
+pub mod Applied

@@ -4,6 +4,7 @@
 
 mod acl;
 mod bytes;
+mod laws;
 mod memory;
 mod moment;
 mod object;
@@ -16,6 +17,7 @@ mod version;
 
 pub use acl::{Acl, AclEntry};
 pub use bytes::Bytes;
+pub use laws::{purses_depend_on_their_records, values_are_applied_in_order};
 pub use memory::NoMemory;
 pub use moment::Moment;
 pub use object::{ObjectId, Purse, PurseNo, Serial};

@@ -1,0 +1,37 @@
+//! What holds of every history, whatever it holds.
+
+ghost use Rattle.std.specs.Prelude.{◌≡◌, ℕ, true, List};
+ghost use Rattle.std.specs.Option.{option_map};
+ghost use Rattle.s4_types.specs.declared.object.Purse.{Purse};
+ghost use Rattle.s4_types.specs.declared.object.ObjectId.{ObjectId};
+ghost use Rattle.s4_types.specs.declared.record.Record.{Record};
+ghost use Rattle.s4_types.specs.Applied.{applied, InOrder, AgreeOn};
+ghost use Rattle.s4_types.specs.Answer.{drawn};
+ghost use Rattle.s4_types.specs.Versions.{lives_at, versions, value_at, data_track, attribute_track, acl_track};
+
+/// The value in force at a moment is what the accepted changes up to that moment leave, applied in
+/// the order of the list, in every history whose moments never go down (docs/MODEL.md, "Tracks").
+pub fn values_are_applied_in_order()
+    ensures data_track { (o : ObjectId) (m : ℕ) (h : List Record) → InOrder 0 h → lives_at m o h ≡ true
+        → option_map (λ v. v.value) (value_at data_track o m h) ≡ applied data_track o m h }
+    ensures attribute_track { (o : ObjectId) (m : ℕ) (h : List Record) → InOrder 0 h → lives_at m o h ≡ true
+        → option_map (λ v. v.value) (value_at attribute_track o m h) ≡ applied attribute_track o m h }
+    ensures acl_track { (o : ObjectId) (m : ℕ) (h : List Record) → InOrder 0 h → lives_at m o h ≡ true
+        → option_map (λ v. v.value) (value_at acl_track o m h) ≡ applied acl_track o m h }
+{
+}
+
+/// The life and the values of a purse's objects, and the purse's serials, depend on the records
+/// that concern the purse, and on no others (docs/MODEL.md, "Kinds").
+pub fn purses_depend_on_their_records()
+    ensures life { (purse : Purse) (serial m : ℕ) (h k : List Record) → AgreeOn purse h k
+        → lives_at m (record { purse = purse; serial = serial }) h ≡ lives_at m (record { purse = purse; serial = serial }) k }
+    ensures data_track { (purse : Purse) (serial : ℕ) (h k : List Record) → AgreeOn purse h k
+        → versions data_track (record { purse = purse; serial = serial }) h ≡ versions data_track (record { purse = purse; serial = serial }) k }
+    ensures attribute_track { (purse : Purse) (serial : ℕ) (h k : List Record) → AgreeOn purse h k
+        → versions attribute_track (record { purse = purse; serial = serial }) h ≡ versions attribute_track (record { purse = purse; serial = serial }) k }
+    ensures acl_track { (purse : Purse) (serial : ℕ) (h k : List Record) → AgreeOn purse h k
+        → versions acl_track (record { purse = purse; serial = serial }) h ≡ versions acl_track (record { purse = purse; serial = serial }) k }
+    ensures serials { (purse : Purse) (h k : List Record) → AgreeOn purse h k → drawn purse h ≡ drawn purse k }
+{
+}
