@@ -4,3 +4,6 @@
 mod names;
 
 pub use names::{DrawError, Names};
+
+#[cfg(test)]
+mod tests;

@@ -12,4 +12,3 @@ latest-at m vs n back v l e =
     let down : n - (back + 1) ≡ n - 1 - back = omega arith in
     ap (λ i. latest m (take i vs)) up ∙ ap (latest m) (take_at_get vs (n - 1 - back) v e)
     ∙ fold-append (newer m) None (take (n - 1 - back) vs) (v ∷ []) ∙ ap (λ i. newer m (latest m (take i vs)) v) (sym down)
-

@@ -4,3 +4,6 @@
 mod track;
 
 pub use track::{Track, cost_of};
+
+#[cfg(test)]
+mod tests;

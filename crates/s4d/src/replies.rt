@@ -20,6 +20,14 @@ impl fmt::Display for ReplyText<'_> {
                     GrantText(*grant)
                 )
             }
+            Reply::Attr { grant, bytes } => {
+                write!(
+                    f,
+                    "attr {} {}",
+                    BytesText(bytes.as_slice()),
+                    GrantText(*grant)
+                )
+            }
             Reply::Refused(refusal) => write!(f, "{}", RefusalText(*refusal)),
         }
     }
@@ -80,6 +88,7 @@ impl fmt::Display for RefusalText {
         match self.0 {
             Refusal::Denied(right) => write!(f, "denied {}", RightText(right)),
             Refusal::NoObject => write!(f, "no-object"),
+            Refusal::Future => write!(f, "future"),
             Refusal::TooLong => write!(f, "too-long"),
             Refusal::NamesSpent => write!(f, "names-spent"),
             Refusal::NoMemory => write!(f, "no-memory"),

@@ -9,8 +9,13 @@ use std::alloc::Global;
 pub fn parse_request(alloc: Global, verb: &str, words: &[&str]) -> Result<Request, ParseError> {
     match (verb, words) {
         ("create", [number]) => create(number),
-        ("read", [object, offset, length]) => read(object, offset, length),
+        ("delete", [object]) => delete(object),
+        ("read", [object, offset, length, at @ ..]) => read(object, offset, length, at),
         ("write", [object, offset, bytes]) => write(alloc, object, offset, bytes),
+        ("append", [object, bytes]) => append(alloc, object, bytes),
+        ("truncate", [object, length]) => truncate(object, length),
+        ("getattr", [object, at @ ..]) => get_attr(object, at),
+        ("setattr", [object, bytes]) => set_attr(alloc, object, bytes),
         _ => Err(ParseError::Bad),
     }
 }
@@ -21,11 +26,18 @@ fn create(number: &str) -> Result<Request, ParseError> {
     })
 }
 
-fn read(object: &str, offset: &str, length: &str) -> Result<Request, ParseError> {
+fn delete(object: &str) -> Result<Request, ParseError> {
+    Ok(Request::Delete {
+        object: words::object(object)?,
+    })
+}
+
+fn read(object: &str, offset: &str, length: &str, at: &[&str]) -> Result<Request, ParseError> {
     Ok(Request::Read {
         object: words::object(object)?,
         offset: words::number(offset)?,
         length: words::number(length)?,
+        at: words::at(at)?,
     })
 }
 
@@ -33,6 +45,34 @@ fn write(alloc: Global, object: &str, offset: &str, bytes: &str) -> Result<Reque
     Ok(Request::Write {
         object: words::object(object)?,
         offset: words::number(offset)?,
+        bytes: words::bytes(alloc, bytes)?,
+    })
+}
+
+fn append(alloc: Global, object: &str, bytes: &str) -> Result<Request, ParseError> {
+    Ok(Request::Append {
+        object: words::object(object)?,
+        bytes: words::bytes(alloc, bytes)?,
+    })
+}
+
+fn truncate(object: &str, length: &str) -> Result<Request, ParseError> {
+    Ok(Request::Truncate {
+        object: words::object(object)?,
+        length: words::number(length)?,
+    })
+}
+
+fn get_attr(object: &str, at: &[&str]) -> Result<Request, ParseError> {
+    Ok(Request::GetAttr {
+        object: words::object(object)?,
+        at: words::at(at)?,
+    })
+}
+
+fn set_attr(alloc: Global, object: &str, bytes: &str) -> Result<Request, ParseError> {
+    Ok(Request::SetAttr {
+        object: words::object(object)?,
         bytes: words::bytes(alloc, bytes)?,
     })
 }

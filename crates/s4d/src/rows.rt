@@ -1,5 +1,8 @@
 //! Worked examples: scripts, and what running each writes.
 
+use std::alloc::Global;
+use std::test::Fail;
+
 /// A script, and what running it writes to standard output and to standard error.
 #[derive(Clone, Copy)]
 pub struct Row {
@@ -9,12 +12,16 @@ pub struct Row {
     pub error: &'static str,
 }
 
-pub const ROWS: [Row; 8] = [
+pub const ROWS: [Row; 12] = [
     EMPTY_SCRIPT,
     FIRST_REQUESTS,
     THREE_CALLS_AT_FIVE,
     UNKNOWN_OBJECT,
     SIZES_FIRST_WITHOUT_APPEND,
+    FIRST_MOMENTS,
+    HISTORIES_OF_DATA,
+    SIZES_FIRST,
+    STRANGER_LEARNS_NOTHING,
     FAULT_FIRST_LINE,
     FAULT_BAD_LINE,
     FAULT_MOMENT_GOES_BACK,
@@ -86,6 +93,92 @@ const SIZES_FIRST_WITHOUT_APPEND: Row = Row {
     error: "",
 };
 
+/// A read at a moment gives what was in force then.
+const FIRST_MOMENTS: Row = Row {
+    name: "first_moments",
+    script: "window 100\n\
+             5 7 create 0\n\
+             10 7 write 7.0.1 0 68656c6c6f\n\
+             11 7 read 7.0.1 0 100\n\
+             11 7 read 7.0.1 0 100 at 9\n\
+             11 7 read 7.0.1 0 100 at 10\n\
+             11 7 read 7.0.1 0 100 at 4\n\
+             11 7 read 7.0.1 0 100 at 12\n",
+    output: "made 7.0.1\n\
+             done\n\
+             data 68656c6c6f by 0 since 5\n\
+             data empty by 0 since 5\n\
+             data 68656c6c6f by 0 since 5\n\
+             no-object\n\
+             future\n",
+    error: "",
+};
+
+/// What was is still read after it was cut or deleted, and no serial is drawn again.
+const HISTORIES_OF_DATA: Row = Row {
+    name: "histories_of_data",
+    script: "window 100\n\
+             1 7 create 0\n\
+             2 7 append 7.0.1 6162\n\
+             3 7 truncate 7.0.1 4\n\
+             4 7 truncate 7.0.1 1\n\
+             5 7 delete 7.0.1\n\
+             5 7 read 7.0.1 0 9\n\
+             6 7 read 7.0.1 0 9 at 3\n\
+             6 7 read 7.0.1 0 9 at 4\n\
+             6 7 getattr 7.0.1 at 4\n\
+             6 7 read 7.0.1 0 9 at 5\n\
+             6 7 create 0\n",
+    output: "made 7.0.1\n\
+             done\n\
+             done\n\
+             done\n\
+             done\n\
+             no-object\n\
+             data 61620000 by 0 since 1\n\
+             data 61 by 0 since 1\n\
+             attr empty by 0 since 1\n\
+             no-object\n\
+             made 7.0.2\n",
+    error: "",
+};
+
+/// What is too long is told before who may write; how long the object has become, after it.
+const SIZES_FIRST: Row = Row {
+    name: "sizes_first",
+    script: "window 100\n\
+             1 7 create 0\n\
+             2 9 write 7.0.1 4096 61\n\
+             2 9 write 7.0.1 4095 61\n\
+             2 7 write 7.0.1 4095 61\n\
+             3 7 read 7.0.1 4094 10\n\
+             3 7 read 7.0.1 4096 10\n\
+             3 7 append 7.0.1 61\n",
+    output: "made 7.0.1\n\
+             too-long\n\
+             denied write\n\
+             done\n\
+             data 0061 by 0 since 1\n\
+             data empty by 0 since 1\n\
+             too-long\n",
+    error: "",
+};
+
+/// Who may not read is told the same of an object that is there and of one that is not.
+const STRANGER_LEARNS_NOTHING: Row = Row {
+    name: "stranger_learns_nothing",
+    script: "window 100\n\
+             5 7 read 9.0.1 0 1\n\
+             6 9 create 0\n\
+             7 7 read 9.0.1 0 1\n\
+             8 7 read 9.0.1 0 1 at 5\n",
+    output: "denied read\n\
+             made 9.0.1\n\
+             denied read\n\
+             denied read\n",
+    error: "",
+};
+
 /// The first line opens the drive.
 const FAULT_FIRST_LINE: Row = Row {
     name: "fault_first_line",
@@ -114,3 +207,17 @@ const FAULT_MOMENT_GOES_BACK: Row = Row {
     output: "made 7.0.1\n",
     error: "s4d: line 3: moment goes back\n",
 };
+
+/// A script that draws all serials of a purse, then one more, and then the first of another purse,
+/// and what running it writes.
+pub fn serials_spent(alloc: Global) -> Result<(String, String), Fail> {
+    let mut script = String::from_str(alloc, "window 1\n")?;
+    let mut output = String::new(alloc);
+    for serial in 1..=u16::MAX {
+        script.push_str("1 7 create 0\n")?;
+        writeln!(output, "made 7.0.{serial}")?;
+    }
+    script.push_str("1 7 create 0\n1 7 create 1\n")?;
+    output.push_str("names-spent\nmade 7.1.1\n")?;
+    Ok((script, output))
+}

@@ -1,8 +1,8 @@
 use crate::command;
-use crate::fault::{Fault, FaultText};
+use crate::fault::{Fault, FaultText, ParseError};
 use crate::line::{parse_line, parse_window};
 use crate::replies::ReplyText;
-use crate::rows::{FAULT_BAD_LINE, FIRST_REQUESTS, ROWS};
+use crate::rows::{FAULT_BAD_LINE, FIRST_REQUESTS, ROWS, serials_spent};
 use crate::script::run_script;
 use crate::text::read_up_to;
 use s4_drive::{Drive, never_down};
@@ -14,13 +14,15 @@ use s4_types::{
 use std::alloc::Global;
 use std::io;
 use std::io::{ErrorKind, Read, Write};
+use std::process::Abort;
 use std::test::Fail;
 
-/// What the program writes to standard error at that outcome.
-fn error_text(alloc: Global, outcome: &Result<(), Fault>) -> Result<String, Fail> {
-    match outcome {
-        Ok(()) => Ok(String::new(alloc)),
-        Err(fault) => Ok(format!(in alloc; "{}\n", FaultText(fault))?),
+/// What the program writes for a script to standard output, and to standard error.
+fn written(alloc: Global, script: &[u8]) -> Result<(Vec<u8>, String), Fail> {
+    let mut output = Vec::new(alloc);
+    match run_script(alloc, script, &mut output) {
+        Ok(()) => Ok((output, String::new(alloc))),
+        Err(fault) => Ok((output, format!(in alloc; "{}\n", FaultText(&fault))?)),
     }
 }
 
@@ -28,12 +30,20 @@ fn error_text(alloc: Global, outcome: &Result<(), Fault>) -> Result<String, Fail
 fn rows_as_scripts(rt: HostRuntime) -> Result<(), Fail> {
     let alloc = rt.alloc();
     for row in ROWS {
-        let mut output = Vec::new(alloc);
-        let outcome = run_script(alloc, row.script.as_bytes(), &mut output);
-        let error = error_text(alloc, &outcome)?;
+        let (output, error) = written(alloc, row.script.as_bytes())?;
         assert_eq!(rt; output.as_slice(), row.output.as_bytes(), "{}", row.name);
         assert_eq!(rt; error.as_str(), row.error, "{}", row.name);
     }
+    Ok(())
+}
+
+#[test]
+fn serials_spent_as_script(rt: HostRuntime) -> Result<(), Fail> {
+    let alloc = rt.alloc();
+    let (script, wanted) = serials_spent(alloc)?;
+    let (output, error) = written(alloc, script.as_bytes())?;
+    assert!(rt; output.as_slice() == wanted.as_bytes());
+    assert_eq!(rt; error.as_str(), "");
     Ok(())
 }
 
@@ -54,137 +64,200 @@ fn parsed(alloc: Global, script: &str) -> Result<(Drive<PlainStore<Version>>, Ve
     Ok((Drive::new(alloc, PlainStore::new(alloc), window), steps))
 }
 
+/// The texts of the replies to a script's requests where a drive is given them all at once. Each
+/// request leaves a record.
+fn replies_to<A: Abort>(rt: &A, alloc: Global, script: &str) -> Result<String, Fail> {
+    let (mut drive, steps) = parsed(alloc, script)?;
+    assert!(rt; never_down(drive.last(), &steps));
+    let replies = drive.run(&steps)?;
+    assert_eq!(rt; drive.history().len(), steps.len());
+    let mut texts = String::new(alloc);
+    for reply in &replies {
+        writeln!(texts, "{}", ReplyText(reply))?;
+    }
+    Ok(texts)
+}
+
 #[test]
 fn rows_as_runs(rt: HostRuntime) -> Result<(), Fail> {
     let alloc = rt.alloc();
     for row in ROWS {
         if row.error.is_empty() && !row.script.is_empty() {
-            let (mut drive, steps) = parsed(alloc, row.script)?;
-            assert!(rt; never_down(drive.last(), &steps), "{}", row.name);
-            let replies = drive.run(&steps)?;
-            let mut output = String::new(alloc);
-            for reply in &replies {
-                writeln!(output, "{}", ReplyText(reply))?;
-            }
-            assert_eq!(rt; output.as_str(), row.output, "{}", row.name);
-            assert_eq!(rt; drive.history().len(), steps.len(), "{}", row.name);
+            let texts = replies_to(&rt, alloc, row.script)?;
+            assert_eq!(rt; texts.as_str(), row.output, "{}", row.name);
         }
     }
     Ok(())
 }
 
 #[test]
+fn serials_spent_as_run(rt: HostRuntime) -> Result<(), Fail> {
+    let alloc = rt.alloc();
+    let (script, wanted) = serials_spent(alloc)?;
+    let texts = replies_to(&rt, alloc, &script)?;
+    assert!(rt; texts == wanted);
+    Ok(())
+}
+
+/// Scripts that aren't rows: what each writes to standard output and to standard error.
+const SCRIPTS: [(&[u8], &str, &str); 17] = [
+    // The last line may lack its line feed, and digits may be in either case.
+    (b"window 0", "", ""),
+    (b"window 18446744073709551615\n", "", ""),
+    (
+        b"window 9\n18446744073709551615 4294967294 create 15",
+        "made 4294967294.15.1\n",
+        "",
+    ),
+    (
+        b"window 9\n0 7 create 0\n0 7 write 7.0.1 0 aBcD\n0 0 read 7.0.1 0 4294967295\n",
+        "made 7.0.1\ndone\ndata abcd by admin\n",
+        "",
+    ),
+    (
+        b"window 9\n0 7 create 0\n0 7 setattr 7.0.1 0AfF\n1 7 getattr 7.0.1\n1 0 getattr 7.0.1 at 0\n",
+        "made 7.0.1\ndone\nattr 0aff by 0 since 0\nattr 0aff by admin\n",
+        "",
+    ),
+    // Sizes and moments are looked at before rights.
+    (
+        b"window 9\n0 7 write 7.0.1 4294967295 empty\n0 7 write 4294967294.15.65535 0 empty\n",
+        "too-long\ndenied write\n",
+        "",
+    ),
+    (
+        b"window 9\n0 9 truncate 7.0.1 4294967295\n0 9 truncate 7.0.1 4096\n",
+        "too-long\ndenied write\n",
+        "",
+    ),
+    (
+        b"window 9\n0 9 getattr 7.0.1 at 18446744073709551615\n0 9 getattr 7.0.1 at 0\n",
+        "future\ndenied read\n",
+        "",
+    ),
+    (
+        b"window 9\n0 9 append 7.0.1 61\n0 9 setattr 7.0.1 empty\n0 9 delete 7.0.1\n",
+        "denied write\ndenied write\ndenied delete\n",
+        "",
+    ),
+    // What is wrong in a line.
+    (b"\n", "", "s4d: line 1: bad line\n"),
+    (b"window 9\r\n", "", "s4d: line 1: bad line\n"),
+    (
+        b"window 18446744073709551616\n",
+        "",
+        "s4d: line 1: bad line\n",
+    ),
+    (b"window 9 9\n", "", "s4d: line 1: bad line\n"),
+    (b"window 9\n\n", "", "s4d: line 2: bad line\n"),
+    (
+        b"window 9\n0 7 create 0\n\n",
+        "made 7.0.1\n",
+        "s4d: line 3: bad line\n",
+    ),
+    (
+        b"window 9\n0 7 create \xff\n",
+        "",
+        "s4d: line 2: bad line\n",
+    ),
+    // A line is read whole before its moment is looked at.
+    (
+        b"window 9\n5 9 read 7.0.1 0 1\n4 7 create x\n",
+        "denied read\n",
+        "s4d: line 3: bad line\n",
+    ),
+];
+
+#[test]
 fn lines_of_scripts(rt: HostRuntime) -> Result<(), Fail> {
     let alloc = rt.alloc();
-    let cases: [(&[u8], &str, &str); 30] = [
-        // The last line may lack its line feed, and digits may be in either case.
-        (b"window 0", "", ""),
-        (b"window 18446744073709551615\n", "", ""),
-        (
-            b"window 9\n18446744073709551615 4294967294 create 15",
-            "made 4294967294.15.1\n",
-            "",
-        ),
-        (
-            b"window 9\n0 7 create 0\n0 7 write 7.0.1 0 aBcD\n0 0 read 7.0.1 0 4294967295\n",
-            "made 7.0.1\ndone\ndata abcd by admin\n",
-            "",
-        ),
-        (
-            b"window 9\n0 7 write 7.0.1 4294967295 empty\n",
-            "too-long\n",
-            "",
-        ),
-        (
-            b"window 9\n0 7 write 4294967294.15.65535 0 empty\n",
-            "denied write\n",
-            "",
-        ),
-        // What is wrong in the line.
-        (b"\n", "", "s4d: line 1: bad line\n"),
-        (b"window 9\r\n", "", "s4d: line 1: bad line\n"),
-        (
-            b"window 18446744073709551616\n",
-            "",
-            "s4d: line 1: bad line\n",
-        ),
-        (b"window 9 9\n", "", "s4d: line 1: bad line\n"),
-        (b"window 9\n\n", "", "s4d: line 2: bad line\n"),
-        (
-            b"window 9\n0 7 create 0\n\n",
-            "made 7.0.1\n",
-            "s4d: line 3: bad line\n",
-        ),
-        (b"window 9\n0 7 create 0\r\n", "", "s4d: line 2: bad line\n"),
-        (
-            b"window 9\n0 7 create \xff\n",
-            "",
-            "s4d: line 2: bad line\n",
-        ),
-        (b"window 9\n0  7 create 0\n", "", "s4d: line 2: bad line\n"),
-        (b"window 9\n0 7 create 0 \n", "", "s4d: line 2: bad line\n"),
-        (b"window 9\n0 7 create\n", "", "s4d: line 2: bad line\n"),
-        (b"window 9\n0 7 create 00\n", "", "s4d: line 2: bad line\n"),
-        (b"window 9\n0 7 create +1\n", "", "s4d: line 2: bad line\n"),
-        (b"window 9\n0 7 create 16\n", "", "s4d: line 2: bad line\n"),
-        (
-            b"window 9\n0 4294967295 create 0\n",
-            "",
-            "s4d: line 2: bad line\n",
-        ),
-        (
-            b"window 9\n18446744073709551616 7 create 0\n",
-            "",
-            "s4d: line 2: bad line\n",
-        ),
-        (
-            b"window 9\n0 7 read 7.0.0 0 1\n",
-            "",
-            "s4d: line 2: bad line\n",
-        ),
-        (
-            b"window 9\n0 7 read 7.0.65536 0 1\n",
-            "",
-            "s4d: line 2: bad line\n",
-        ),
-        (
-            b"window 9\n0 7 read 7.0 0 1\n",
-            "",
-            "s4d: line 2: bad line\n",
-        ),
-        (
-            b"window 9\n0 7 read 7.0.1 4294967296 1\n",
-            "",
-            "s4d: line 2: bad line\n",
-        ),
-        (
-            b"window 9\n0 7 write 7.0.1 0 abc\n",
-            "",
-            "s4d: line 2: bad line\n",
-        ),
-        (
-            b"window 9\n0 7 write 7.0.1 0 \n",
-            "",
-            "s4d: line 2: bad line\n",
-        ),
-        (
-            b"window 9\n0 7 write 7.0.1 0 EMPTY\n",
-            "",
-            "s4d: line 2: bad line\n",
-        ),
-        // A line is read whole before its moment is looked at.
-        (
-            b"window 9\n5 9 read 7.0.1 0 1\n4 7 create x\n",
-            "denied read\n",
-            "s4d: line 3: bad line\n",
-        ),
-    ];
-    for (script, wanted, told) in cases {
-        let mut output = Vec::new(alloc);
-        let outcome = run_script(alloc, script, &mut output);
-        let error = error_text(alloc, &outcome)?;
+    for (script, wanted, told) in SCRIPTS {
+        let (output, error) = written(alloc, script)?;
         assert_eq!(rt; output.as_slice(), wanted.as_bytes(), "at {script:?}");
         assert_eq!(rt; error.as_str(), told, "at {script:?}");
+    }
+    Ok(())
+}
+
+/// Lines after the first that spell nothing.
+const BAD_LINES: [&str; 53] = [
+    "0",
+    "0 7",
+    "0 7 ",
+    " 0 7 create 0",
+    "0  7 create 0",
+    "0 7 create 0 ",
+    "0 7 create 0\r",
+    "18446744073709551616 7 create 0",
+    "0 4294967295 create 0",
+    "0 7 Create 0",
+    "0 7 create",
+    "0 7 create 0 0",
+    "0 7 create 00",
+    "0 7 create +1",
+    "0 7 create 16",
+    "0 7 delete",
+    "0 7 delete 7.0",
+    "0 7 delete 7.0.0",
+    "0 7 delete 7.0.65536",
+    "0 7 delete 7.16.1",
+    "0 7 delete 4294967295.0.1",
+    "0 7 delete 7.0.1.1",
+    "0 7 delete 7.0.1 at 0",
+    "0 7 read 7.0.1 0",
+    "0 7 read 7.0.1 0 4294967296",
+    "0 7 read 7.0.1 4294967296 1",
+    "0 7 read 7.0.1 0 1 0",
+    "0 7 read 7.0.1 0 1 at",
+    "0 7 read 7.0.1 0 1 At 0",
+    "0 7 read 7.0.1 0 1 at 18446744073709551616",
+    "0 7 read 7.0.1 0 1 at 0 0",
+    "0 7 read 7.0.1 0 at 0",
+    "0 7 write 7.0.1 0",
+    "0 7 write 7.0.1 0 ",
+    "0 7 write 7.0.1 0 abc",
+    "0 7 write 7.0.1 0 EMPTY",
+    "0 7 write 7.0.1 0 61 at 0",
+    "0 7 append 7.0.1",
+    "0 7 append 7.0.1 6g",
+    "0 7 append 7.0.1 0 61",
+    "0 7 truncate 7.0.1",
+    "0 7 truncate 7.0.1 4294967296",
+    "0 7 truncate 7.0.1 1 at 0",
+    "0 7 getattr",
+    "0 7 getattr 7.0.1 0",
+    "0 7 getattr 7.0.1 at",
+    "0 7 getattr 7.0.1 at -1",
+    "0 7 setattr 7.0.1",
+    "0 7 setattr 7.0.1 6",
+    "0 7 setattr 7.0.1 61 at 0",
+    "0 7 setacl 7.0.1 9 1",
+    "sweep 1",
+    "used",
+];
+
+#[test]
+fn bad_lines(rt: HostRuntime) {
+    let alloc = rt.alloc();
+    for line in BAD_LINES {
+        let parsed = parse_line(alloc, line.as_bytes());
+        assert_eq!(rt; parsed, Err(ParseError::Bad), "at {line}");
+    }
+}
+
+#[test]
+fn long_bytes(rt: HostRuntime) -> Result<(), Fail> {
+    let alloc = rt.alloc();
+    for (verb, count, wanted) in [
+        ("append", 4096, "made 7.0.1\ndone\n"),
+        ("append", 4097, "made 7.0.1\ntoo-long\n"),
+        ("setattr", 256, "made 7.0.1\ndone\n"),
+        ("setattr", 257, "made 7.0.1\ntoo-long\n"),
+    ] {
+        let bytes = "61".repeat(alloc, count)?;
+        let script = format!(in alloc; "window 9\n0 7 create 0\n0 7 {verb} 7.0.1 {bytes}\n")?;
+        let (output, _) = written(alloc, script.as_bytes())?;
+        assert_eq!(rt; output.as_slice(), wanted.as_bytes(), "{verb} {count}");
     }
     Ok(())
 }
@@ -344,6 +417,20 @@ fn texts_of_replies(rt: HostRuntime) -> Result<(), Fail> {
             },
             "data empty by 15 since 18446744073709551615",
         ),
+        (
+            Reply::Attr {
+                grant: Grant::Entry { index: 15, since },
+                bytes: Bytes::new(vec![in alloc; 171]?),
+            },
+            "attr ab by 15 since 18446744073709551615",
+        ),
+        (
+            Reply::Attr {
+                grant: Grant::Admin,
+                bytes: Bytes::new(Vec::new(alloc)),
+            },
+            "attr empty by admin",
+        ),
         (Reply::Refused(Refusal::Denied(Right::Read)), "denied read"),
         (
             Reply::Refused(Refusal::Denied(Right::Write)),
@@ -366,6 +453,7 @@ fn texts_of_replies(rt: HostRuntime) -> Result<(), Fail> {
             "denied admin",
         ),
         (Reply::Refused(Refusal::NoObject), "no-object"),
+        (Reply::Refused(Refusal::Future), "future"),
         (Reply::Refused(Refusal::TooLong), "too-long"),
         (Reply::Refused(Refusal::NamesSpent), "names-spent"),
         (Reply::Refused(Refusal::NoMemory), "no-memory"),

@@ -26,6 +26,15 @@ pub fn moment(word: &str) -> Result<Moment, ParseError> {
     Ok(Moment::new(number(word)?))
 }
 
+/// The moment that the words name, as `at 9`, or none where there are no words.
+pub fn at(words: &[&str]) -> Result<Option<Moment>, ParseError> {
+    match words {
+        [] => Ok(None),
+        ["at", tick] => Ok(Some(moment(tick)?)),
+        _ => Err(ParseError::Bad),
+    }
+}
+
 pub fn principal(word: &str) -> Result<Principal, ParseError> {
     Principal::new(number(word)?).ok_or(ParseError::Bad)
 }
