@@ -111,10 +111,10 @@ module _ (h : List Record) (r : Record) (o : ObjectId) (about : (p : Purse) → 
       put-here =
           let next : versions track o (h ++ r ∷ []) ≡ model.begun r.moment (f live.newest.value) ∷ model.ended r.moment live.newest ∷ live.past
           = effected track o (undeleted o)
-            ∙ ap (λ b. cond b (with_effect r.moment (track.effect o r.request) (versions track o h)) (versions track o h)) (purse_self o.purse)
-            ∙ ap (λ effect. with_effect r.moment effect (versions track o h)) (λ i old. does o old i)
-            ∙ ap (λ b. with_effect r.moment (λ old. when b (f old)) (versions track o h)) (object_self o)
-            ∙ ap (with_effect r.moment (λ old. Some (f old))) live.whole in
+          ∙ ap (λ b. cond b (with_effect r.moment (track.effect o r.request) (versions track o h)) (versions track o h)) (purse_self o.purse)
+          ∙ ap (λ effect. with_effect r.moment effect (versions track o h)) (λ i old. does o old i)
+          ∙ ap (λ b. with_effect r.moment (λ old. when b (f old)) (versions track o h)) (object_self o)
+          ∙ ap (with_effect r.moment (λ old. Some (f old))) live.whole in
           ap (laid track wrap) next ∙ laid-put track wrap cost r.moment (f live.newest.value) live.newest live.past live.current
           ∙ ap (λ values. with_put r.moment (wrap (f live.newest.value)) (laid track wrap values)) (sym live.whole)
 

@@ -219,7 +219,7 @@ data-fit base h t caller (Append p bytes) o e old new f is fits =
     let rest : Result Reply Refusal = refuse_if (nat_lt 4096 (length (data_of p t h) + length bytes)) TooLong >> Ok Done in
     let short : nat_lt 4096 (length (data_of p t h) + length bytes) ≡ false
     = (passes_test (nat_lt 4096 (length (data_of p t h) + length bytes)) TooLong (Ok Done)
-      (passes_judgement (judge h t caller p right.Write None) rest (passes_test (nat_lt 4096 (length bytes)) TooLong (judge h t caller p right.Write None >> rest) e).1).1).0 in
+    (passes_judgement (judge h t caller p right.Write None) rest (passes_test (nat_lt 4096 (length bytes)) TooLong (judge h t caller p right.Write None >> rest) e).1).1).0 in
     let both' = some-when (same_object p o) (old ++ bytes) new f in
     let same : length old ≡ length (data_of p t h) = ap length is ∙ ap (λ q. length (data_of q t h)) (sym (object_is p o both'.0)) in
     let low : length (data_of p t h) + length bytes ≤ 4096 = grind arith in

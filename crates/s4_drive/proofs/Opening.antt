@@ -117,7 +117,7 @@ module _ {chains new : Chains Version} {k : Kept} (p : Opens chains new k) where
         ∙ ap (λ vs. vs ++ begun t (item.Attr attributes) ∷ []) (ap (λ m. items_of m k.attributes.chain) e ∙ items_elsewhere new k.data.chain k.attributes.chain _ attributes_apart ∙ new_empty which.Attributes) ∙ ap (λ x. begun t (item.Attr x) ∷ []) no_attributes
     first_items which.Acl = ap (λ m. items_of m k.acl.chain) g ∙ items_here b k.acl.chain _
         ∙ ap (λ vs. vs ++ begun t (item.Acl acl) ∷ []) (ap (λ m. items_of m k.acl.chain) f ∙ items_elsewhere a k.attributes.chain k.acl.chain _ (turned _ _ acl_apart_too)
-          ∙ ap (λ m. items_of m k.acl.chain) e ∙ items_elsewhere new k.data.chain k.acl.chain _ (turned _ _ acl_apart) ∙ new_empty which.Acl)
+        ∙ ap (λ m. items_of m k.acl.chain) e ∙ items_elsewhere new k.data.chain k.acl.chain _ (turned _ _ acl_apart) ∙ new_empty which.Acl)
         ∙ ap (λ x. begun t (item.Acl x) ∷ []) one_entry
 
     pub begins : Begins chains c k t creator

@@ -74,7 +74,7 @@ current-laid track wrap Fits true false last t (v ∷ past) l s =
     ap endless (newest-snoc (laid track wrap past) (version_of track wrap v))
     ∙ ap (λ e. if is_some e then None else Some (version_of track wrap v)) s.current
     ∙ sym (ap (λ b. option_map (version_of track wrap) (if b then (if is_by t v.end then None else Some v) else held_by t past)) begun
-      ∙ ap (λ e. option_map (version_of track wrap) (if is_by t e then None else Some v)) s.current)
+    ∙ ap (λ e. option_map (version_of track wrap) (if is_by t e then None else Some v)) s.current)
 current-laid track wrap Fits true true last t (v ∷ past) l s =
     let low : v.begin ≤ last = s.begun in
     let begun : nat_le v.begin t ≡ true = grind arith in
@@ -83,8 +83,8 @@ current-laid track wrap Fits true true last t (v ∷ past) l s =
     ap endless (newest-snoc (laid track wrap past) (version_of track wrap v))
     ∙ ap (λ e. if is_some e then None else Some (version_of track wrap v)) s.ended
     ∙ sym (ap (λ b. option_map (version_of track wrap) (if b then (if is_by t v.end then None else Some v) else held_by t past)) begun
-      ∙ ap (λ e. option_map (version_of track wrap) (if is_by t e then None else Some v)) s.ended
-      ∙ ap (λ b. option_map (version_of track wrap) (if b then None else Some v)) over)
+    ∙ ap (λ e. option_map (version_of track wrap) (if is_by t e then None else Some v)) s.ended
+    ∙ ap (λ b. option_map (version_of track wrap) (if b then None else Some v)) over)
 
 -- the data in force from the last moment on are the newest value
 pub data-in-force : {h : List Record} → IsSound h → (o : ObjectId) (t : ℕ) → last_of h ≤ t → lives_at t o h ≡ true → (v : Value (List ℕ)) (past : List (Value (List ℕ))) → versions data_track o h ≡ v ∷ past → v.value ≡ data_of o t h
@@ -116,11 +116,11 @@ module _ {chains : Chains Version} {found : ObjectId → Option Kept} {serials :
       shape-of w = let stands : TrackStands DataFits o h (versions data_track o h) = s.sound.tracks o which.Data in stands.shape
   held-now t l which.Attributes = ap current_of (s.tracks o which.Attributes)
       ∙ current-laid attribute_track item.Attr AttributesFit (was_made o h) (was_deleted o h) (last_of h) t (versions attribute_track o h) l
-        (let stands : TrackStands AttributesFit o h (versions attribute_track o h) = s.sound.tracks o which.Attributes in stands.shape)
+      (let stands : TrackStands AttributesFit o h (versions attribute_track o h) = s.sound.tracks o which.Attributes in stands.shape)
       ∙ ap (option_map (version_of attribute_track item.Attr)) (sym (value_at-held attribute_track AttributesFit o h t (s.sound.tracks o which.Attributes)))
   held-now t l which.Acl = ap current_of (s.tracks o which.Acl)
       ∙ current-laid acl_track item.Acl AclFits (was_made o h) (was_deleted o h) (last_of h) t (versions acl_track o h) l
-        (let stands : TrackStands AclFits o h (versions acl_track o h) = s.sound.tracks o which.Acl in stands.shape)
+      (let stands : TrackStands AclFits o h (versions acl_track o h) = s.sound.tracks o which.Acl in stands.shape)
       ∙ ap (option_map (version_of acl_track item.Acl)) (sym (value_at-held acl_track AclFits o h t (s.sound.tracks o which.Acl)))
 
   -- the same, where the object is kept or isn't

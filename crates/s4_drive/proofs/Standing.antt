@@ -120,11 +120,11 @@ module _ {chains : Chains Version} {found : ObjectId → Option Kept} {serials :
       let xs : List Version = with_put r.moment item (items_of chains (chain_of w k)) in
       let is : xs ≡ with_put r.moment item (versions_on w o h) = ap (with_put r.moment item) (sym (ap (λ f. held chains f w) kept) ∙ s.tracks o w) in
       stands_on puts.makes (chained_still s.chained o k kept w xs changed) (λ q u. held_now s.chained o k kept w xs changed q u
-        ∙ by_test (same_object o q && same_which w u)
-        (λ e. let parts = both (same_object o q) (same_which w u) e in
-        let same : with_put r.moment item (versions_on w o h) ≡ with_put r.moment item (versions_on u q h) = ap (λ x. with_put r.moment item (versions_on w x h)) (object_is o q parts.0) ∙ ap (λ v. with_put r.moment item (versions_on v q h)) (which_is w u parts.1) in
-        ap (λ b. if b then xs else held chains (found q) u) e ∙ is ∙ same ∙ sym (puts.tracks q u ∙ ap (λ b. if b then with_put r.moment item (versions_on u q h) else versions_on u q h) e))
-        (λ e. ap (λ b. if b then xs else held chains (found q) u) e ∙ s.tracks q u ∙ sym (puts.tracks q u ∙ ap (λ b. if b then with_put r.moment item (versions_on u q h) else versions_on u q h) e)))
+      ∙ by_test (same_object o q && same_which w u)
+      (λ e. let parts = both (same_object o q) (same_which w u) e in
+      let same : with_put r.moment item (versions_on w o h) ≡ with_put r.moment item (versions_on u q h) = ap (λ x. with_put r.moment item (versions_on w x h)) (object_is o q parts.0) ∙ ap (λ v. with_put r.moment item (versions_on v q h)) (which_is w u parts.1) in
+      ap (λ b. if b then xs else held chains (found q) u) e ∙ is ∙ same ∙ sym (puts.tracks q u ∙ ap (λ b. if b then with_put r.moment item (versions_on u q h) else versions_on u q h) e))
+      (λ e. ap (λ b. if b then xs else held chains (found q) u) e ∙ s.tracks q u ∙ sym (puts.tracks q u ∙ ap (λ b. if b then with_put r.moment item (versions_on u q h) else versions_on u q h) e)))
 
   -- a record that ends the object
   pub stands_end : (a b new : Chains Version) (o : ObjectId) (k : Kept) → found o ≡ Some k → EndsAll h r o
@@ -138,10 +138,10 @@ module _ {chains : Chains Version} {found : ObjectId → Option Kept} {serials :
       let c2 = chained_still c1 o k kept which.Attributes _ f in
       let c3 = chained_still c2 o k kept which.Acl _ g in
       stands_on over.makes c3 (λ q u. by_test (same_object o q)
-        (λ same. subst (λ x. held new (found x) u ≡ versions_on u x (h ++ r ∷ [])) (object_is o q same) (ended u))
-        (λ other. let not : (w : Which) → (same_object o q && same_which w u) ≡ false = λ w. ap (λ x. x && same_which w u) other in
-        held_elsewhere c2 o k kept which.Acl _ g q u (not which.Acl) ∙ held_elsewhere c1 o k kept which.Attributes _ f q u (not which.Attributes) ∙ held_elsewhere s.chained o k kept which.Data _ e q u (not which.Data)
-        ∙ s.tracks q u ∙ sym (over.tracks q u ∙ ap (λ x. if x then with_end t (versions_on u q h) else versions_on u q h) other)))
+      (λ same. subst (λ x. held new (found x) u ≡ versions_on u x (h ++ r ∷ [])) (object_is o q same) (ended u))
+      (λ other. let not : (w : Which) → (same_object o q && same_which w u) ≡ false = λ w. ap (λ x. x && same_which w u) other in
+      held_elsewhere c2 o k kept which.Acl _ g q u (not which.Acl) ∙ held_elsewhere c1 o k kept which.Attributes _ f q u (not which.Attributes) ∙ held_elsewhere s.chained o k kept which.Data _ e q u (not which.Data)
+      ∙ s.tracks q u ∙ sym (over.tracks q u ∙ ap (λ x. if x then with_end t (versions_on u q h) else versions_on u q h) other)))
     where
       t : ℕ
       t = r.moment
@@ -171,7 +171,7 @@ module _ {chains : Chains Version} {found : ObjectId → Option Kept} {serials :
           ∙ ap (with_end r.moment) (sym (items-is a which.Attributes) ∙ held_elsewhere s.chained o k kept which.Data _ e o which.Attributes (other-track which.Data which.Attributes refl) ∙ items-is chains which.Attributes ∙ here which.Attributes) ∙ sym (over-is which.Attributes)
       ended which.Acl = held_here c2 o k kept which.Acl _ g
           ∙ ap (with_end r.moment) (sym (items-is b which.Acl) ∙ held_elsewhere c1 o k kept which.Attributes _ f o which.Acl (other-track which.Attributes which.Acl refl)
-            ∙ held_elsewhere s.chained o k kept which.Data _ e o which.Acl (other-track which.Data which.Acl refl) ∙ items-is chains which.Acl ∙ here which.Acl) ∙ sym (over-is which.Acl)
+          ∙ held_elsewhere s.chained o k kept which.Data _ e o which.Acl (other-track which.Data which.Acl refl) ∙ items-is chains which.Acl ∙ here which.Acl) ∙ sym (over-is which.Acl)
 
 -- A RECORD THAT MAKES AN OBJECT
 
@@ -216,12 +216,12 @@ module _ {chains : Chains Version} {found : ObjectId → Option Kept} {serials :
           (λ e. b.still (chain_of w l) (s.chained.opened q l w (sym (there q e) ∙ got)));
       apart = λ p q l n w u got gots same. by_test (same_object o p)
           (λ e. let is : k ≡ l = some_is k l (sym (here p e) ∙ got) in by_test (same_object o q)
-            (λ f. let are : k ≡ n = some_is k n (sym (here q f) ∙ gots) in
-            (sym (object_is o p e) ∙ object_is o q f, b.apart w u (ap (chain_of w) is ∙ same ∙ ap (chain_of u) (sym are))))
-            (λ f. strange q n w u (sym (there q f) ∙ gots) (sym same ∙ ap (chain_of w) (sym is))))
+          (λ f. let are : k ≡ n = some_is k n (sym (here q f) ∙ gots) in
+          (sym (object_is o p e) ∙ object_is o q f, b.apart w u (ap (chain_of w) is ∙ same ∙ ap (chain_of u) (sym are))))
+          (λ f. strange q n w u (sym (there q f) ∙ gots) (sym same ∙ ap (chain_of w) (sym is))))
           (λ e. by_test (same_object o q)
-            (λ f. let are : k ≡ n = some_is k n (sym (here q f) ∙ gots) in strange p l u w (sym (there p e) ∙ got) (same ∙ ap (chain_of u) (sym are)))
-            (λ f. s.chained.apart p q l n w u (sym (there p e) ∙ got) (sym (there q f) ∙ gots) same));
+          (λ f. let are : k ≡ n = some_is k n (sym (here q f) ∙ gots) in strange p l u w (sym (there p e) ∙ got) (same ∙ ap (chain_of u) (sym are)))
+          (λ f. s.chained.apart p q l n w u (sym (there p e) ∙ got) (sym (there q f) ∙ gots) same));
     }
 
     made-track : (w : Which) → first_on w r.moment o.purse.creator ∷ [] ≡ versions_on w o (h ++ r ∷ [])

@@ -17,7 +17,8 @@ use crate::parts::Parts;
 use crate::read::copied;
 use s4_store::Store;
 use s4_types::{
-    Bytes, Caller, Item, Moment, NoMemory, ObjectId, Record, Refusal, Reply, Request, Right, Version,
+    Bytes, Caller, Item, Moment, NoMemory, ObjectId, Record, Refusal, Reply, Request, Right,
+    Version,
 };
 use std::alloc::Global;
 

@@ -21,3 +21,6 @@ mod write;
 
 pub use drive::Drive;
 pub use moments::never_down;
+
+#[cfg(test)]
+mod tests;

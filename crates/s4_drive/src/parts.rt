@@ -18,9 +18,7 @@ use crate::values::{bytes_of, held_of};
 use s4_names::Names;
 use s4_store::Store;
 use s4_tracks::Track;
-use s4_types::{
-    Caller, Grant, Moment, ObjectId, Purse, Record, Refusal, Right, Serial, Version,
-};
+use s4_types::{Caller, Grant, Moment, ObjectId, Purse, Record, Refusal, Right, Serial, Version};
 use std::collections::BTreeMap;
 
 /// The window at the opening, the values, the objects by their names, the serials drawn, and all
@@ -62,12 +60,7 @@ impl<S: Store<Version>> Parts<S> {
     }
 
     /// The version in force on one of an object's tracks, now or at a moment.
-    pub fn version(
-        &self,
-        object: &ObjectId,
-        which: Which,
-        at: Option<Moment>,
-    ) -> Option<&Version>
+    pub fn version(&self, object: &ObjectId, which: Which, at: Option<Moment>) -> Option<&Version>
         requires { IsKept S.chains self.now }
         ensures { (t : ℕ) → last_of self.now.history.items ≤ t → option_copied result ≡ version_at which object.now (moment_of t at) self.now.history.items }
     {

@@ -13,7 +13,7 @@ use s4_types::{Bytes, Caller, Moment, ObjectId, Refusal, Reply, Right, Version};
 use std::alloc::Global;
 
 /// The bytes from the offset on, at most so many.
-pub fn range_of(bytes: &[u8], offset: u32, length: u32) -> &[u8]
+pub fn bytes_in_range(bytes: &[u8], offset: u32, length: u32) -> &[u8]
     ensures { result.now ≡ take length (drop offset bytes.now) }
 {
     let from = (offset as usize).min(bytes.len());
@@ -44,7 +44,7 @@ pub fn outcome<S: Store<Version>>(
 {
     timely(moment, range.at)?;
     let grant = parts.judge(caller, object, Right::Read, range.at)?;
-    let data = range_of(parts.data(object, range.at), range.offset, range.length);
+    let data = bytes_in_range(parts.data(object, range.at), range.offset, range.length);
     let bytes = copied(alloc, data)?;
     Ok(Reply::Data { grant, bytes })
 }

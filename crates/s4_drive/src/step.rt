@@ -86,7 +86,8 @@ fn outcome<S: Store<Version>>(
     }
 }
 
-/// Brings what is kept to where the record leaves it. Every growth comes before any change.
+/// Brings what is kept to where the record leaves it. Every growth comes before any change that a
+/// call tells; chains that were opened in vain are closed again.
 pub fn apply<S: Store<Version>>(
     alloc: Global,
     parts: &mut Parts<S>,

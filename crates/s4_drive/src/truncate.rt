@@ -15,7 +15,8 @@ use crate::objects::Which;
 use crate::parts::Parts;
 use s4_store::Store;
 use s4_types::{
-    Bytes, Caller, Item, Moment, NoMemory, ObjectId, Record, Refusal, Reply, Request, Right, Version,
+    Bytes, Caller, Item, Moment, NoMemory, ObjectId, Record, Refusal, Reply, Request, Right,
+    Version,
 };
 use std::alloc::Global;
 

@@ -12,10 +12,12 @@ pub fn bytes_of(version: Option<&Version>) -> &[u8]
     ensures { result.now ≡ bytes_in (option_copied version.entry) }
 {
     match version {
-        Some(Version {
-            item: Some(Item::Data(bytes) | Item::Attr(bytes)),
-            ..
-        }) => bytes.as_slice(),
+        Some(
+            Version {
+                item: Some(Item::Data(bytes) | Item::Attr(bytes)),
+                ..
+            },
+        ) => bytes.as_slice(),
         _ => &[],
     }
 }
@@ -25,11 +27,13 @@ pub fn held_of(version: Option<&Version>) -> Option<Held<'_>>
     ensures { shown_held result ≡ held_in (option_copied version.entry) }
 {
     match version {
-        Some(Version {
-            begin,
-            item: Some(Item::Acl(acl)),
-            ..
-        }) => Some(Held { acl, since: *begin }),
+        Some(
+            Version {
+                begin,
+                item: Some(Item::Acl(acl)),
+                ..
+            },
+        ) => Some(Held { acl, since: *begin }),
         _ => None,
     }
 }

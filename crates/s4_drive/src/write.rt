@@ -15,7 +15,8 @@ use crate::objects::Which;
 use crate::parts::Parts;
 use s4_store::Store;
 use s4_types::{
-    Bytes, Caller, Item, Moment, NoMemory, ObjectId, Record, Refusal, Reply, Request, Right, Version,
+    Bytes, Caller, Item, Moment, NoMemory, ObjectId, Record, Refusal, Reply, Request, Right,
+    Version,
 };
 use std::alloc::Global;
 
@@ -41,12 +42,7 @@ pub fn outcome<S: Store<Version>>(
 }
 
 /// The bytes that a write leaves: a gap before them is zeros.
-pub fn written(
-    alloc: Global,
-    old: &[u8],
-    offset: usize,
-    bytes: &[u8],
-) -> Result<Vec<u8>, NoMemory>
+pub fn written(alloc: Global, old: &[u8], offset: usize, bytes: &[u8]) -> Result<Vec<u8>, NoMemory>
     requires { offset + length bytes.now ≤ 4096 }
     ensures { IfOk result (λ new. new.items ≡ written_of offset bytes.now old.now) }
 {

@@ -60,7 +60,7 @@ impl Names {
         self.drawn.get(purse).copied().unwrap_or(0)
     }
 
-    /// Makes room for the purse's next serial, whatever is drawn from others.
+    /// Makes room for the purse's next serial.
     pub fn reserve(&mut self, purse: &Purse) -> Result<(), NoMemory>
         ensures drawn { (p : Purse) → drawn_in self.new p ≡ drawn_in self.old p }
         ensures room { OnOk result (HasRoom self.new purse.now) }

@@ -1,5 +1,5 @@
-//! A store that is one vector of items, each with its chain. Every call looks through the whole
-//! vector: it is slow, and simple enough to stand in for a faster store.
+//! A store that is one vector of items, each with its chain. To find an item it looks through the
+//! whole vector: it is slow, and simple enough to stand in for a faster store.
 
 ghost use Rattle.s4_store.specs.Plain.{items_in, all_open, IsPlace};
 ghost use Rattle.std.specs.Prelude.{◌≡◌, ◌+◌, ◌<◌, ◌≤◌, ◌==◌, true, false, length, Some, slice_get, IfSome, IfNone, count_by, vec_len, vec_capacity};

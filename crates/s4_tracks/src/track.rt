@@ -63,8 +63,7 @@ impl Track {
         store.push(self.chain, begun);
     }
 
-    /// Ends the current value, if there is one, at a moment that isn't below its begin. Takes no
-    /// memory.
+    /// Ends the current value, if there is one. Takes no memory.
     pub fn end<S: Store<Version>>(&self, store: &mut S, moment: Moment)
         requires { IsOpen (S.chains store.old) self.now.chain }
         ensures chains { S.chains store.new ≡ finmap.insert (S.chains store.old) self.now.chain (with_end moment (items_of (S.chains store.old) self.now.chain)) }

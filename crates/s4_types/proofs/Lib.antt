@@ -2,5 +2,6 @@ pub mod Booleans
 pub mod SameNames
 pub mod Snoc
 pub mod Tests
+pub mod Examples
 pub mod OfPurse
 pub mod Applying

@@ -9,7 +9,7 @@ ghost use Rattle.s4_types.specs.Applied.{applied, InOrder, AgreeOn};
 ghost use Rattle.s4_types.specs.Answer.{drawn};
 ghost use Rattle.s4_types.specs.Versions.{lives_at, versions, value_at, data_track, attribute_track, acl_track};
 
-/// The value in force at a moment is what the accepted changes up to that moment leave, applied in
+/// Where an object lives, the value in force at a moment is what the accepted changes up to that moment leave, applied in
 /// the order of the list, in every history whose moments never go down (docs/MODEL.md, "Tracks").
 pub fn values_are_applied_in_order()
     ensures data_track { (o : ObjectId) (m : ℕ) (h : List Record) → InOrder 0 h → lives_at m o h ≡ true

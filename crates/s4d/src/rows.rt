@@ -12,7 +12,7 @@ pub struct Row {
     pub error: &'static str,
 }
 
-pub const ROWS: [Row; 12] = [
+pub const ROWS: [Row; 13] = [
     EMPTY_SCRIPT,
     FIRST_REQUESTS,
     THREE_CALLS_AT_FIVE,
@@ -20,6 +20,7 @@ pub const ROWS: [Row; 12] = [
     SIZES_FIRST_WITHOUT_APPEND,
     FIRST_MOMENTS,
     HISTORIES_OF_DATA,
+    READS_AT_A_MOMENT,
     SIZES_FIRST,
     STRANGER_LEARNS_NOTHING,
     FAULT_FIRST_LINE,
@@ -140,6 +141,35 @@ const HISTORIES_OF_DATA: Row = Row {
              attr empty by 0 since 1\n\
              no-object\n\
              made 7.0.2\n",
+    error: "",
+};
+
+/// What an object was is still read after it was deleted. docs/SCRIPTS.md has it as an example.
+const READS_AT_A_MOMENT: Row = Row {
+    name: "reads_at_a_moment",
+    script: "window 100\n\
+             5 7 create 0\n\
+             10 7 write 7.0.1 0 68656c6c6f\n\
+             20 7 truncate 7.0.1 4\n\
+             30 7 delete 7.0.1\n\
+             40 7 read 7.0.1 0 100\n\
+             40 7 read 7.0.1 0 100 at 4\n\
+             40 7 read 7.0.1 0 100 at 9\n\
+             40 7 read 7.0.1 0 100 at 10\n\
+             40 7 read 7.0.1 0 100 at 29\n\
+             40 7 read 7.0.1 0 100 at 30\n\
+             40 7 read 7.0.1 0 100 at 41\n",
+    output: "made 7.0.1\n\
+             done\n\
+             done\n\
+             done\n\
+             no-object\n\
+             no-object\n\
+             data empty by 0 since 5\n\
+             data 68656c6c6f by 0 since 5\n\
+             data 68656c6c by 0 since 5\n\
+             no-object\n\
+             future\n",
     error: "",
 };
 

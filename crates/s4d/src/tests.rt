@@ -26,27 +26,6 @@ fn written(alloc: Global, script: &[u8]) -> Result<(Vec<u8>, String), Fail> {
     }
 }
 
-#[test]
-fn rows_as_scripts(rt: HostRuntime) -> Result<(), Fail> {
-    let alloc = rt.alloc();
-    for row in ROWS {
-        let (output, error) = written(alloc, row.script.as_bytes())?;
-        assert_eq!(rt; output.as_slice(), row.output.as_bytes(), "{}", row.name);
-        assert_eq!(rt; error.as_str(), row.error, "{}", row.name);
-    }
-    Ok(())
-}
-
-#[test]
-fn serials_spent_as_script(rt: HostRuntime) -> Result<(), Fail> {
-    let alloc = rt.alloc();
-    let (script, wanted) = serials_spent(alloc)?;
-    let (output, error) = written(alloc, script.as_bytes())?;
-    assert!(rt; output.as_slice() == wanted.as_bytes());
-    assert_eq!(rt; error.as_str(), "");
-    Ok(())
-}
-
 /// The drive that a script opens, and the steps that its further lines make.
 fn parsed(alloc: Global, script: &str) -> Result<(Drive<PlainStore<Version>>, Vec<Step>), Fail> {
     let mut lines = script.lines();
@@ -79,9 +58,12 @@ fn replies_to<A: Abort>(rt: &A, alloc: Global, script: &str) -> Result<String, F
 }
 
 #[test]
-fn rows_as_runs(rt: HostRuntime) -> Result<(), Fail> {
+fn rows(rt: HostRuntime) -> Result<(), Fail> {
     let alloc = rt.alloc();
     for row in ROWS {
+        let (output, error) = written(alloc, row.script.as_bytes())?;
+        assert_eq!(rt; output.as_slice(), row.output.as_bytes(), "{}", row.name);
+        assert_eq!(rt; error.as_str(), row.error, "{}", row.name);
         if row.error.is_empty() && !row.script.is_empty() {
             let texts = replies_to(&rt, alloc, row.script)?;
             assert_eq!(rt; texts.as_str(), row.output, "{}", row.name);
@@ -91,11 +73,13 @@ fn rows_as_runs(rt: HostRuntime) -> Result<(), Fail> {
 }
 
 #[test]
-fn serials_spent_as_run(rt: HostRuntime) -> Result<(), Fail> {
+fn row_of_serials_spent(rt: HostRuntime) -> Result<(), Fail> {
     let alloc = rt.alloc();
     let (script, wanted) = serials_spent(alloc)?;
-    let texts = replies_to(&rt, alloc, &script)?;
-    assert!(rt; texts == wanted);
+    let (output, error) = written(alloc, script.as_bytes())?;
+    assert!(rt; output.as_slice() == wanted.as_bytes());
+    assert_eq!(rt; error.as_str(), "");
+    assert!(rt; replies_to(&rt, alloc, &script)? == wanted);
     Ok(())
 }
 
@@ -399,68 +383,61 @@ fn texts_of_replies(rt: HostRuntime) -> Result<(), Fail> {
         number: PurseNo::new(15).ok_or("a purse number")?,
     };
     let serial = Serial::new(65535).ok_or("a serial")?;
-    let since = Moment::new(18446744073709551615);
-    let replies = [
-        (Reply::Done, "done"),
-        (Reply::Made(ObjectId { purse, serial }), "made 7.15.65535"),
-        (
-            Reply::Data {
-                grant: Grant::Admin,
-                bytes: Bytes::new(vec![in alloc; 0, 255]?),
-            },
-            "data 00ff by admin",
-        ),
-        (
-            Reply::Data {
-                grant: Grant::Entry { index: 15, since },
-                bytes: Bytes::new(Vec::new(alloc)),
-            },
-            "data empty by 15 since 18446744073709551615",
-        ),
-        (
-            Reply::Attr {
-                grant: Grant::Entry { index: 15, since },
-                bytes: Bytes::new(vec![in alloc; 171]?),
-            },
-            "attr ab by 15 since 18446744073709551615",
-        ),
-        (
-            Reply::Attr {
-                grant: Grant::Admin,
-                bytes: Bytes::new(Vec::new(alloc)),
-            },
-            "attr empty by admin",
-        ),
-        (Reply::Refused(Refusal::Denied(Right::Read)), "denied read"),
-        (
-            Reply::Refused(Refusal::Denied(Right::Write)),
-            "denied write",
-        ),
-        (
-            Reply::Refused(Refusal::Denied(Right::Delete)),
-            "denied delete",
-        ),
-        (
-            Reply::Refused(Refusal::Denied(Right::Control)),
-            "denied control",
-        ),
-        (
-            Reply::Refused(Refusal::Denied(Right::Recover)),
-            "denied recover",
-        ),
-        (
-            Reply::Refused(Refusal::Denied(Right::Admin)),
-            "denied admin",
-        ),
-        (Reply::Refused(Refusal::NoObject), "no-object"),
-        (Reply::Refused(Refusal::Future), "future"),
-        (Reply::Refused(Refusal::TooLong), "too-long"),
-        (Reply::Refused(Refusal::NamesSpent), "names-spent"),
-        (Reply::Refused(Refusal::NoMemory), "no-memory"),
+    let made = Reply::Made(ObjectId { purse, serial });
+    let text = ReplyText(&made).to_string(alloc)?;
+    assert_eq!(rt; text.as_str(), "made 7.15.65535");
+    let text = ReplyText(&Reply::Done).to_string(alloc)?;
+    assert_eq!(rt; text.as_str(), "done");
+    Ok(())
+}
+
+#[test]
+fn texts_of_bytes(rt: HostRuntime) -> Result<(), Fail> {
+    let alloc = rt.alloc();
+    let entry = Grant::Entry {
+        index: 15,
+        since: Moment::new(18446744073709551615),
+    };
+    let cases: [(Grant, &[u8], &str); 3] = [
+        (Grant::Admin, b"\x00\xff", "00ff by admin"),
+        (Grant::Admin, b"", "empty by admin"),
+        (entry, b"\xab", "ab by 15 since 18446744073709551615"),
     ];
-    for (reply, wanted) in &replies {
-        let text = ReplyText(reply).to_string(alloc)?;
-        assert_eq!(rt; text.as_str(), *wanted);
+    for (grant, bytes, wanted) in cases {
+        let data = Reply::Data {
+            grant,
+            bytes: Bytes::new(bytes.to_vec(alloc)?),
+        };
+        let text = ReplyText(&data).to_string(alloc)?;
+        assert_eq!(rt; text.strip_prefix("data "), Some(wanted));
+        let attr = Reply::Attr {
+            grant,
+            bytes: Bytes::new(bytes.to_vec(alloc)?),
+        };
+        let text = ReplyText(&attr).to_string(alloc)?;
+        assert_eq!(rt; text.strip_prefix("attr "), Some(wanted));
+    }
+    Ok(())
+}
+
+#[test]
+fn texts_of_refusals(rt: HostRuntime) -> Result<(), Fail> {
+    let alloc = rt.alloc();
+    for (refusal, wanted) in [
+        (Refusal::Denied(Right::Read), "denied read"),
+        (Refusal::Denied(Right::Write), "denied write"),
+        (Refusal::Denied(Right::Delete), "denied delete"),
+        (Refusal::Denied(Right::Control), "denied control"),
+        (Refusal::Denied(Right::Recover), "denied recover"),
+        (Refusal::Denied(Right::Admin), "denied admin"),
+        (Refusal::NoObject, "no-object"),
+        (Refusal::Future, "future"),
+        (Refusal::TooLong, "too-long"),
+        (Refusal::NamesSpent, "names-spent"),
+        (Refusal::NoMemory, "no-memory"),
+    ] {
+        let text = ReplyText(&Reply::Refused(refusal)).to_string(alloc)?;
+        assert_eq!(rt; text.as_str(), wanted);
     }
     Ok(())
 }

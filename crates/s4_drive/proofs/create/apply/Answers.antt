@@ -21,8 +21,8 @@ returns-in-Ok-clause-ok g c =
     let is : c.unwrap-object.result ≡ o = subst (λ x. IfSome x (λ p. p ≡ o)) c.unwrap-object.ensures c.next_object.ensures.some in
     let begins : Begins (g.S.Store.chains before.store) (g.S.Store.chains c.begin.new.store) k r.moment o.purse.creator
     = subst (λ m. Begins m (g.S.Store.chains c.begin.new.store) k r.moment o.purse.creator) c.in_ok-reserve-2.ensures.chains
-      (subst (λ (x : ObjectId). Begins (g.S.Store.chains c.reserve-2.new.self) (g.S.Store.chains c.begin.new.store) k r.moment x.purse.creator) is
-      (c.begin.ensures (g.S.Store.chains c.reserve-2.new.self) c.in_ok-kept.ensures.ok)) in
+    (subst (λ (x : ObjectId). Begins (g.S.Store.chains c.reserve-2.new.self) (g.S.Store.chains c.begin.new.store) k r.moment x.purse.creator) is
+    (c.begin.ensures (g.S.Store.chains c.reserve-2.new.self) c.in_ok-kept.ensures.ok)) in
     let drawn : (p : Purse) → drawn_in c.draw-drawn.new.self p ≡ (if same_purse o.purse p then drawn_in c.reserve.new.self o.purse + 1 else drawn_in c.reserve.new.self p)
     = subst (λ x. OnOk x ((p : Purse) → drawn_in c.draw-drawn.new.self p ≡ (if same_purse o.purse p then drawn_in c.reserve.new.self o.purse + 1 else drawn_in c.reserve.new.self p))) c.unwrap.ensures c.draw-drawn.ensures.drawn in
     stands_made c.requires.kept r c.requires.sound o (create_makes c.requires.next c.requires.granted c.args.number c.requires.asked) begins
