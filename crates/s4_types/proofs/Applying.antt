@@ -131,8 +131,8 @@ module _ {V : Type 0} (track : Track V) (keeps : KeepsDeleted track) (o : Object
       let by' : all_by r.moment values ≡ true = all_by-up from r.moment values below e in
       applies-from h r.moment (versions_after track o values r) order.1 (after-by values r by')
       ∙ ap (λ x. fold (applied_after track o m) x h) (by_test (nat_le r.moment m)
-        (λ early. early-change r early values by' ∙ sym (ap (λ b. if concerns o.purse r && b then applied_to track o r (found values) else found values) early ∙ ap (λ b. if b then applied_to track o r (found values) else found values) (Rattle.s4_types.proofs.Booleans.&&-true (concerns o.purse r))))
-        (λ late. late-change r late values ∙ sym (ap (λ b. if concerns o.purse r && b then applied_to track o r (found values) else found values) late ∙ ap (λ b. if b then applied_to track o r (found values) else found values) (Rattle.s4_types.proofs.Booleans.&&-false (concerns o.purse r)))))
+      (λ early. early-change r early values by' ∙ sym (ap (λ b. if concerns o.purse r && b then applied_to track o r (found values) else found values) early ∙ ap (λ b. if b then applied_to track o r (found values) else found values) (Rattle.s4_types.proofs.Booleans.&&-true (concerns o.purse r))))
+      (λ late. late-change r late values ∙ sym (ap (λ b. if concerns o.purse r && b then applied_to track o r (found values) else found values) late ∙ ap (λ b. if b then applied_to track o r (found values) else found values) (Rattle.s4_types.proofs.Booleans.&&-false (concerns o.purse r)))))
 
   pub value_at-applied : (h : List Record) → InOrder 0 h → lives_at m o h ≡ true → option_map (λ v. v.value) (value_at track o m h) ≡ applied track o m h
   value_at-applied h order lives = ap (λ b. option_map (λ (v : Value V). v.value) (cond b (find (λ v. nat_le v.begin m) (versions track o h)) None)) lives ∙ applies-from h 0 [] order refl

@@ -18,8 +18,7 @@ pub fn values_are_applied_in_order()
         → option_map (λ v. v.value) (value_at attribute_track o m h) ≡ applied attribute_track o m h }
     ensures acl_track { (o : ObjectId) (m : ℕ) (h : List Record) → InOrder 0 h → lives_at m o h ≡ true
         → option_map (λ v. v.value) (value_at acl_track o m h) ≡ applied acl_track o m h }
-{
-}
+{}
 
 /// The life and the values of a purse's objects, and the purse's serials, depend on the records
 /// that concern the purse, and on no others (docs/MODEL.md, "Kinds").
@@ -33,5 +32,4 @@ pub fn purses_depend_on_their_records()
     ensures acl_track { (purse : Purse) (serial : ℕ) (h k : List Record) → AgreeOn purse h k
         → versions acl_track (record { purse = purse; serial = serial }) h ≡ versions acl_track (record { purse = purse; serial = serial }) k }
     ensures serials { (purse : Purse) (h k : List Record) → AgreeOn purse h k → drawn purse h ≡ drawn purse k }
-{
-}
+{}
