@@ -1,6 +1,6 @@
 -- What one more record changes.
-use Rattle.std.proofs.Common.{◌≡◌, ℕ, ◌+◌, ◌-◌, ◌<◌, Bool, cond, Option, Some, List, [], ◌∷◌, ◌++◌, refl, sym, ap, ◌∙◌, arith, length, length-append, slice_get, unwrap_or}
-use Rattle.std.specs.Prelude.{◌||◌, ◌&&◌, nat_le}
+use Rattle.std.proofs.Common.{◌≡◌, ◌+◌, ◌-◌, ◌<◌, Bool, cond, Option, Some, List, [], ◌∷◌, ◌++◌, refl, ap, ◌∙◌, arith, length, length-append, slice_get, unwrap_or}
+use Rattle.std.specs.Prelude.{◌||◌, ◌&&◌}
 use Rattle.std.specs.List.{list_any, list_all}
 use Rattle.std.specs.Option.{option_map}
 use Rattle.std.proofs.lemmas.List.Sums.{fold-append}
@@ -9,9 +9,8 @@ use Rattle.std.proofs.lemmas.Option.{slice_get-get_or}
 use Rattle.std.proofs.Math.Seq.{get_or-append_seam}
 use Rattle.s4_types.specs.declared.object.Purse.{Purse}
 use Rattle.s4_types.specs.declared.object.ObjectId.{ObjectId}
-use Rattle.s4_types.specs.declared.reply.Reply.{Reply}
 use Rattle.s4_types.specs.declared.record.Record.{Record}
-use Rattle.s4_types.specs.Versions.{Track, versions, versions_after, makes, lives_at}
+use Rattle.s4_types.specs.Versions.{Track, versions, versions_after}
 use Rattle.s4_types.specs.Answer.{drawn, draws}
 use Rattle.s4_types.specs.Play.{last_of, replies}
 use Rattle.s4_types.proofs.Booleans.{||-false, &&-true}

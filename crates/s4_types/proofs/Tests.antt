@@ -1,6 +1,6 @@
 -- What a reply that is no refusal tells of the tests before it, and that no answer is want of memory.
-use Rattle.std.proofs.Common.{◌≡◌, ℕ, Bool, true, false, not, Option, Some, None, List, refl, ◌∙◌, ap}
-use Rattle.std.specs.Prelude.{Result, Ok, Err, nat_le, nat_lt, ◌+◌, length, ◌==◌, ◌||◌, cond, is_ok, take, drop}
+use Rattle.std.proofs.Common.{◌≡◌, ℕ, Bool, true, false, not, Option, Some, None, List, refl}
+use Rattle.std.specs.Prelude.{Result, Ok, Err, nat_le, nat_lt, ◌+◌, length, ◌==◌, cond, is_ok, take, drop}
 use Rattle.s4_types.specs.declared.principal.Caller.{Caller}
 use Rattle.s4_types.specs.declared.object.Purse.{Purse}
 use Rattle.s4_types.specs.declared.object.ObjectId.{ObjectId}

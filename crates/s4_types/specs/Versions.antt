@@ -1,5 +1,5 @@
 -- When an object lives, and what was in force on its tracks at which moments.
-use Rattle.std.specs.Prelude.{ℕ, Bool, true, false, not, cond, ◌+◌, ◌*◌, ◌-◌, ◌&&◌, nat_le, Option, Some, None, List, [], ◌∷◌, ◌++◌, length, take, drop, replicate, fold, find, if◌then◌else◌}
+use Rattle.std.specs.Prelude.{ℕ, Bool, false, not, cond, ◌+◌, ◌*◌, ◌-◌, ◌&&◌, nat_le, Option, Some, None, List, [], ◌∷◌, ◌++◌, length, take, drop, replicate, fold, find, if◌then◌else◌}
 use Rattle.std.specs.List.{list_any}
 use Rattle.s4_types.specs.declared.object.ObjectId.{ObjectId}
 use Rattle.s4_types.specs.declared.acl.AclEntry.{AclEntry}
