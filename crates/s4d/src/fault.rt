@@ -1,5 +1,9 @@
 //! What ends the program without success.
 
+ghost use Rattle.std.specs.Prelude.{◌≡◌};
+ghost use Rattle.s4d.specs.declared.fault.Fault.TheVariants as fault;
+ghost use Rattle.s4d.specs.declared.fault.ParseError.TheVariants as parse_error;
+
 use std::alloc::{AllocError, AllocFailed};
 use std::io::ErrorKind;
 use std::{fmt, io};
@@ -49,13 +53,17 @@ impl Fault {
 }
 
 impl From<AllocError> for Fault {
-    fn from(_: AllocError) -> Fault {
+    fn from(_: AllocError) -> Fault
+        ensures { result ≡ fault.NoMemory }
+    {
         Fault::NoMemory
     }
 }
 
 impl<T: Drop> From<AllocFailed<T>> for Fault {
-    fn from(_: AllocFailed<T>) -> Fault {
+    fn from(_: AllocFailed<T>) -> Fault
+        ensures { result ≡ fault.NoMemory }
+    {
         Fault::NoMemory
     }
 }
@@ -89,7 +97,9 @@ impl ParseError {
 }
 
 impl From<AllocError> for ParseError {
-    fn from(_: AllocError) -> ParseError {
+    fn from(_: AllocError) -> ParseError
+        ensures { result ≡ parse_error.NoMemory }
+    {
         ParseError::NoMemory
     }
 }
