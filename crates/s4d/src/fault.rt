@@ -1,34 +1,32 @@
 //! What ends the program without success.
 
-ghost use Rattle.std.specs.Prelude.{◌≡◌};
+ghost use Rattle.std.specs.Prelude.{◌≡◌, ◌≢◌, ◌++◌, Some, codes};
+ghost use Rattle.std.specs.IoError.{error_kind};
+ghost use Rattle.s4d.specs.Faults.{exit_status, fault_of_line};
+ghost use Rattle.s4d.specs.Texts.{fault_text};
 ghost use Rattle.s4d.specs.declared.fault.Fault.TheVariants as fault;
 ghost use Rattle.s4d.specs.declared.fault.ParseError.TheVariants as parse_error;
 
 use std::alloc::{AllocError, AllocFailed};
 use std::io::ErrorKind;
 use std::{fmt, io};
-use thiserror::Error;
 
 /// Why the program ends without success. Lines count from 1.
-#[derive(Debug, PartialEq, Drop, Error)]
+#[derive(Debug, PartialEq, Drop)]
 pub enum Fault {
-    #[error("line {0}: bad line")]
     BadLine(usize),
-    #[error("line {0}: moment goes back")]
     MomentGoesBack(usize),
-    #[error("cannot read")]
     CannotRead,
-    #[error("cannot write")]
     CannotWrite,
-    #[error("no memory")]
     NoMemory,
-    #[error("{0}")]
     CommandLine(String),
 }
 
 impl Fault {
     /// What the program exits with.
-    pub fn status(&self) -> u8 {
+    pub fn status(&self) -> u8
+        ensures { result ≡ exit_status self.now }
+    {
         match self {
             Fault::CommandLine(_) => 2,
             _ => 1,
@@ -36,7 +34,10 @@ impl Fault {
     }
 
     /// The fault of an input that failed.
-    pub fn reading(error: io::Error) -> Fault {
+    pub fn reading(error: io::Error) -> Fault
+        ensures no_memory { error_kind error ≡ ErrorKind.OutOfMemory → result ≡ fault.NoMemory }
+        ensures other { error_kind error ≢ ErrorKind.OutOfMemory → result ≡ fault.CannotRead }
+    {
         match error.kind() {
             ErrorKind::OutOfMemory => Fault::NoMemory,
             _ => Fault::CannotRead,
@@ -44,10 +45,28 @@ impl Fault {
     }
 
     /// The fault of an output that failed.
-    pub fn writing(error: io::Error) -> Fault {
+    pub fn writing(error: io::Error) -> Fault
+        ensures no_memory { error_kind error ≡ ErrorKind.OutOfMemory → result ≡ fault.NoMemory }
+        ensures other { error_kind error ≢ ErrorKind.OutOfMemory → result ≡ fault.CannotWrite }
+    {
         match error.kind() {
             ErrorKind::OutOfMemory => Fault::NoMemory,
             _ => Fault::CannotWrite,
+        }
+    }
+}
+
+impl fmt::Display for Fault {
+    ghost output = { λ fault. Some (fault_text fault) };
+
+    fn fmt<W: fmt::Write>(&self, f: &mut fmt::Formatter<W>) -> fmt::Result {
+        match self {
+            Fault::BadLine(number) => write!(f, "line {number}: bad line"),
+            Fault::MomentGoesBack(number) => write!(f, "line {number}: moment goes back"),
+            Fault::CannotRead => write!(f, "cannot read"),
+            Fault::CannotWrite => write!(f, "cannot write"),
+            Fault::NoMemory => write!(f, "no memory"),
+            Fault::CommandLine(text) => write!(f, "{text}"),
         }
     }
 }
@@ -73,6 +92,8 @@ impl<T: Drop> From<AllocFailed<T>> for Fault {
 pub struct FaultText<'a>(pub &'a Fault);
 
 impl fmt::Display for FaultText<'_> {
+    ghost output = { λ t. Some (codes "s4d: " ++ fault_text t.0.now) };
+
     fn fmt<W: fmt::Write>(&self, f: &mut fmt::Formatter<W>) -> fmt::Result {
         write!(f, "s4d: {}", self.0)
     }
@@ -88,7 +109,9 @@ pub enum ParseError {
 
 impl ParseError {
     /// The fault of the line with that number.
-    pub fn at(self, number: usize) -> Fault {
+    pub fn at(self, number: usize) -> Fault
+        ensures { result ≡ fault_of_line self number }
+    {
         match self {
             ParseError::Bad => Fault::BadLine(number),
             ParseError::NoMemory => Fault::NoMemory,

@@ -1,5 +1,10 @@
 //! The texts of replies.
 
+ghost use Rattle.std.specs.Prelude.{Some};
+ghost use Rattle.std.specs.Fmt.{DisplaysOnOk};
+ghost use Rattle.hex.specs.Hex.{encode_lower};
+ghost use Rattle.s4d.specs.Texts.{bytes_text, grant_text, object_text, refusal_text, reply_text, right_text};
+
 use s4_types::{Grant, ObjectId, Refusal, Reply, Right};
 use std::fmt;
 
@@ -8,6 +13,8 @@ use std::fmt;
 pub struct ReplyText<'a>(pub &'a Reply);
 
 impl fmt::Display for ReplyText<'_> {
+    ghost output = { λ t. Some (reply_text t.0.now) };
+
     fn fmt<W: fmt::Write>(&self, f: &mut fmt::Formatter<W>) -> fmt::Result {
         match self.0 {
             Reply::Done => write!(f, "done"),
@@ -38,6 +45,8 @@ impl fmt::Display for ReplyText<'_> {
 struct ObjectText(ObjectId);
 
 impl fmt::Display for ObjectText {
+    ghost output = { λ t. Some (object_text t.0) };
+
     fn fmt<W: fmt::Write>(&self, f: &mut fmt::Formatter<W>) -> fmt::Result {
         let ObjectId { purse, serial } = self.0;
         let creator = purse.creator.number();
@@ -52,15 +61,25 @@ impl fmt::Display for ObjectText {
 struct BytesText<'a>(&'a [u8]);
 
 impl fmt::Display for BytesText<'_> {
+    ghost output = { λ t. Some (bytes_text t.0.now) };
+
     fn fmt<W: fmt::Write>(&self, f: &mut fmt::Formatter<W>) -> fmt::Result {
         if self.0.is_empty() {
-            return write!(f, "empty");
+            write!(f, "empty")
+        } else {
+            write_hexadecimal(self.0, f)
         }
-        for byte in self.0 {
-            write!(f, "{byte:02x}")?;
-        }
-        Ok(())
     }
+}
+
+/// Two hexadecimal digits a byte, in lower case.
+fn write_hexadecimal<W: fmt::Write>(bytes: &[u8], f: &mut fmt::Formatter<W>) -> fmt::Result
+    ensures { DisplaysOnOk W.write_str_gives f.old result (Some (encode_lower bytes.now)) f.new }
+{
+    for byte in bytes {
+        write!(f, "{byte:02x}")?;
+    }
+    Ok(())
 }
 
 /// Why a read was granted.
@@ -68,6 +87,8 @@ impl fmt::Display for BytesText<'_> {
 struct GrantText(Grant);
 
 impl fmt::Display for GrantText {
+    ghost output = { λ t. Some (grant_text t.0) };
+
     fn fmt<W: fmt::Write>(&self, f: &mut fmt::Formatter<W>) -> fmt::Result {
         match self.0 {
             Grant::Admin => write!(f, "by admin"),
@@ -84,6 +105,8 @@ impl fmt::Display for GrantText {
 struct RefusalText(Refusal);
 
 impl fmt::Display for RefusalText {
+    ghost output = { λ t. Some (refusal_text t.0) };
+
     fn fmt<W: fmt::Write>(&self, f: &mut fmt::Formatter<W>) -> fmt::Result {
         match self.0 {
             Refusal::Denied(right) => write!(f, "denied {}", RightText(right)),
@@ -100,6 +123,8 @@ impl fmt::Display for RefusalText {
 struct RightText(Right);
 
 impl fmt::Display for RightText {
+    ghost output = { λ t. Some (right_text t.0) };
+
     fn fmt<W: fmt::Write>(&self, f: &mut fmt::Formatter<W>) -> fmt::Result {
         match self.0 {
             Right::Read => write!(f, "read"),

@@ -1,0 +1,63 @@
+-- What the program prints of replies and faults.
+use Rattle.std.specs.Prelude.{ℕ, List, [], ◌∷◌, ◌++◌, codes, decimal, string_bytes}
+use Rattle.hex.specs.Hex.{encode_lower}
+use Rattle.s4_types.specs.declared.object.ObjectId.{ObjectId}
+use Rattle.s4_types.specs.declared.reply.Grant.{Grant}
+use Rattle.s4_types.specs.declared.reply.Grant.TheVariants as grant
+use Rattle.s4_types.specs.declared.reply.Refusal.{Refusal}
+use Rattle.s4_types.specs.declared.reply.Refusal.TheVariants as refusal
+use Rattle.s4_types.specs.declared.reply.Reply.{Reply}
+use Rattle.s4_types.specs.declared.reply.Reply.TheVariants as reply
+use Rattle.s4_types.specs.declared.rights.Right.{Right}
+use Rattle.s4_types.specs.declared.rights.Right.TheVariants as right
+use Rattle.s4d.specs.declared.fault.Fault.{Fault}
+use Rattle.s4d.specs.declared.fault.Fault.TheVariants as fault
+
+-- an object by its creator, the number of its purse and its serial, as `7.0.1`
+abbrev pub object_text : ObjectId → List ℕ
+object_text object = decimal object.purse.creator ++ codes "." ++ decimal object.purse.number ++ codes "." ++ decimal object.serial
+
+-- bytes as two hexadecimal digits each, in lower case, or the word `empty` where there are none
+abbrev pub bytes_text : List ℕ → List ℕ
+bytes_text [] = codes "empty"
+bytes_text (byte ∷ bytes) = encode_lower (byte ∷ bytes)
+
+-- why a read was granted: the index of the entry, and since when its list is in force
+abbrev pub grant_text : Grant → List ℕ
+grant_text grant.Admin = codes "by admin"
+grant_text (grant.Entry index since) = codes "by " ++ decimal index ++ codes " since " ++ decimal since
+
+-- the name of a right
+abbrev pub right_text : Right → List ℕ
+right_text right.Read = codes "read"
+right_text right.Write = codes "write"
+right_text right.Delete = codes "delete"
+right_text right.Control = codes "control"
+right_text right.Recover = codes "recover"
+right_text right.Admin = codes "admin"
+
+-- why a request was refused, and which right was wanted where one was
+abbrev pub refusal_text : Refusal → List ℕ
+refusal_text (refusal.Denied wanted) = codes "denied " ++ right_text wanted
+refusal_text refusal.NoObject = codes "no-object"
+refusal_text refusal.Future = codes "future"
+refusal_text refusal.TooLong = codes "too-long"
+refusal_text refusal.NamesSpent = codes "names-spent"
+refusal_text refusal.NoMemory = codes "no-memory"
+
+-- a reply as its line, without the end of the line
+abbrev pub reply_text : Reply → List ℕ
+reply_text reply.Done = codes "done"
+reply_text (reply.Made object) = codes "made " ++ object_text object
+reply_text (reply.Data granted bytes) = codes "data " ++ bytes_text bytes ++ codes " " ++ grant_text granted
+reply_text (reply.Attr granted bytes) = codes "attr " ++ bytes_text bytes ++ codes " " ++ grant_text granted
+reply_text (reply.Refused why) = refusal_text why
+
+-- why the program ends without success
+abbrev pub fault_text : Fault → List ℕ
+fault_text (fault.BadLine number) = codes "line " ++ decimal number ++ codes ": bad line"
+fault_text (fault.MomentGoesBack number) = codes "line " ++ decimal number ++ codes ": moment goes back"
+fault_text fault.CannotRead = codes "cannot read"
+fault_text fault.CannotWrite = codes "cannot write"
+fault_text fault.NoMemory = codes "no memory"
+fault_text (fault.CommandLine text) = string_bytes text
