@@ -1,11 +1,12 @@
 -- What an accepted request puts, ends and makes.
 use Rattle.std.proofs.Common.{◌≡◌, ℕ, ◌+◌, ◌≤◌, Bool, true, false, cond, Option, Some, None, List, [], ◌∷◌, ◌++◌, refl, sym, ◌∙◌, ap, subst}
-use Rattle.std.specs.Prelude.{◌&&◌, ◌==◌, nat_le, Result, Ok, if◌then◌else◌}
+use Rattle.std.specs.Prelude.{◌&&◌, ◌==◌, nat_le, is_ok, Result, Ok, if◌then◌else◌}
 use Rattle.s4_types.specs.declared.principal.Caller.{Caller}
 use Rattle.s4_types.specs.declared.object.Purse.{Purse}
 use Rattle.s4_types.specs.declared.object.ObjectId.{ObjectId}
+use Rattle.s4_types.specs.declared.acl.AclEntry.{AclEntry}
 use Rattle.s4_types.specs.declared.request.Request.{Request}
-use Rattle.s4_types.specs.declared.request.Request.TheVariants.{Create, Delete, Write, Append, Truncate, SetAttr}
+use Rattle.s4_types.specs.declared.request.Request.TheVariants.{Create, Delete, Write, Append, Truncate, SetAttr, SetAcl}
 use Rattle.s4_types.specs.declared.reply.Refusal.{Refusal}
 use Rattle.s4_types.specs.declared.reply.Refusal.TheVariants.{NamesSpent}
 use Rattle.s4_types.specs.declared.reply.Reply.TheVariants.{Done, Made}
@@ -19,8 +20,12 @@ use Rattle.s4_types.specs.Versions.{Track, Value, versions, with_effect, makes, 
 use Rattle.s4_types.specs.Versions as model
 use Rattle.s4_types.specs.Outcome.{◌>>◌, refuse_if, reply_of}
 use Rattle.s4_types.specs.Base.{Base}
-use Rattle.s4_types.specs.Answer.{answer, drawn, draws, data_of}
+use Rattle.s4_types.specs.Acl.{acl_with}
+use Rattle.s4_types.specs.Answer.{answer, drawn, draws, data_of, acl_of, settable}
 use Rattle.s4_types.specs.Play.{last_of}
+use Rattle.s4_types.specs.Judgement.{judge}
+use Rattle.s4_types.specs.declared.rights.Right.TheVariants as right
+use Rattle.s4_types.proofs.Tests.{passes_judgement}
 use Rattle.s4_types.proofs.Booleans.{by_test, both, not_both, &&-true, &&-false}
 use Rattle.s4_types.proofs.SameNames.{purse_self, object_self, object_is, same_purses}
 use Rattle.s4_types.proofs.Snoc.{versions-snoc}
@@ -34,7 +39,7 @@ use Rattle.s4_drive.specs.Sound.{IsSound, IsNext, IsTrack, TrackStands, DataFits
 use Rattle.s4_drive.specs.Stands.{MakesNone, PutsOn, EndsAll}
 use Rattle.s4_drive.proofs.Granting.{changed_by, changed-lives, changed-done, data-fit}
 use Rattle.s4_drive.proofs.Living.{lives_at-now}
-use Rattle.s4_drive.proofs.Reading.{data-in-force}
+use Rattle.s4_drive.proofs.Reading.{data-in-force, acl-in-force}
 use Rattle.s4_drive.proofs.Standing.{MakesOnly}
 
 either-same : {A : Type 0} (b : Bool) (x y : A) → x ≡ y → cond b x y ≡ y
@@ -192,6 +197,9 @@ module _ {base : Base} {h : List Record} {r : Record} (s : IsSound h) (n : IsNex
   current-data : live-data.newest.value ≡ data_of o r.moment h
   current-data = data-in-force s o r.moment n.later lives live-data.newest live-data.past live-data.whole
 
+  current-acl : live-acl.newest.value ≡ acl_of o r.moment h
+  current-acl = acl-in-force s o r.moment n.later lives live-acl.newest live-acl.past live-acl.whole
+
 module _ (h : List Record) (t : ℕ) (caller : Caller) (o : ObjectId) where
   abbrev done : Request → Record
   done request = record { moment = t; caller = caller; request = request; reply = Done }
@@ -199,14 +207,14 @@ module _ (h : List Record) (t : ℕ) (caller : Caller) (o : ObjectId) where
   puts-data : (request : Request) (f : List ℕ → List ℕ) (live : IsLive DataFits (versions data_track o h))
       → ((p : Purse) → concerns p (done request) ≡ same_purse o.purse p) → is_create request ≡ false → ((q : ObjectId) → is_deleted q request ≡ false)
       → ((q : ObjectId) (old : List ℕ) → model.data_effect q request old ≡ when (same_object o q) (f old))
-      → ((q : ObjectId) (old : List ℕ) → model.attribute_effect q request old ≡ None)
+      → ((q : ObjectId) (old : List ℕ) → model.attribute_effect q request old ≡ None) → ((q : ObjectId) (old : List AclEntry) → model.acl_effect q request old ≡ None)
       → PutsOn h (done request) o which.Data (item.Data (f live.newest.value))
-  puts-data request f live about kind undeleted does none = record { makes = makes-none h (done request) o about (λ q. refl) kind; tracks = tracks }
+  puts-data request f live about kind undeleted does none keeps = record { makes = makes-none h (done request) o about (λ q. refl) kind; tracks = tracks }
     where
       tracks : (q : ObjectId) (u : Which) → versions_on u q (h ++ done request ∷ []) ≡ (if same_object o q && same_which which.Data u then with_put t (item.Data (f live.newest.value)) (versions_on u q h) else versions_on u q h)
       tracks q which.Data = then-both (same_object o q) _ _ _ (put-typed h (done request) o about (λ q. refl) kind data_track item.Data (λ x. refl) live f undeleted does q)
       tracks q which.Attributes = else-both (same_object o q) _ _ _ (ap (laid attribute_track item.Attr) (idle h (done request) o about (λ q. refl) kind attribute_track q (undeleted q) (none q)))
-      tracks q which.Acl = else-both (same_object o q) _ _ _ (ap (laid acl_track item.Acl) (idle h (done request) o about (λ q. refl) kind acl_track q (undeleted q) (λ old. refl)))
+      tracks q which.Acl = else-both (same_object o q) _ _ _ (ap (laid acl_track item.Acl) (idle h (done request) o about (λ q. refl) kind acl_track q (undeleted q) (keeps q)))
 
   puts-attributes : (bytes : List ℕ) (live : IsLive AttributesFit (versions attribute_track o h)) → PutsOn h (done (SetAttr o bytes)) o which.Attributes (item.Attr bytes)
   puts-attributes bytes live = record { makes = makes-none h (done (SetAttr o bytes)) o (λ p. refl) (λ q. refl) refl; tracks = tracks }
@@ -215,6 +223,14 @@ module _ (h : List Record) (t : ℕ) (caller : Caller) (o : ObjectId) where
       tracks q which.Attributes = then-both (same_object o q) _ _ _ (put-typed h (done (SetAttr o bytes)) o (λ p. refl) (λ q. refl) refl attribute_track item.Attr (λ x. refl) live (λ old. bytes) (λ q. refl) (λ q old. refl) q)
       tracks q which.Data = else-both (same_object o q) _ _ _ (ap (laid data_track item.Data) (idle h (done (SetAttr o bytes)) o (λ p. refl) (λ q. refl) refl data_track q refl (λ old. refl)))
       tracks q which.Acl = else-both (same_object o q) _ _ _ (ap (laid acl_track item.Acl) (idle h (done (SetAttr o bytes)) o (λ p. refl) (λ q. refl) refl acl_track q refl (λ old. refl)))
+
+  puts-acl : (user rights : ℕ) (live : IsLive AclFits (versions acl_track o h)) → PutsOn h (done (SetAcl o user rights)) o which.Acl (item.Acl (acl_with user rights live.newest.value))
+  puts-acl user rights live = record { makes = makes-none h (done (SetAcl o user rights)) o (λ p. refl) (λ q. refl) refl; tracks = tracks }
+    where
+      tracks : (q : ObjectId) (u : Which) → versions_on u q (h ++ done (SetAcl o user rights) ∷ []) ≡ (if same_object o q && same_which which.Acl u then with_put t (item.Acl (acl_with user rights live.newest.value)) (versions_on u q h) else versions_on u q h)
+      tracks q which.Acl = then-both (same_object o q) _ _ _ (put-typed h (done (SetAcl o user rights)) o (λ p. refl) (λ q. refl) refl acl_track item.Acl (λ x. refl) live (acl_with user rights) (λ q. refl) (λ q old. refl) q)
+      tracks q which.Data = else-both (same_object o q) _ _ _ (ap (laid data_track item.Data) (idle h (done (SetAcl o user rights)) o (λ p. refl) (λ q. refl) refl data_track q refl (λ old. refl)))
+      tracks q which.Attributes = else-both (same_object o q) _ _ _ (ap (laid attribute_track item.Attr) (idle h (done (SetAcl o user rights)) o (λ p. refl) (λ q. refl) refl attribute_track q refl (λ old. refl)))
 
   ends-all : IsLive DataFits (versions data_track o h) → IsLive AttributesFit (versions attribute_track o h) → IsLive AclFits (versions acl_track o h) → EndsAll h (done (Delete o)) o
   ends-all a b c = record { makes = makes-none h (done (Delete o)) o (λ p. refl) (λ q. refl) refl; tracks = tracks }
@@ -230,7 +246,7 @@ module _ {base : Base} {h : List Record} {r : Record} (s : IsSound h) (n : IsNex
       let live = live-data s n granted o (Write o offset bytes) asked refl in
       subst (λ old. PutsOn h r o which.Data (item.Data (written offset bytes old))) (current-data s n granted o (Write o offset bytes) asked refl)
       (subst (λ p. PutsOn h p o which.Data (item.Data (written offset bytes live.newest.value))) (sym (is-plain s n granted o (Write o offset bytes) asked refl))
-      (puts-data h r.moment r.caller o (Write o offset bytes) (written offset bytes) live (λ p. refl) refl (λ q. refl) (λ q old. refl) (λ q old. refl)))
+      (puts-data h r.moment r.caller o (Write o offset bytes) (written offset bytes) live (λ p. refl) refl (λ q. refl) (λ q old. refl) (λ q old. refl) (λ q old. refl)))
 
   -- and what it leaves fits
   pub write_fits : (offset : ℕ) (bytes : List ℕ) → r.request ≡ Write o offset bytes → DataFits (written offset bytes (data_of o r.moment h))
@@ -245,19 +261,33 @@ module _ {base : Base} {h : List Record} {r : Record} (s : IsSound h) (n : IsNex
       let live = live-data s n granted o (Append o bytes) asked refl in
       subst (λ old. PutsOn h r o which.Data (item.Data (old ++ bytes))) (current-data s n granted o (Append o bytes) asked refl)
       (subst (λ p. PutsOn h p o which.Data (item.Data (live.newest.value ++ bytes))) (sym (is-plain s n granted o (Append o bytes) asked refl))
-      (puts-data h r.moment r.caller o (Append o bytes) (λ old. old ++ bytes) live (λ p. refl) refl (λ q. refl) (λ q old. refl) (λ q old. refl)))
+      (puts-data h r.moment r.caller o (Append o bytes) (λ old. old ++ bytes) live (λ p. refl) refl (λ q. refl) (λ q old. refl) (λ q old. refl) (λ q old. refl)))
 
   pub truncate_puts : (length : ℕ) → r.request ≡ Truncate o length → PutsOn h r o which.Data (item.Data (of_length length (data_of o r.moment h)))
   truncate_puts length asked =
       let live = live-data s n granted o (Truncate o length) asked refl in
       subst (λ old. PutsOn h r o which.Data (item.Data (of_length length old))) (current-data s n granted o (Truncate o length) asked refl)
       (subst (λ p. PutsOn h p o which.Data (item.Data (of_length length live.newest.value))) (sym (is-plain s n granted o (Truncate o length) asked refl))
-      (puts-data h r.moment r.caller o (Truncate o length) (of_length length) live (λ p. refl) refl (λ q. refl) (λ q old. refl) (λ q old. refl)))
+      (puts-data h r.moment r.caller o (Truncate o length) (of_length length) live (λ p. refl) refl (λ q. refl) (λ q old. refl) (λ q old. refl) (λ q old. refl)))
 
   pub set_attributes_puts : (bytes : List ℕ) → r.request ≡ SetAttr o bytes → PutsOn h r o which.Attributes (item.Attr bytes)
   set_attributes_puts bytes asked =
       subst (λ p. PutsOn h p o which.Attributes (item.Attr bytes)) (sym (is-plain s n granted o (SetAttr o bytes) asked refl))
       (puts-attributes h r.moment r.caller o bytes (live-attributes s n granted o (SetAttr o bytes) asked refl))
+
+  pub set_acl_puts : (user rights : ℕ) → r.request ≡ SetAcl o user rights → PutsOn h r o which.Acl (item.Acl (acl_with user rights (acl_of o r.moment h)))
+  set_acl_puts user rights asked =
+      let live = live-acl s n granted o (SetAcl o user rights) asked refl in
+      subst (λ old. PutsOn h r o which.Acl (item.Acl (acl_with user rights old))) (current-acl s n granted o (SetAcl o user rights) asked refl)
+      (subst (λ p. PutsOn h p o which.Acl (item.Acl (acl_with user rights live.newest.value))) (sym (is-plain s n granted o (SetAcl o user rights) asked refl))
+      (puts-acl h r.moment r.caller o user rights live))
+
+  -- and the ACL in force lets it
+  pub set_acl_settable : (user rights : ℕ) → r.request ≡ SetAcl o user rights → is_ok (settable user rights (acl_of o r.moment h)) ≡ true
+  set_acl_settable user rights asked =
+      (passes_judgement (settable user rights (acl_of o r.moment h)) (Ok Done)
+      (passes_judgement (judge h r.moment r.caller o right.Control None) (settable user rights (acl_of o r.moment h) >> Ok Done)
+      (sym (ap is_refused (n.answered ∙ ap (answer base h r.moment r.caller) asked)) ∙ granted)).1).0
 
   pub delete_ends : r.request ≡ Delete o → EndsAll h r o
   delete_ends asked =

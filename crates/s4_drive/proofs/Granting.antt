@@ -1,6 +1,6 @@
 -- What an accepted request tells of the object that it is about.
-use Rattle.std.proofs.Common.{◌≡◌, ℕ, ◌+◌, ◌-◌, ◌≤◌, Bool, true, false, not, cond, Option, Some, None, List, [], ◌∷◌, ◌++◌, refl, sym, ◌∙◌, ap, subst, arith, length, take, drop, length-append, length-drop}
-use Rattle.std.specs.Prelude.{◌&&◌, ◌||◌, ◌==◌, nat_le, nat_lt, is_ok, Result, Ok, Err, replicate}
+use Rattle.std.proofs.Common.{◌≡◌, ℕ, ◌+◌, ◌-◌, ◌≤◌, ◌<◌, Bool, true, false, not, cond, Option, Some, None, List, [], ◌∷◌, ◌++◌, refl, sym, ◌∙◌, ap, subst, arith, length, take, drop, length-append, length-drop}
+use Rattle.std.specs.Prelude.{◌&&◌, ◌||◌, ◌==◌, nat_le, nat_lt, is_ok, Result, Ok, Err, replicate, slice_get}
 use Rattle.std.specs.List.{find}
 use Rattle.std.specs.Option.{option_map}
 use Rattle.std.proofs.lemmas.List.{length-take, length-replicate}
@@ -11,24 +11,26 @@ use Rattle.s4_types.specs.declared.acl.AclEntry.{AclEntry}
 use Rattle.s4_types.specs.declared.rights.Right.{Right}
 use Rattle.s4_types.specs.declared.rights.Right.TheVariants as right
 use Rattle.s4_types.specs.declared.request.Request.{Request}
-use Rattle.s4_types.specs.declared.request.Request.TheVariants.{Create, Delete, Read, Write, Append, Truncate, GetAttr, SetAttr}
+use Rattle.s4_types.specs.declared.request.Request.TheVariants.{Create, Delete, Read, Write, Append, Truncate, GetAttr, SetAttr, GetAclByUser, GetAclByIndex, SetAcl}
 use Rattle.s4_types.specs.declared.reply.Grant.{Grant}
 use Rattle.s4_types.specs.declared.reply.Refusal.{Refusal}
-use Rattle.s4_types.specs.declared.reply.Refusal.TheVariants.{Future, TooLong, NamesSpent}
+use Rattle.s4_types.specs.declared.reply.Refusal.TheVariants.{Future, TooLong, AclFull, NoEntry, NamesSpent}
 use Rattle.s4_types.specs.declared.reply.Reply.{Reply}
-use Rattle.s4_types.specs.declared.reply.Reply.TheVariants.{Done, Made, Data, Attr, Refused}
+use Rattle.s4_types.specs.declared.reply.Reply.TheVariants.{Done, Made, Data, Attr, Entry, Refused}
 use Rattle.s4_types.specs.declared.record.Record.{Record}
 use Rattle.s4_types.specs.Names.{same_object, object_in}
 use Rattle.s4_types.specs.Kinds.{is_refused, is_create}
-use Rattle.s4_types.specs.Versions.{Value, versions, is_made, is_deleted, lives_at, of_length, written, when, acl_track, data_effect, attribute_effect}
-use Rattle.s4_types.specs.Judgement.{judge, judge_now, held_of}
+use Rattle.s4_types.specs.Versions.{Value, versions, is_made, is_deleted, lives_at, of_length, written, when, acl_track, data_effect, attribute_effect, acl_effect}
+use Rattle.s4_types.specs.Acl.{names, without_entry, replaced, acl_with}
+use Rattle.s4_types.specs.Judgement.{Found, entry_of, judge, judge_now, held_of}
 use Rattle.s4_types.specs.Outcome.{◌>>=◌, ◌>>◌, refuse_if, reply_of}
 use Rattle.s4_types.specs.Base.{Base}
-use Rattle.s4_types.specs.Answer.{answer, outcome, drawn, timely, moment_of, data_of, attributes_of}
+use Rattle.s4_types.specs.Answer.{answer, outcome, drawn, timely, moment_of, data_of, attributes_of, acl_of, entry_by_user, entry_by_index, settable}
 use Rattle.s4_types.proofs.Booleans.{by_test}
 use Rattle.s4_types.proofs.SameNames.{object_is}
 use Rattle.s4_types.proofs.Tests.{passes_test, passes_judgement}
-use Rattle.s4_drive.specs.Sound.{DataFits, AttributesFit}
+use Rattle.s4_types.proofs.Entries.{length-without, length-replaced}
+use Rattle.s4_drive.specs.Sound.{DataFits, AttributesFit, AclFits}
 
 -- MAKING
 
@@ -55,8 +57,17 @@ nothing-made o (Ok Done) e = refl
 nothing-made o (Ok (Made p)) e = cc
 nothing-made o (Ok (Data g bytes)) e = refl
 nothing-made o (Ok (Attr g bytes)) e = refl
+nothing-made o (Ok (Entry g index user rights)) e = refl
 nothing-made o (Ok (Refused r)) e = refl
 nothing-made o (Err r) e = refl
+
+nothing-user : (g : Grant) (user : ℕ) (found : Option Found) → makes_nothing (entry_by_user g user found) ≡ true
+nothing-user g user None = refl
+nothing-user g user (Some found) = refl
+
+nothing-index : (g : Grant) (index : ℕ) (entry : Option AclEntry) → makes_nothing (entry_by_index g index entry) ≡ true
+nothing-index g index None = refl
+nothing-index g index (Some entry) = refl
 
 pub makes_nothing-outcome : (base : Base) (h : List Record) (t : ℕ) (caller : Caller) (request : Request) → is_create request ≡ false → makes_nothing (outcome base h t caller request) ≡ true
 makes_nothing-outcome base h t caller (Create number) e = cc
@@ -74,6 +85,12 @@ makes_nothing-outcome base h t caller (GetAttr p at) e =
     nothing-then (timely t at) _ (nothing-bind (judge h t caller p right.Read at) (λ g. Ok (Attr g (attributes_of p (moment_of t at) h))) (λ g. refl))
 makes_nothing-outcome base h t caller (SetAttr p bytes) e =
     nothing-then (refuse_if (nat_lt 256 (length bytes)) TooLong) _ (nothing-then (judge h t caller p right.Write None) (Ok Done) refl)
+makes_nothing-outcome base h t caller (GetAclByUser p user at) e =
+    nothing-then (timely t at) _ (nothing-bind (judge h t caller p right.Read at) (λ g. entry_by_user g user (entry_of user (acl_of p (moment_of t at) h))) (λ g. nothing-user g user (entry_of user (acl_of p (moment_of t at) h))))
+makes_nothing-outcome base h t caller (GetAclByIndex p index at) e =
+    nothing-then (timely t at) _ (nothing-bind (judge h t caller p right.Read at) (λ g. entry_by_index g index (slice_get (acl_of p (moment_of t at) h) index)) (λ g. nothing-index g index (slice_get (acl_of p (moment_of t at) h) index)))
+makes_nothing-outcome base h t caller (SetAcl p user rights) e =
+    nothing-then (judge h t caller p right.Control None) _ (nothing-then (settable user rights (acl_of p t h)) (Ok Done) refl)
 
 clash : {A : Type 0} (b : Bool) → b ≡ false → b ≡ true → A
 clash true e f = absurd (no e)
@@ -104,6 +121,9 @@ made_is base h t caller (Append p bytes) o e = clash _ (nothing-made o _ (makes_
 made_is base h t caller (Truncate p length) o e = clash _ (nothing-made o _ (makes_nothing-outcome base h t caller (Truncate p length) refl)) e
 made_is base h t caller (GetAttr p at) o e = clash _ (nothing-made o _ (makes_nothing-outcome base h t caller (GetAttr p at) refl)) e
 made_is base h t caller (SetAttr p bytes) o e = clash _ (nothing-made o _ (makes_nothing-outcome base h t caller (SetAttr p bytes) refl)) e
+made_is base h t caller (GetAclByUser p user at) o e = clash _ (nothing-made o _ (makes_nothing-outcome base h t caller (GetAclByUser p user at) refl)) e
+made_is base h t caller (GetAclByIndex p index at) o e = clash _ (nothing-made o _ (makes_nothing-outcome base h t caller (GetAclByIndex p index at) refl)) e
+made_is base h t caller (SetAcl p user rights) o e = clash _ (nothing-made o _ (makes_nothing-outcome base h t caller (SetAcl p user rights) refl)) e
 
 create-deletes : (request : Request) (o : ObjectId) → is_create request ≡ true → is_deleted o request ≡ false
 create-deletes (Create number) o e = refl
@@ -114,6 +134,9 @@ create-deletes (Append p bytes) o e = cc
 create-deletes (Truncate p length) o e = cc
 create-deletes (GetAttr p at) o e = cc
 create-deletes (SetAttr p bytes) o e = cc
+create-deletes (GetAclByUser p user at) o e = cc
+create-deletes (GetAclByIndex p index at) o e = cc
+create-deletes (SetAcl p user rights) o e = cc
 
 pub create_deletes_none : (request : Request) (o : ObjectId) → is_create request ≡ true → is_deleted o request ≡ false
 create_deletes_none = create-deletes
@@ -135,12 +158,15 @@ changed_by (Write p offset bytes) = Some p
 changed_by (Append p bytes) = Some p
 changed_by (Truncate p length) = Some p
 changed_by (SetAttr p bytes) = Some p
+changed_by (SetAcl p user rights) = Some p
 changed_by _ = None
 
 pub changed-lives : (base : Base) (h : List Record) (t : ℕ) (caller : Caller) (request : Request) (o : ObjectId) → is_refused (answer base h t caller request) ≡ false → changed_by request ≡ Some o → lives_at t o h ≡ true
 changed-lives base h t caller (Create number) o e f = cc
 changed-lives base h t caller (Read p offset length at) o e f = cc
 changed-lives base h t caller (GetAttr p at) o e f = cc
+changed-lives base h t caller (GetAclByUser p user at) o e f = cc
+changed-lives base h t caller (GetAclByIndex p index at) o e f = cc
 changed-lives base h t caller (Delete p) o e f =
     let is : p ≡ o = cc in
     subst (λ q. lives_at t q h ≡ true) is (granted-lives p t h caller right.Delete (passes_judgement (judge h t caller p right.Delete None) (Ok Done) e).0)
@@ -161,6 +187,9 @@ changed-lives base h t caller (SetAttr p bytes) o e f =
     let is : p ≡ o = cc in
     subst (λ q. lives_at t q h ≡ true) is (granted-lives p t h caller right.Write (passes_judgement (judge h t caller p right.Write None) (Ok Done)
     (passes_test (nat_lt 256 (length bytes)) TooLong (judge h t caller p right.Write None >> Ok Done) e).1).0)
+changed-lives base h t caller (SetAcl p user rights) o e f =
+    let is : p ≡ o = cc in
+    subst (λ q. lives_at t q h ≡ true) is (granted-lives p t h caller right.Control (passes_judgement (judge h t caller p right.Control None) (settable user rights (acl_of p t h) >> Ok Done) e).0)
 
 some-when : {A : Type 0} (b : Bool) (x y : A) → when b x ≡ Some y → (b ≡ true) × (x ≡ y)
 some-when true x y e = (refl, cc)
@@ -178,6 +207,9 @@ deleted-changed (Append p bytes) o e = cc
 deleted-changed (Truncate p length) o e = cc
 deleted-changed (GetAttr p at) o e = cc
 deleted-changed (SetAttr p bytes) o e = cc
+deleted-changed (GetAclByUser p user at) o e = cc
+deleted-changed (GetAclByIndex p index at) o e = cc
+deleted-changed (SetAcl p user rights) o e = cc
 
 pub data-changed : (request : Request) (o : ObjectId) (old new : List ℕ) → data_effect o request old ≡ Some new → changed_by request ≡ Some o
 data-changed (Write p offset bytes) o old new e = same-changed p o (some-when (same_object p o) (written offset bytes old) new e).0
@@ -188,6 +220,9 @@ data-changed (Delete p) o old new e = cc
 data-changed (Read p offset length at) o old new e = cc
 data-changed (GetAttr p at) o old new e = cc
 data-changed (SetAttr p bytes) o old new e = cc
+data-changed (GetAclByUser p user at) o old new e = cc
+data-changed (GetAclByIndex p index at) o old new e = cc
+data-changed (SetAcl p user rights) o old new e = cc
 
 pub attributes-changed : (request : Request) (o : ObjectId) (old new : List ℕ) → attribute_effect o request old ≡ Some new → changed_by request ≡ Some o
 attributes-changed (SetAttr p bytes) o old new e = same-changed p o (some-when (same_object p o) bytes new e).0
@@ -198,6 +233,22 @@ attributes-changed (Write p offset bytes) o old new e = cc
 attributes-changed (Append p bytes) o old new e = cc
 attributes-changed (Truncate p length) o old new e = cc
 attributes-changed (GetAttr p at) o old new e = cc
+attributes-changed (GetAclByUser p user at) o old new e = cc
+attributes-changed (GetAclByIndex p index at) o old new e = cc
+attributes-changed (SetAcl p user rights) o old new e = cc
+
+pub acl-changed : (request : Request) (o : ObjectId) (old new : List AclEntry) → acl_effect o request old ≡ Some new → changed_by request ≡ Some o
+acl-changed (SetAcl p user rights) o old new e = same-changed p o (some-when (same_object p o) (acl_with user rights old) new e).0
+acl-changed (Create number) o old new e = cc
+acl-changed (Delete p) o old new e = cc
+acl-changed (Read p offset length at) o old new e = cc
+acl-changed (Write p offset bytes) o old new e = cc
+acl-changed (Append p bytes) o old new e = cc
+acl-changed (Truncate p length) o old new e = cc
+acl-changed (GetAttr p at) o old new e = cc
+acl-changed (SetAttr p bytes) o old new e = cc
+acl-changed (GetAclByUser p user at) o old new e = cc
+acl-changed (GetAclByIndex p index at) o old new e = cc
 
 -- LENGTHS
 
@@ -233,6 +284,9 @@ data-fit base h t caller (Delete p) o e old new f is fits = cc
 data-fit base h t caller (Read p offset length at) o e old new f is fits = cc
 data-fit base h t caller (GetAttr p at) o e old new f is fits = cc
 data-fit base h t caller (SetAttr p bytes) o e old new f is fits = cc
+data-fit base h t caller (GetAclByUser p user at) o e old new f is fits = cc
+data-fit base h t caller (GetAclByIndex p index at) o e old new f is fits = cc
+data-fit base h t caller (SetAcl p user rights) o e old new f is fits = cc
 
 pub attributes-fit : (base : Base) (h : List Record) (t : ℕ) (caller : Caller) (request : Request) (o : ObjectId) → is_refused (answer base h t caller request) ≡ false
     → (old new : List ℕ) → attribute_effect o request old ≡ Some new → AttributesFit new
@@ -247,6 +301,43 @@ attributes-fit base h t caller (Write p offset bytes) o e old new f = cc
 attributes-fit base h t caller (Append p bytes) o e old new f = cc
 attributes-fit base h t caller (Truncate p length) o e old new f = cc
 attributes-fit base h t caller (GetAttr p at) o e old new f = cc
+attributes-fit base h t caller (GetAclByUser p user at) o e old new f = cc
+attributes-fit base h t caller (GetAclByIndex p index at) o e old new f = cc
+attributes-fit base h t caller (SetAcl p user rights) o e old new f = cc
+
+-- the entries that a SetAcl leaves, where it may be carried out
+entries-fit : (user rights : ℕ) (acl : List AclEntry) → is_ok (settable user rights acl) ≡ true → AclFits acl → AclFits (acl_with user rights acl)
+entries-fit user rights acl e fits = of (rights == 0) (names user acl) (nat_le 16 (length acl)) refl e
+  where
+    of : (a b c : Bool) → nat_le 16 (length acl) ≡ c → is_ok (cond b (Ok tt) (cond a (Err NoEntry) (refuse_if c AclFull))) ≡ true
+        → length (cond a (without_entry user acl) (cond b (replaced (record { who = user; rights = rights }) acl) (acl ++ record { who = user; rights = rights } ∷ []))) ≤ 16
+    of true true c room g = let shorter : length (without_entry user acl) ≤ length acl = length-without (λ entry. not (entry.who == user)) acl in omega arith
+    of true false c room g = cc
+    of false true c room g = let same : length (replaced (record { who = user; rights = rights }) acl) ≡ length acl = length-replaced (record { who = user; rights = rights }) acl in omega arith
+    of false false true room g = cc
+    of false false false room g =
+        let more : length (acl ++ record { who = user; rights = rights } ∷ []) ≡ length acl + 1 = length-append acl (record { who = user; rights = rights } ∷ []) in
+        let low : length acl < 16 = grind arith in
+        omega arith
+
+pub acl-fit : (base : Base) (h : List Record) (t : ℕ) (caller : Caller) (request : Request) (o : ObjectId) → is_refused (answer base h t caller request) ≡ false
+    → (old new : List AclEntry) → acl_effect o request old ≡ Some new → old ≡ acl_of o t h → AclFits old → AclFits new
+acl-fit base h t caller (SetAcl p user rights) o e old new f is fits =
+    let both' = some-when (same_object p o) (acl_with user rights old) new f in
+    let same : acl_of p t h ≡ old = ap (λ q. acl_of q t h) (object_is p o both'.0) ∙ sym is in
+    let passes : is_ok (settable user rights (acl_of p t h)) ≡ true
+    = (passes_judgement (settable user rights (acl_of p t h)) (Ok Done) (passes_judgement (judge h t caller p right.Control None) (settable user rights (acl_of p t h) >> Ok Done) e).1).0 in
+    subst AclFits both'.1 (entries-fit user rights old (subst (λ acl. is_ok (settable user rights acl) ≡ true) same passes) fits)
+acl-fit base h t caller (Create number) o e old new f is fits = cc
+acl-fit base h t caller (Delete p) o e old new f is fits = cc
+acl-fit base h t caller (Read p offset length at) o e old new f is fits = cc
+acl-fit base h t caller (Write p offset bytes) o e old new f is fits = cc
+acl-fit base h t caller (Append p bytes) o e old new f is fits = cc
+acl-fit base h t caller (Truncate p length) o e old new f is fits = cc
+acl-fit base h t caller (GetAttr p at) o e old new f is fits = cc
+acl-fit base h t caller (SetAttr p bytes) o e old new f is fits = cc
+acl-fit base h t caller (GetAclByUser p user at) o e old new f is fits = cc
+acl-fit base h t caller (GetAclByIndex p index at) o e old new f is fits = cc
 
 -- TELLING
 
@@ -265,6 +356,7 @@ told-done (Ok Done) e f = refl
 told-done (Ok (Made o)) e f = cc
 told-done (Ok (Data g bytes)) e f = cc
 told-done (Ok (Attr g bytes)) e f = cc
+told-done (Ok (Entry g index user rights)) e f = cc
 told-done (Ok (Refused r)) e f = cc
 told-done (Err r) e f = cc
 
@@ -272,6 +364,8 @@ only_done-outcome : (base : Base) (h : List Record) (t : ℕ) (caller : Caller) 
 only_done-outcome base h t caller (Create number) o e = cc
 only_done-outcome base h t caller (Read p offset length at) o e = cc
 only_done-outcome base h t caller (GetAttr p at) o e = cc
+only_done-outcome base h t caller (GetAclByUser p user at) o e = cc
+only_done-outcome base h t caller (GetAclByIndex p index at) o e = cc
 only_done-outcome base h t caller (Delete p) o e = done-then (judge h t caller p right.Delete None) (Ok Done) refl
 only_done-outcome base h t caller (Write p offset bytes) o e =
     done-then (refuse_if (nat_lt 4096 (offset + length bytes)) TooLong) _ (done-then (judge h t caller p right.Write None) (Ok Done) refl)
@@ -282,6 +376,8 @@ only_done-outcome base h t caller (Truncate p length) o e =
     done-then (refuse_if (nat_lt 4096 length) TooLong) _ (done-then (judge h t caller p right.Write None) (Ok Done) refl)
 only_done-outcome base h t caller (SetAttr p bytes) o e =
     done-then (refuse_if (nat_lt 256 (length bytes)) TooLong) _ (done-then (judge h t caller p right.Write None) (Ok Done) refl)
+only_done-outcome base h t caller (SetAcl p user rights) o e =
+    done-then (judge h t caller p right.Control None) _ (done-then (settable user rights (acl_of p t h)) (Ok Done) refl)
 
 -- an accepted change is told Done
 pub changed-done : (base : Base) (h : List Record) (t : ℕ) (caller : Caller) (request : Request) (o : ObjectId) → is_refused (answer base h t caller request) ≡ false → changed_by request ≡ Some o → answer base h t caller request ≡ Done

@@ -13,7 +13,7 @@ use Rattle.s4_types.specs.declared.version.Item.{Item}
 use Rattle.s4_types.specs.declared.version.Item.TheVariants as item
 use Rattle.s4_types.specs.Versions.{Track, Value, versions, value_at, lives_at, data_track, attribute_track, acl_track}
 use Rattle.s4_types.specs.Judgement.{held_of}
-use Rattle.s4_types.specs.Answer.{value_or_empty, data_of, moment_of}
+use Rattle.s4_types.specs.Answer.{value_or_empty, data_of, acl_of, moment_of}
 use Rattle.s4_types.specs.Play.{last_of}
 use Rattle.s4_types.proofs.Snoc.{newest-snoc}
 use Rattle.s4_store.specs.Chains.{Chains, items_of, newest_of}
@@ -86,16 +86,23 @@ current-laid track wrap Fits true true last t (v ∷ past) l s =
     ∙ ap (λ e. option_map (version_of track wrap) (if is_by t e then None else Some v)) s.ended
     ∙ ap (λ b. option_map (version_of track wrap) (if b then None else Some v)) over)
 
--- the data in force from the last moment on are the newest value
-pub data-in-force : {h : List Record} → IsSound h → (o : ObjectId) (t : ℕ) → last_of h ≤ t → lives_at t o h ≡ true → (v : Value (List ℕ)) (past : List (Value (List ℕ))) → versions data_track o h ≡ v ∷ past → v.value ≡ data_of o t h
-data-in-force {h} s o t later lives v past is =
-    let stands : TrackStands DataFits o h (versions data_track o h) = s.tracks o which.Data in
-    sym (ap value_or_empty (ap (λ b. cond b (find (λ v. nat_le v.begin t) (versions data_track o h)) None) lives ∙ ap (find (λ v. nat_le v.begin t)) is ∙ newest (was_made o h) (was_deleted o h) (subst (IsTrack DataFits (was_made o h) (was_deleted o h) (last_of h)) is stands.shape)))
+-- the value in force from the last moment on is the newest
+newest-in-force : {V : Type 0} (track : Track V) (Fits : V → Type 0) {h : List Record} (o : ObjectId) → TrackStands Fits o h (versions track o h) → (t : ℕ) → last_of h ≤ t → lives_at t o h ≡ true
+    → (v : Value V) (past : List (Value V)) → versions track o h ≡ v ∷ past → value_at track o t h ≡ Some v
+newest-in-force {V} track Fits {h} o stands t later lives v past is =
+    ap (λ b. cond b (find (λ v. nat_le v.begin t) (versions track o h)) None) lives ∙ ap (find (λ v. nat_le v.begin t)) is
+    ∙ newest (was_made o h) (was_deleted o h) (subst (IsTrack Fits (was_made o h) (was_deleted o h) (last_of h)) is stands.shape)
   where
-    newest : (m d : Bool) → IsTrack DataFits m d (last_of h) (v ∷ past) → find (λ v. nat_le v.begin t) (v ∷ past) ≡ Some v
+    newest : (m d : Bool) → IsTrack Fits m d (last_of h) (v ∷ past) → find (λ v. nat_le v.begin t) (v ∷ past) ≡ Some v
     newest false d shape = cc
     newest true false shape = let low : v.begin ≤ last_of h = shape.begun in let begun : nat_le v.begin t ≡ true = grind arith in rw begun refl
     newest true true shape = let low : v.begin ≤ last_of h = shape.begun in let begun : nat_le v.begin t ≡ true = grind arith in rw begun refl
+
+pub data-in-force : {h : List Record} → IsSound h → (o : ObjectId) (t : ℕ) → last_of h ≤ t → lives_at t o h ≡ true → (v : Value (List ℕ)) (past : List (Value (List ℕ))) → versions data_track o h ≡ v ∷ past → v.value ≡ data_of o t h
+data-in-force s o t later lives v past is = sym (ap value_or_empty (newest-in-force data_track DataFits o (s.tracks o which.Data) t later lives v past is))
+
+pub acl-in-force : {h : List Record} → IsSound h → (o : ObjectId) (t : ℕ) → last_of h ≤ t → lives_at t o h ≡ true → (v : Value (List AclEntry)) (past : List (Value (List AclEntry))) → versions acl_track o h ≡ v ∷ past → v.value ≡ acl_of o t h
+acl-in-force s o t later lives v past is = sym (ap value_or_empty (newest-in-force acl_track AclFits o (s.tracks o which.Acl) t later lives v past is))
 
 -- FROM CHAINS
 

@@ -1,17 +1,9 @@
--- What the code hands on of an ACL, as the definitions see it.
+-- What versions hold, as the definitions see it.
 use Rattle.std.specs.Prelude.{ℕ, Option, Some, None, List, []}
-use Rattle.std.specs.Option.{option_map}
 use Rattle.s4_types.specs.Judgement as judgement
 use Rattle.s4_types.specs.declared.version.Version.{Version}
 use Rattle.s4_types.specs.declared.version.Item.{Item}
 use Rattle.s4_types.specs.declared.version.Item.TheVariants.{Data, Attr, Acl}
-use Rattle.s4_drive.specs.declared.judge.Held.{Held}
-
-abbrev pub shown_held : Option Held → Option judgement.Held
-shown_held held = option_map (λ k. record { acl = k.acl.now; since = k.since }) held
-
-abbrev pub shown_entry : Option (ℕ × ℕ) → Option judgement.Found
-shown_entry entry = option_map (λ e. record { index = e.0; rights = e.1 }) entry
 
 -- the bytes that a version holds
 abbrev pub bytes_of_item : Option Item → List ℕ

@@ -9,7 +9,6 @@ mod change;
 mod create;
 mod delete;
 mod drive;
-mod judge;
 mod moments;
 mod objects;
 mod parts;

@@ -3,22 +3,24 @@
 ghost use Rattle.std.specs.Prelude.{◌≡◌, ℕ, ◌≤◌, ◌+◌, IfSome, is_some, nat_le, not};
 ghost use Rattle.std.specs.Option.{option_copied};
 ghost use Rattle.std.specs.BTreeMap.{get};
-ghost use Rattle.s4_types.specs.Answer.{drawn, moment_of, data_of, attributes_of};
+ghost use Rattle.s4_types.specs.Answer.{drawn, moment_of, data_of, attributes_of, acl_of};
 ghost use Rattle.s4_types.specs.Judgement.{held_at, judge as judge_of};
 ghost use Rattle.s4_types.specs.Names.{object_in};
 ghost use Rattle.s4_types.specs.Play.{last_of};
-ghost use Rattle.s4_drive.specs.Held.{shown_held};
+ghost use Rattle.s4_judge.specs.Held.{shown_held};
 ghost use Rattle.s4_drive.specs.Keys.{object_cmp};
 ghost use Rattle.s4_store.specs.Chains.{items_of, IsOpen};
 ghost use Rattle.s4_drive.specs.Laid.{version_at, version_in};
 
-use crate::judge::{Held, judge_now, judge_past};
 use crate::objects::{Kept, Which};
 use crate::values::{bytes_of, held_of};
+use s4_judge::{Held, judge_now, judge_past};
 use s4_names::Names;
 use s4_store::Store;
 use s4_tracks::Track;
-use s4_types::{Caller, Grant, Moment, ObjectId, Purse, Record, Refusal, Right, Serial, Version};
+use s4_types::{
+    Acl, Caller, Grant, Moment, ObjectId, Purse, Record, Refusal, Right, Serial, Version,
+};
 use std::collections::BTreeMap;
 
 /// The window at the opening, the values, the objects by their names, the serials drawn, and all
@@ -86,12 +88,23 @@ impl<S: Store<Version>> Parts<S> {
         bytes_of(self.version(object, Which::Attributes, at))
     }
 
-    /// The ACL in force, where the object lives.
-    pub fn acl(&self, object: &ObjectId, at: Option<Moment>) -> Option<Held<'_>>
+    /// The ACL in force and since when, where the object lives.
+    pub fn held(&self, object: &ObjectId, at: Option<Moment>) -> Option<Held<'_>>
         requires { IsKept S.chains self.now }
         ensures { (t : ℕ) → last_of self.now.history.items ≤ t → shown_held result ≡ held_at object.now (moment_of t at) self.now.history.items }
     {
         held_of(self.version(object, Which::Acl, at))
+    }
+
+    /// The ACL in force, without entries where the object doesn't live.
+    pub fn acl(&self, object: &ObjectId, at: Option<Moment>) -> Acl
+        requires { IsKept S.chains self.now }
+        ensures { (t : ℕ) → last_of self.now.history.items ≤ t → result ≡ acl_of object.now (moment_of t at) self.now.history.items }
+    {
+        match self.held(object, at) {
+            Some(held) => held.acl.copy(),
+            None => Acl::empty(),
+        }
     }
 
     /// Grants or refuses by the ACL in force, now or at a moment.
@@ -106,7 +119,7 @@ impl<S: Store<Version>> Parts<S> {
         ensures { (t : ℕ) → last_of self.now.history.items ≤ t → result ≡ judge_of self.now.history.items t caller object.now right at }
     {
         let names_a_moment = at.is_some();
-        let held = self.acl(object, at);
+        let held = self.held(object, at);
         if names_a_moment {
             judge_past(caller, object, &held)
         } else {

@@ -10,7 +10,7 @@ ghost use Rattle.s4_drive.specs.Step.{IsOutcome};
 
 use crate::parts::Parts;
 use crate::read::Range;
-use crate::{append, attributes, create, delete, read, truncate, write};
+use crate::{acl, append, attributes, create, delete, read, truncate, write};
 use s4_store::Store;
 use s4_types::{Caller, Moment, NoMemory, Purse, Record, Refusal, Reply, Request, Version};
 use std::alloc::{AllocError, Global};
@@ -83,6 +83,17 @@ fn outcome<S: Store<Version>>(
         Request::SetAttr { object, bytes } => {
             attributes::set_outcome(parts, moment, caller, object, bytes)
         }
+        Request::GetAclByUser { object, user, at } => {
+            acl::by_user_outcome(parts, moment, caller, object, *user, at)
+        }
+        Request::GetAclByIndex { object, index, at } => {
+            acl::by_index_outcome(parts, moment, caller, object, *index, at)
+        }
+        Request::SetAcl {
+            object,
+            user,
+            rights,
+        } => acl::set_outcome(parts, moment, caller, object, *user, *rights),
     }
 }
 
@@ -110,7 +121,10 @@ pub fn apply<S: Store<Version>>(
             delete::apply(parts, added, object);
             Ok(())
         }
-        Request::Read { .. } | Request::GetAttr { .. } => Ok(()),
+        Request::Read { .. }
+        | Request::GetAttr { .. }
+        | Request::GetAclByUser { .. }
+        | Request::GetAclByIndex { .. } => Ok(()),
         Request::Write {
             object,
             offset,
@@ -121,5 +135,10 @@ pub fn apply<S: Store<Version>>(
             truncate::apply(alloc, parts, added, object, *length)
         }
         Request::SetAttr { object, bytes } => attributes::set(parts, added, object, bytes),
+        Request::SetAcl {
+            object,
+            user,
+            rights,
+        } => acl::apply(parts, added, object, *user, *rights),
     }
 }

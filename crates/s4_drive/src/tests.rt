@@ -4,7 +4,7 @@ use crate::{Drive, never_down};
 use s4_store::{Chain, PlainStore, Store};
 use s4_types::{
     Bytes, Caller, Grant, Item, Moment, NoMemory, ObjectId, Principal, Purse, PurseNo, Refusal,
-    Reply, Request, Right, Serial, Step, Version,
+    Reply, Request, Right, Rights, Serial, Step, Version,
 };
 use std::alloc::Global;
 use std::cell::Cell;
@@ -161,6 +161,63 @@ fn looks_at_sizes_first(rt: HostRuntime) -> Result<(), Fail> {
         data(alloc, b"", 1)?,
     ];
     answers(&rt, alloc, &steps, &wanted, 3)
+}
+
+#[test]
+fn sets_and_tells_entries(rt: HostRuntime) -> Result<(), Fail> {
+    let alloc = rt.alloc();
+    let object = object(7, 0, 1)?;
+    let user = Principal::new(9).ok_or("a principal")?;
+    let set = |rights| -> Result<Request, Fail> {
+        let rights = Rights::new(rights).ok_or("rights")?;
+        Ok(Request::SetAcl {
+            object,
+            user,
+            rights,
+        })
+    };
+    let by_user = |at| Request::GetAclByUser { object, user, at };
+    let by_index = |index| Request::GetAclByIndex {
+        object,
+        index,
+        at: None,
+    };
+    let told = |index, since| -> Result<Reply, Fail> {
+        let since = Moment::new(since);
+        Ok(Reply::Entry {
+            grant: Grant::Entry { index: 1, since },
+            index,
+            user,
+            rights: Rights::new(17).ok_or("rights")?,
+        })
+    };
+    let steps = [
+        ask(1, 7, create(0)?)?,
+        ask(2, 7, set(17)?)?,
+        ask(3, 9, by_user(None))?,
+        ask(3, 9, by_index(1))?,
+        ask(3, 9, by_index(2))?,
+        ask(3, 9, set(31)?)?,
+        ask(4, 7, set(0)?)?,
+        ask(4, 7, set(0)?)?,
+        ask(5, 9, by_user(Some(Moment::new(3))))?,
+        ask(5, 9, by_user(None))?,
+        ask(5, 9, by_user(Some(Moment::new(6))))?,
+    ];
+    let wanted = [
+        Reply::Made(object),
+        Reply::Done,
+        told(1, 2)?,
+        told(1, 2)?,
+        Reply::Refused(Refusal::NoEntry),
+        Reply::Refused(Refusal::Denied(Right::Control)),
+        Reply::Done,
+        Reply::Refused(Refusal::NoEntry),
+        told(1, 2)?,
+        Reply::Refused(Refusal::Denied(Right::Read)),
+        Reply::Refused(Refusal::Future),
+    ];
+    answers(&rt, alloc, &steps, &wanted, 5)
 }
 
 // A plain store that counts how often it shows the data of an object.
@@ -340,6 +397,9 @@ mod types {
         assert_eq!(rt; acl.entries(), wanted.as_slice());
         let copied = acl.copy();
         assert_eq!(rt; copied.entries(), wanted.as_slice());
+        assert!(rt; Acl::empty().entries().is_empty());
+        assert!(rt; Rights::none().is_empty());
+        assert!(rt; !rights.is_empty());
         Ok(())
     }
 
@@ -377,8 +437,19 @@ mod types {
             bytes: bytes(rt.alloc(), b"")?,
         };
         let deleted = Request::Delete { object };
+        let user = Principal::new(9).ok_or("a principal")?;
+        let by_user = Request::GetAclByUser { object, user, at };
+        let index = 15;
+        let by_index = Request::GetAclByIndex { object, index, at };
+        let rights = Rights::none();
+        let given = Request::SetAcl {
+            object,
+            user,
+            rights,
+        };
         for request in [
-            &created, &asked, &written, &appended, &truncated, &shown, &set, &deleted,
+            &created, &asked, &written, &appended, &truncated, &shown, &set, &deleted, &by_user,
+            &by_index, &given,
         ] {
             assert_eq!(rt; request.copy()?, *request);
         }
@@ -393,7 +464,16 @@ mod types {
             grant: Grant::Admin,
             bytes: bytes(rt.alloc(), b"size 5")?,
         };
+        let entry = Reply::Entry {
+            grant: Grant::Admin,
+            index: 15,
+            user: Principal::administrator(),
+            rights: Rights::all(),
+        };
         for (reply, is_refused) in [
+            (&entry, false),
+            (&Reply::Refused(Refusal::NoEntry), true),
+            (&Reply::Refused(Refusal::AclFull), true),
             (&Reply::Done, false),
             (&Reply::Made(object), false),
             (&told, false),

@@ -2,9 +2,10 @@
 
 ghost use Rattle.std.specs.Prelude.{◌≡◌};
 ghost use Rattle.std.specs.Option.{option_copied};
-ghost use Rattle.s4_drive.specs.Held.{shown_held, bytes_in, held_in};
+ghost use Rattle.s4_judge.specs.Held.{shown_held};
+ghost use Rattle.s4_drive.specs.Held.{bytes_in, held_in};
 
-use crate::judge::Held;
+use s4_judge::Held;
 use s4_types::{Item, Version};
 
 /// The bytes of a value of the data or of the attributes, none where there is no value.

@@ -1,17 +1,21 @@
 -- Worked examples of the definitions, each computed.
 use Rattle.std.proofs.Common.{◌≡◌, ℕ, Option, Some, None, List, [], ◌∷◌, refl}
+use Rattle.std.specs.Prelude.{Ok, Err, map}
 use Rattle.s4_types.specs.declared.object.Purse.{Purse}
 use Rattle.s4_types.specs.declared.object.ObjectId.{ObjectId}
 use Rattle.s4_types.specs.declared.rights.Right.TheVariants as right
 use Rattle.s4_types.specs.declared.request.Request.{Request}
-use Rattle.s4_types.specs.declared.request.Request.TheVariants.{Create, Delete, Read, Write, Append, Truncate, GetAttr}
+use Rattle.s4_types.specs.declared.request.Request.TheVariants.{Create, Delete, Read, Write, Append, Truncate, GetAttr, GetAclByUser, GetAclByIndex, SetAcl}
 use Rattle.s4_types.specs.declared.reply.Grant.TheVariants as grant
-use Rattle.s4_types.specs.declared.reply.Refusal.TheVariants.{Denied, NoObject, Future, TooLong}
-use Rattle.s4_types.specs.declared.reply.Reply.TheVariants.{Done, Made, Data, Attr, Refused}
+use Rattle.s4_types.specs.declared.reply.Refusal.TheVariants.{Denied, NoObject, Future, TooLong, AclFull, NoEntry}
+use Rattle.s4_types.specs.declared.reply.Reply.TheVariants.{Done, Made, Data, Attr, Entry, Refused}
 use Rattle.s4_types.specs.declared.record.Step.{Step}
 use Rattle.s4_types.specs.declared.record.Step.TheVariants as step
 use Rattle.s4_types.specs.Base.{opened}
 use Rattle.s4_types.specs.Versions.{Value, versions, written, data_track}
+use Rattle.s4_types.specs.Acl.{acl_with}
+use Rattle.s4_types.specs.Answer.{settable}
+use Rattle.s4_types.specs.declared.acl.AclEntry.{AclEntry}
 use Rattle.s4_types.specs.Play.{play, replies}
 
 abbrev purse : ℕ → ℕ → Purse
@@ -182,3 +186,85 @@ pub stranger_learns_nothing : replies (play (opened 100) stranger_learns_nothing
     ∷ Refused (Denied right.Read)
     ∷ []
 stranger_learns_nothing = refl
+
+-- what a principal could recover at a moment, it can recover once its entry is gone
+abbrev recovery_flag_revoked_steps : List Step
+recovery_flag_revoked_steps =
+    ask 10 7 (Create 0)
+    ∷ ask 20 7 (SetAcl (object 7 0 1) 9 1)
+    ∷ ask 30 7 (SetAcl (object 7 0 1) 9 17)
+    ∷ ask 35 9 (Read (object 7 0 1) 0 8 (Some 19))
+    ∷ ask 35 9 (Read (object 7 0 1) 0 8 (Some 25))
+    ∷ ask 35 9 (Read (object 7 0 1) 0 8 (Some 30))
+    ∷ ask 40 7 (SetAcl (object 7 0 1) 9 0)
+    ∷ ask 41 9 (Read (object 7 0 1) 0 8 (Some 35))
+    ∷ ask 41 9 (Read (object 7 0 1) 0 8 None)
+    ∷ ask 41 9 (Read (object 7 0 1) 0 8 (Some 40))
+    ∷ []
+
+pub recovery_flag_revoked : replies (play (opened 100) recovery_flag_revoked_steps) ≡
+    Made (object 7 0 1)
+    ∷ Done
+    ∷ Done
+    ∷ Refused (Denied right.Read)
+    ∷ Refused (Denied right.Recover)
+    ∷ Data (grant.Entry 1 30) []
+    ∷ Done
+    ∷ Data (grant.Entry 1 30) []
+    ∷ Refused (Denied right.Read)
+    ∷ Refused (Denied right.Read)
+    ∷ []
+recovery_flag_revoked = refl
+
+-- a creator without an entry can still change the ACL, and nothing else
+abbrev creator_without_an_entry_steps : List Step
+creator_without_an_entry_steps =
+    ask 1 7 (Create 0)
+    ∷ ask 2 7 (SetAcl (object 7 0 1) 7 0)
+    ∷ ask 3 7 (Read (object 7 0 1) 0 1 None)
+    ∷ ask 3 7 (SetAcl (object 7 0 1) 7 31)
+    ∷ ask 4 7 (Read (object 7 0 1) 0 1 None)
+    ∷ ask 4 7 (Read (object 7 0 1) 0 1 (Some 2))
+    ∷ ask 4 0 (Read (object 7 0 1) 0 1 (Some 2))
+    ∷ ask 4 7 (GetAclByUser (object 7 0 1) 9 None)
+    ∷ ask 4 7 (GetAclByIndex (object 7 0 1) 0 None)
+    ∷ []
+
+pub creator_without_an_entry : replies (play (opened 100) creator_without_an_entry_steps) ≡
+    Made (object 7 0 1)
+    ∷ Done
+    ∷ Refused (Denied right.Read)
+    ∷ Done
+    ∷ Data (grant.Entry 0 3) []
+    ∷ Refused (Denied right.Read)
+    ∷ Data grant.Admin []
+    ∷ Refused NoEntry
+    ∷ Entry (grant.Entry 0 3) 0 7 31
+    ∷ []
+creator_without_an_entry = refl
+
+-- entries are replaced in place and added at the end, and what stands behind one that is taken away moves up
+abbrev entry : ℕ → ℕ → AclEntry
+entry who rights = record { who = who; rights = rights }
+
+pub replaced_in_place : acl_with 9 17 (entry 7 31 ∷ entry 9 1 ∷ entry 8 2 ∷ []) ≡ entry 7 31 ∷ entry 9 17 ∷ entry 8 2 ∷ []
+replaced_in_place = refl
+
+pub added_at_the_end : acl_with 9 17 (entry 7 31 ∷ entry 8 2 ∷ []) ≡ entry 7 31 ∷ entry 8 2 ∷ entry 9 17 ∷ []
+added_at_the_end = refl
+
+pub closed_up : acl_with 9 0 (entry 7 31 ∷ entry 9 17 ∷ entry 8 2 ∷ []) ≡ entry 7 31 ∷ entry 8 2 ∷ []
+closed_up = refl
+
+-- an ACL of 16 entries takes no other one
+abbrev sixteen : List AclEntry
+sixteen = map (λ who. entry who 1) (0 ∷ 1 ∷ 2 ∷ 3 ∷ 4 ∷ 5 ∷ 6 ∷ 7 ∷ 8 ∷ 9 ∷ 10 ∷ 11 ∷ 12 ∷ 13 ∷ 14 ∷ 15 ∷ [])
+
+pub full_acl : settable 16 1 sixteen ≡ Err AclFull
+full_acl = refl
+
+pub full_acl_in_place : settable 15 31 sixteen ≡ Ok tt
+full_acl_in_place = refl
+
+pub full_acl_without_the_user : settable 16 0 sixteen ≡ Err NoEntry
+full_acl_without_the_user = refl

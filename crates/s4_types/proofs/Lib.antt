@@ -5,3 +5,4 @@ pub mod Tests
 pub mod Examples
 pub mod OfPurse
 pub mod Applying
+pub mod Entries

@@ -1,27 +1,29 @@
 -- What a reply that is no refusal tells of the tests before it, and that no answer is want of memory.
 use Rattle.std.proofs.Common.{◌≡◌, ℕ, Bool, true, false, not, Option, Some, None, List, refl}
-use Rattle.std.specs.Prelude.{Result, Ok, Err, nat_le, nat_lt, ◌+◌, length, ◌==◌, cond, is_ok, take, drop}
+use Rattle.std.specs.Prelude.{Result, Ok, Err, nat_le, nat_lt, ◌+◌, length, ◌==◌, ◌&&◌, cond, is_ok, take, drop, slice_get}
 use Rattle.s4_types.specs.declared.principal.Caller.{Caller}
 use Rattle.s4_types.specs.declared.object.Purse.{Purse}
 use Rattle.s4_types.specs.declared.object.ObjectId.{ObjectId}
+use Rattle.s4_types.specs.declared.acl.AclEntry.{AclEntry}
 use Rattle.s4_types.specs.declared.rights.Right.TheVariants as right
 use Rattle.s4_types.specs.Names.{object_in}
 use Rattle.s4_types.specs.declared.rights.Right.{Right}
 use Rattle.s4_types.specs.declared.request.Request.{Request}
-use Rattle.s4_types.specs.declared.request.Request.TheVariants.{Create, Delete, Read, Write, Append, Truncate, GetAttr, SetAttr}
+use Rattle.s4_types.specs.declared.request.Request.TheVariants.{Create, Delete, Read, Write, Append, Truncate, GetAttr, SetAttr, GetAclByUser, GetAclByIndex, SetAcl}
 use Rattle.s4_types.specs.declared.reply.Grant.{Grant}
 use Rattle.s4_types.specs.declared.reply.Grant.TheVariants as grant
 use Rattle.s4_types.specs.declared.reply.Refusal.{Refusal}
-use Rattle.s4_types.specs.declared.reply.Refusal.TheVariants.{Denied, NoObject, Future, TooLong, NamesSpent, NoMemory}
+use Rattle.s4_types.specs.declared.reply.Refusal.TheVariants.{Denied, NoObject, Future, TooLong, AclFull, NoEntry, NamesSpent, NoMemory}
 use Rattle.s4_types.specs.declared.reply.Reply.{Reply}
-use Rattle.s4_types.specs.declared.reply.Reply.TheVariants.{Done, Made, Data, Attr, Refused}
+use Rattle.s4_types.specs.declared.reply.Reply.TheVariants.{Done, Made, Data, Attr, Entry, Refused}
 use Rattle.s4_types.specs.declared.record.Record.{Record}
 use Rattle.s4_types.specs.Rights.{has}
 use Rattle.s4_types.specs.Kinds.{is_refused}
-use Rattle.s4_types.specs.Judgement.{Held, Found, judge, judge_now, judge_past, judge_by_entry, judge_past_by_entry, entry_of, held_at, may_know}
+use Rattle.s4_types.specs.Judgement.{Held, Found, judge, judge_now, judge_past, judge_by_entry, judge_past_by_entry, needs_control, entry_of, held_at, may_know}
 use Rattle.s4_types.specs.Outcome.{◌>>=◌, ◌>>◌, refuse_if, reply_of}
 use Rattle.s4_types.specs.Base.{Base}
-use Rattle.s4_types.specs.Answer.{answer, outcome, drawn, timely, moment_of, data_of, attributes_of}
+use Rattle.s4_types.specs.Acl.{names}
+use Rattle.s4_types.specs.Answer.{answer, outcome, drawn, timely, moment_of, data_of, attributes_of, acl_of, entry_by_user, entry_by_index, settable}
 use Rattle.s4_types.specs.Play.{is_no_memory}
 
 -- a test that lets a request pass
@@ -82,7 +84,11 @@ plain-timely t (Some m) = plain-refuse (nat_lt t m)
 
 plain-judge_now : (caller : Caller) (o : ObjectId) (needed : Right) (held : Option Held) → is_plain (judge_now caller o needed held) ≡ true
 plain-judge_now caller o needed None = plain-absent needed (may_know caller o.purse.creator)
-plain-judge_now caller o needed (Some held) = plain-either (caller.who == 0) (Ok grant.Admin) (judge_by_entry held needed (entry_of caller.who held.acl)) refl (plain-entry held needed (entry_of caller.who held.acl))
+plain-judge_now caller o needed (Some held) =
+    let by_entry : Result Grant Refusal = judge_by_entry held needed (entry_of caller.who held.acl) in
+    let owns : Bool = needs_control needed && (caller.who == o.purse.creator) in
+    plain-either (caller.who == 0) (Ok grant.Admin) (cond owns (Ok grant.Owner) by_entry) refl
+    (plain-either owns (Ok grant.Owner) by_entry refl (plain-entry held needed (entry_of caller.who held.acl)))
 
 plain-judge : (h : List Record) (t : ℕ) (caller : Caller) (o : ObjectId) (needed : Right) (at : Option ℕ) → is_plain (judge h t caller o needed at) ≡ true
 plain-judge h t caller o needed None = plain-judge_now caller o needed (held_at o t h)
@@ -105,6 +111,8 @@ told-bind (Err (Denied right)) next e f = refl
 told-bind (Err NoObject) next e f = refl
 told-bind (Err Future) next e f = refl
 told-bind (Err TooLong) next e f = refl
+told-bind (Err AclFull) next e f = refl
+told-bind (Err NoEntry) next e f = refl
 told-bind (Err NamesSpent) next e f = refl
 
 told-then : {A : Type 0} (first : Result A Refusal) (next : Result Reply Refusal) → is_plain first ≡ true → is_told next ≡ true → is_told (first >> next) ≡ true
@@ -114,7 +122,26 @@ told-then (Err (Denied right)) next e f = refl
 told-then (Err NoObject) next e f = refl
 told-then (Err Future) next e f = refl
 told-then (Err TooLong) next e f = refl
+told-then (Err AclFull) next e f = refl
+told-then (Err NoEntry) next e f = refl
 told-then (Err NamesSpent) next e f = refl
+
+told-user : (g : Grant) (user : ℕ) (found : Option Found) → is_told (entry_by_user g user found) ≡ true
+told-user g user None = refl
+told-user g user (Some found) = refl
+
+told-index : (g : Grant) (index : ℕ) (entry : Option AclEntry) → is_told (entry_by_index g index entry) ≡ true
+told-index g index None = refl
+told-index g index (Some entry) = refl
+
+plain-settable : (user rights : ℕ) (acl : List AclEntry) → is_plain (settable user rights acl) ≡ true
+plain-settable user rights acl = of (names user acl) (rights == 0) (nat_le 16 (length acl))
+  where
+    of : (a b c : Bool) → is_plain (cond a (Ok tt) (cond b (Err NoEntry) (refuse_if c AclFull))) ≡ true
+    of true b c = refl
+    of false true c = refl
+    of false false true = refl
+    of false false false = refl
 
 pub told-outcome : (base : Base) (h : List Record) (t : ℕ) (caller : Caller) (request : Request) → is_told (outcome base h t caller request) ≡ true
 told-outcome base h t caller (Create number) =
@@ -140,18 +167,32 @@ told-outcome base h t caller (GetAttr o at) =
 told-outcome base h t caller (SetAttr o bytes) =
     told-test (nat_lt 256 (length bytes)) TooLong (judge h t caller o right.Write None >> Ok Done) refl
     (told-then (judge h t caller o right.Write None) (Ok Done) (plain-judge h t caller o right.Write None) refl)
+told-outcome base h t caller (GetAclByUser o user at) =
+    let next : Grant → Result Reply Refusal = λ g. entry_by_user g user (entry_of user (acl_of o (moment_of t at) h)) in
+    told-then (timely t at) (judge h t caller o right.Read at >>= next) (plain-timely t at)
+    (told-bind (judge h t caller o right.Read at) next (plain-judge h t caller o right.Read at) (λ g. told-user g user (entry_of user (acl_of o (moment_of t at) h))))
+told-outcome base h t caller (GetAclByIndex o index at) =
+    let next : Grant → Result Reply Refusal = λ g. entry_by_index g index (slice_get (acl_of o (moment_of t at) h) index) in
+    told-then (timely t at) (judge h t caller o right.Read at >>= next) (plain-timely t at)
+    (told-bind (judge h t caller o right.Read at) next (plain-judge h t caller o right.Read at) (λ g. told-index g index (slice_get (acl_of o (moment_of t at) h) index)))
+told-outcome base h t caller (SetAcl o user rights) =
+    told-then (judge h t caller o right.Control None) (settable user rights (acl_of o t h) >> Ok Done) (plain-judge h t caller o right.Control None)
+    (told-then (settable user rights (acl_of o t h)) (Ok Done) (plain-settable user rights (acl_of o t h)) refl)
 
 replied : (r : Result Reply Refusal) → is_told r ≡ true → is_no_memory (reply_of r) ≡ false
 replied (Ok Done) e = refl
 replied (Ok (Made o)) e = refl
 replied (Ok (Data g bytes)) e = refl
 replied (Ok (Attr g bytes)) e = refl
+replied (Ok (Entry g index user rights)) e = refl
 replied (Ok (Refused r)) e = cc
 replied (Err NoMemory) e = cc
 replied (Err (Denied right)) e = refl
 replied (Err NoObject) e = refl
 replied (Err Future) e = refl
 replied (Err TooLong) e = refl
+replied (Err AclFull) e = refl
+replied (Err NoEntry) e = refl
 replied (Err NamesSpent) e = refl
 
 pub is_no_memory-answer : (base : Base) (h : List Record) (t : ℕ) (caller : Caller) (request : Request) → is_no_memory (answer base h t caller request) ≡ false

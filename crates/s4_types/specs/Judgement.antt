@@ -1,5 +1,5 @@
 -- Who may do what.
-use Rattle.std.specs.Prelude.{ℕ, Bool, not, ◌+◌, ◌==◌, ◌||◌, Option, Some, None, Result, Ok, Err, List, [], ◌∷◌, if◌then◌else◌}
+use Rattle.std.specs.Prelude.{ℕ, Bool, true, false, not, ◌+◌, ◌==◌, ◌&&◌, ◌||◌, Option, Some, None, Result, Ok, Err, List, [], ◌∷◌, if◌then◌else◌}
 use Rattle.std.specs.Option.{option_map}
 use Rattle.s4_types.specs.declared.principal.Caller.{Caller}
 use Rattle.s4_types.specs.declared.object.ObjectId.{ObjectId}
@@ -48,6 +48,10 @@ may_know caller creator = (caller.who == 0) || (caller.who == creator)
 abbrev pub denied_absent : Caller → ℕ → Refusal → Right → Refusal
 denied_absent caller creator absence needed = if may_know caller creator then absence else Denied needed
 
+abbrev pub needs_control : Right → Bool
+needs_control right.Control = true
+needs_control _ = false
+
 -- an entry grants what it has the right for
 abbrev pub judge_by_entry : Held → Right → Option Found → Result Grant Refusal
 judge_by_entry held needed None = Err (Denied needed)
@@ -61,11 +65,14 @@ judge_past_by_entry held (Some found) =
     if not (has found.rights right.Read) then Err (Denied right.Read)
     else (if has found.rights right.Recover then Ok (grant.Entry found.index held.since) else Err (Denied right.Recover))
 
--- the judgement on an object by its ACL, which isn't there where the object doesn't live
+-- The judgement on an object by its ACL, which isn't there where the object doesn't live. The administrator may do all, and the
+-- creator may always control it; anyone else goes by entry.
 abbrev pub judge_now : Caller → ObjectId → Right → Option Held → Result Grant Refusal
 judge_now caller o needed None = Err (denied_absent caller o.purse.creator NoObject needed)
 judge_now caller o needed (Some held) =
-    if caller.who == 0 then Ok grant.Admin else judge_by_entry held needed (entry_of caller.who held.acl)
+    if caller.who == 0 then Ok grant.Admin
+    else (if needs_control needed && (caller.who == o.purse.creator) then Ok grant.Owner
+    else judge_by_entry held needed (entry_of caller.who held.acl))
 
 -- the judgement by the ACL of a moment that the request names
 abbrev pub judge_past : Caller → ObjectId → Option Held → Result Grant Refusal

@@ -3,7 +3,7 @@ use Rattle.std.specs.Prelude.{ℕ, Bool, true, false, not, ◌&&◌, Option, Som
 use Rattle.s4_types.specs.declared.principal.Caller.{Caller}
 use Rattle.s4_types.specs.declared.object.Purse.{Purse}
 use Rattle.s4_types.specs.declared.request.Request.{Request}
-use Rattle.s4_types.specs.declared.request.Request.TheVariants.{Create, Delete, Read, Write, Append, Truncate, GetAttr, SetAttr}
+use Rattle.s4_types.specs.declared.request.Request.TheVariants.{Create, Delete, Read, Write, Append, Truncate, GetAttr, SetAttr, GetAclByUser, GetAclByIndex, SetAcl}
 use Rattle.s4_types.specs.declared.reply.Reply.{Reply}
 use Rattle.s4_types.specs.declared.reply.Reply.TheVariants.{Refused}
 use Rattle.s4_types.specs.declared.record.Record.{Record}
@@ -13,6 +13,8 @@ use Rattle.s4_types.specs.Names.{same_purse}
 abbrev pub only_reads : Request → Bool
 only_reads (Read o offset length at) = true
 only_reads (GetAttr o at) = true
+only_reads (GetAclByUser o user at) = true
+only_reads (GetAclByIndex o index at) = true
 only_reads _ = false
 
 -- whether the request makes an object, where it is carried out
@@ -30,6 +32,9 @@ purse_of caller (Append o bytes) = Some o.purse
 purse_of caller (Truncate o length) = Some o.purse
 purse_of caller (GetAttr o at) = Some o.purse
 purse_of caller (SetAttr o bytes) = Some o.purse
+purse_of caller (GetAclByUser o user at) = Some o.purse
+purse_of caller (GetAclByIndex o index at) = Some o.purse
+purse_of caller (SetAcl o user rights) = Some o.purse
 
 -- the creator of the purse, or else the caller
 abbrev pub creator_of : Caller → Option Purse → ℕ

@@ -4,11 +4,11 @@ use Rattle.std.specs.List.{list_any}
 use Rattle.s4_types.specs.declared.object.ObjectId.{ObjectId}
 use Rattle.s4_types.specs.declared.acl.AclEntry.{AclEntry}
 use Rattle.s4_types.specs.declared.request.Request.{Request}
-use Rattle.s4_types.specs.declared.request.Request.TheVariants.{Delete, Write, Append, Truncate, SetAttr}
+use Rattle.s4_types.specs.declared.request.Request.TheVariants.{Delete, Write, Append, Truncate, SetAttr, SetAcl}
 use Rattle.s4_types.specs.declared.reply.Reply.{Reply}
 use Rattle.s4_types.specs.declared.reply.Reply.TheVariants.{Made}
 use Rattle.s4_types.specs.declared.record.Record.{Record}
-use Rattle.s4_types.specs.Acl.{first_acl}
+use Rattle.s4_types.specs.Acl.{first_acl, acl_with}
 use Rattle.s4_types.specs.Names.{same_object}
 use Rattle.s4_types.specs.Kinds.{concerns}
 
@@ -125,7 +125,8 @@ abbrev pub attribute_track : Track (List ℕ)
 attribute_track = record { start = λ o. []; effect = attribute_effect; cost = λ bytes. 64 + length bytes }
 
 abbrev pub acl_effect : ObjectId → Request → List AclEntry → Option (List AclEntry)
-acl_effect o request old = None
+acl_effect o (SetAcl changed user rights) old = when (same_object changed o) (acl_with user rights old)
+acl_effect o _ old = None
 
 -- an object begins with one entry, that of its creator with all five rights
 abbrev pub acl_track : Track (List AclEntry)

@@ -22,9 +22,10 @@ abbrev pub bytes_text : List ℕ → List ℕ
 bytes_text [] = codes "empty"
 bytes_text (byte ∷ bytes) = encode_lower (byte ∷ bytes)
 
--- why a read was granted: the index of the entry, and since when its list is in force
+-- why a read was granted: the index of the entry, and since when its list is in force; no read is granted to the owner as such
 abbrev pub grant_text : Grant → List ℕ
 grant_text grant.Admin = codes "by admin"
+grant_text grant.Owner = codes "by owner"
 grant_text (grant.Entry index since) = codes "by " ++ decimal index ++ codes " since " ++ decimal since
 
 -- the name of a right
@@ -42,6 +43,8 @@ refusal_text (refusal.Denied wanted) = codes "denied " ++ right_text wanted
 refusal_text refusal.NoObject = codes "no-object"
 refusal_text refusal.Future = codes "future"
 refusal_text refusal.TooLong = codes "too-long"
+refusal_text refusal.AclFull = codes "acl-full"
+refusal_text refusal.NoEntry = codes "no-entry"
 refusal_text refusal.NamesSpent = codes "names-spent"
 refusal_text refusal.NoMemory = codes "no-memory"
 
@@ -51,6 +54,7 @@ reply_text reply.Done = codes "done"
 reply_text (reply.Made object) = codes "made " ++ object_text object
 reply_text (reply.Data granted bytes) = codes "data " ++ bytes_text bytes ++ codes " " ++ grant_text granted
 reply_text (reply.Attr granted bytes) = codes "attr " ++ bytes_text bytes ++ codes " " ++ grant_text granted
+reply_text (reply.Entry granted index user rights) = codes "entry " ++ decimal index ++ codes " " ++ decimal user ++ codes " " ++ decimal rights ++ codes " " ++ grant_text granted
 reply_text (reply.Refused why) = refusal_text why
 
 -- why the program ends without success

@@ -35,6 +35,16 @@ impl fmt::Display for ReplyText<'_> {
                     GrantText(*grant)
                 )
             }
+            Reply::Entry {
+                grant,
+                index,
+                user,
+                rights,
+            } => {
+                let user = user.number();
+                let rights = rights.number();
+                write!(f, "entry {index} {user} {rights} {}", GrantText(*grant))
+            }
             Reply::Refused(refusal) => write!(f, "{}", RefusalText(*refusal)),
         }
     }
@@ -92,6 +102,7 @@ impl fmt::Display for GrantText {
     fn fmt<W: fmt::Write>(&self, f: &mut fmt::Formatter<W>) -> fmt::Result {
         match self.0 {
             Grant::Admin => write!(f, "by admin"),
+            Grant::Owner => write!(f, "by owner"),
             Grant::Entry { index, since } => {
                 let since = since.tick();
                 write!(f, "by {index} since {since}")
@@ -113,6 +124,8 @@ impl fmt::Display for RefusalText {
             Refusal::NoObject => write!(f, "no-object"),
             Refusal::Future => write!(f, "future"),
             Refusal::TooLong => write!(f, "too-long"),
+            Refusal::AclFull => write!(f, "acl-full"),
+            Refusal::NoEntry => write!(f, "no-entry"),
             Refusal::NamesSpent => write!(f, "names-spent"),
             Refusal::NoMemory => write!(f, "no-memory"),
         }

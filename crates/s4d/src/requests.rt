@@ -16,6 +16,9 @@ pub fn parse_request(alloc: Global, verb: &str, words: &[&str]) -> Result<Reques
         ("truncate", [object, length]) => truncate(object, length),
         ("getattr", [object, at @ ..]) => get_attr(object, at),
         ("setattr", [object, bytes]) => set_attr(alloc, object, bytes),
+        ("acl-user", [object, user, at @ ..]) => get_acl_by_user(object, user, at),
+        ("acl-index", [object, index, at @ ..]) => get_acl_by_index(object, index, at),
+        ("setacl", [object, user, rights]) => set_acl(object, user, rights),
         _ => Err(ParseError::Bad),
     }
 }
@@ -74,5 +77,29 @@ fn set_attr(alloc: Global, object: &str, bytes: &str) -> Result<Request, ParseEr
     Ok(Request::SetAttr {
         object: words::object(object)?,
         bytes: words::bytes(alloc, bytes)?,
+    })
+}
+
+fn get_acl_by_user(object: &str, user: &str, at: &[&str]) -> Result<Request, ParseError> {
+    Ok(Request::GetAclByUser {
+        object: words::object(object)?,
+        user: words::principal(user)?,
+        at: words::at(at)?,
+    })
+}
+
+fn get_acl_by_index(object: &str, index: &str, at: &[&str]) -> Result<Request, ParseError> {
+    Ok(Request::GetAclByIndex {
+        object: words::object(object)?,
+        index: words::number(index)?,
+        at: words::at(at)?,
+    })
+}
+
+fn set_acl(object: &str, user: &str, rights: &str) -> Result<Request, ParseError> {
+    Ok(Request::SetAcl {
+        object: words::object(object)?,
+        user: words::principal(user)?,
+        rights: words::rights(rights)?,
     })
 }

@@ -12,7 +12,7 @@ pub struct Row {
     pub error: &'static str,
 }
 
-pub const ROWS: [Row; 13] = [
+pub const ROWS: [Row; 17] = [
     EMPTY_SCRIPT,
     FIRST_REQUESTS,
     THREE_CALLS_AT_FIVE,
@@ -23,6 +23,10 @@ pub const ROWS: [Row; 13] = [
     READS_AT_A_MOMENT,
     SIZES_FIRST,
     STRANGER_LEARNS_NOTHING,
+    CREATOR_WITHOUT_AN_ENTRY,
+    FULL_ACL,
+    RECOVERY_FLAG,
+    RECOVERY_FLAG_REVOKED,
     FAULT_FIRST_LINE,
     FAULT_BAD_LINE,
     FAULT_MOMENT_GOES_BACK,
@@ -204,6 +208,124 @@ const STRANGER_LEARNS_NOTHING: Row = Row {
              8 7 read 9.0.1 0 1 at 5\n",
     output: "denied read\n\
              made 9.0.1\n\
+             denied read\n\
+             denied read\n",
+    error: "",
+};
+
+/// A creator without an entry can still change the ACL, and nothing else.
+const CREATOR_WITHOUT_AN_ENTRY: Row = Row {
+    name: "creator_without_an_entry",
+    script: "window 100\n\
+             1 7 create 0\n\
+             2 7 setacl 7.0.1 7 0\n\
+             3 7 read 7.0.1 0 1\n\
+             3 7 setacl 7.0.1 7 31\n\
+             4 7 read 7.0.1 0 1\n\
+             4 7 read 7.0.1 0 1 at 2\n\
+             4 0 read 7.0.1 0 1 at 2\n\
+             4 7 acl-user 7.0.1 9\n",
+    output: "made 7.0.1\n\
+             done\n\
+             denied read\n\
+             done\n\
+             data empty by 0 since 3\n\
+             denied read\n\
+             data empty by admin\n\
+             no-entry\n",
+    error: "",
+};
+
+/// An ACL has 16 entries at most. What stands behind an entry that is taken away moves up.
+const FULL_ACL: Row = Row {
+    name: "full_acl",
+    script: "window 100\n\
+             1 7 create 0\n\
+             2 7 setacl 7.0.1 101 1\n\
+             2 7 setacl 7.0.1 102 1\n\
+             2 7 setacl 7.0.1 103 1\n\
+             2 7 setacl 7.0.1 104 1\n\
+             2 7 setacl 7.0.1 105 1\n\
+             2 7 setacl 7.0.1 106 1\n\
+             2 7 setacl 7.0.1 107 1\n\
+             2 7 setacl 7.0.1 108 1\n\
+             2 7 setacl 7.0.1 109 1\n\
+             2 7 setacl 7.0.1 110 1\n\
+             2 7 setacl 7.0.1 111 1\n\
+             2 7 setacl 7.0.1 112 1\n\
+             2 7 setacl 7.0.1 113 1\n\
+             2 7 setacl 7.0.1 114 1\n\
+             2 7 setacl 7.0.1 115 1\n\
+             3 7 setacl 7.0.1 116 1\n\
+             4 7 setacl 7.0.1 101 0\n\
+             5 7 acl-index 7.0.1 1\n\
+             5 7 setacl 7.0.1 101 0\n\
+             5 7 acl-index 7.0.1 15\n",
+    output: "made 7.0.1\n\
+             done\n\
+             done\n\
+             done\n\
+             done\n\
+             done\n\
+             done\n\
+             done\n\
+             done\n\
+             done\n\
+             done\n\
+             done\n\
+             done\n\
+             done\n\
+             done\n\
+             done\n\
+             acl-full\n\
+             done\n\
+             entry 1 102 1 by 0 since 4\n\
+             no-entry\n\
+             no-entry\n",
+    error: "",
+};
+
+/// The past is read by the right to recover, in the ACL that was in force then.
+const RECOVERY_FLAG: Row = Row {
+    name: "recovery_flag",
+    script: "window 100\n\
+             10 7 create 0\n\
+             20 7 setacl 7.0.1 9 1\n\
+             30 7 setacl 7.0.1 9 17\n\
+             35 9 read 7.0.1 0 8 at 19\n\
+             35 9 read 7.0.1 0 8 at 25\n\
+             35 9 read 7.0.1 0 8 at 30\n",
+    output: "made 7.0.1\n\
+             done\n\
+             done\n\
+             denied read\n\
+             denied recover\n\
+             data empty by 1 since 30\n",
+    error: "",
+};
+
+/// What a principal could recover at a moment, it can recover once its entry is gone.
+const RECOVERY_FLAG_REVOKED: Row = Row {
+    name: "recovery_flag_revoked",
+    script: "window 100\n\
+             10 7 create 0\n\
+             20 7 setacl 7.0.1 9 1\n\
+             30 7 setacl 7.0.1 9 17\n\
+             35 9 read 7.0.1 0 8 at 19\n\
+             35 9 read 7.0.1 0 8 at 25\n\
+             35 9 read 7.0.1 0 8 at 30\n\
+             40 7 setacl 7.0.1 9 0\n\
+             41 9 read 7.0.1 0 8 at 35\n\
+             41 9 read 7.0.1 0 8\n\
+             41 9 read 7.0.1 0 8 at 40\n",
+    output: "made 7.0.1\n\
+             done\n\
+             done\n\
+             denied read\n\
+             denied recover\n\
+             data empty by 1 since 30\n\
+             done\n\
+             data empty by 1 since 30\n\
              denied read\n\
              denied read\n",
     error: "",

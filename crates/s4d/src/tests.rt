@@ -8,8 +8,8 @@ use crate::text::read_up_to;
 use s4_drive::{Drive, never_down};
 use s4_store::PlainStore;
 use s4_types::{
-    Bytes, Grant, Moment, ObjectId, Principal, Purse, PurseNo, Refusal, Reply, Right, Serial, Step,
-    Version,
+    Bytes, Grant, Moment, ObjectId, Principal, Purse, PurseNo, Refusal, Reply, Right, Rights,
+    Serial, Step, Version,
 };
 use std::alloc::Global;
 use std::io;
@@ -84,7 +84,7 @@ fn row_of_serials_spent(rt: HostRuntime) -> Result<(), Fail> {
 }
 
 /// Scripts that aren't rows: what each writes to standard output and to standard error.
-const SCRIPTS: [(&[u8], &str, &str); 17] = [
+const SCRIPTS: [(&[u8], &str, &str); 20] = [
     // The last line may lack its line feed, and digits may be in either case.
     (b"window 0", "", ""),
     (b"window 18446744073709551615\n", "", ""),
@@ -122,6 +122,27 @@ const SCRIPTS: [(&[u8], &str, &str); 17] = [
     (
         b"window 9\n0 9 append 7.0.1 61\n0 9 setattr 7.0.1 empty\n0 9 delete 7.0.1\n",
         "denied write\ndenied write\ndenied delete\n",
+        "",
+    ),
+    // The borders of users, rights and indexes; a moment after an entry that is asked for.
+    (
+        b"window 9\n0 0 create 15\n0 0 setacl 0.15.1 4294967294 31\n\
+          1 0 acl-user 0.15.1 4294967294\n1 0 acl-index 0.15.1 1 at 0\n",
+        "made 0.15.1\ndone\nentry 1 4294967294 31 by admin\nentry 1 4294967294 31 by admin\n",
+        "",
+    ),
+    (
+        b"window 9\n0 7 create 0\n1 7 acl-user 7.0.1 7\n1 7 acl-index 7.0.1 0 at 1\n\
+          1 7 acl-index 7.0.1 255\n1 7 acl-user 7.0.1 0 at 2\n1 7 setacl 7.0.1 8 0\n",
+        "made 7.0.1\nentry 0 7 31 by 0 since 0\nentry 0 7 31 by 0 since 0\n\
+         no-entry\nfuture\nno-entry\n",
+        "",
+    ),
+    // Who isn't told of an object isn't told of its entries.
+    (
+        b"window 9\n0 9 acl-user 7.0.1 9\n0 9 acl-index 7.0.1 0 at 0\n0 9 setacl 7.0.1 9 31\n\
+          0 7 setacl 7.0.1 9 31\n",
+        "denied read\ndenied read\ndenied control\nno-object\n",
         "",
     ),
     // What is wrong in a line.
@@ -164,7 +185,7 @@ fn lines_of_scripts(rt: HostRuntime) -> Result<(), Fail> {
 }
 
 /// Lines after the first that spell nothing.
-const BAD_LINES: [&str; 53] = [
+const BAD_LINES: [&str; 62] = [
     "0",
     "0 7",
     "0 7 ",
@@ -215,7 +236,16 @@ const BAD_LINES: [&str; 53] = [
     "0 7 setattr 7.0.1",
     "0 7 setattr 7.0.1 6",
     "0 7 setattr 7.0.1 61 at 0",
-    "0 7 setacl 7.0.1 9 1",
+    "0 7 acl-user 7.0.1",
+    "0 7 acl-user 7.0.1 4294967295",
+    "0 7 acl-user 7.0.1 9 at",
+    "0 7 acl-index 7.0.1",
+    "0 7 acl-index 7.0.1 256",
+    "0 7 acl-index 7.0.1 0 0",
+    "0 7 setacl 7.0.1 9",
+    "0 7 setacl 7.0.1 9 32",
+    "0 7 setacl 7.0.1 4294967295 1",
+    "0 7 setacl 7.0.1 9 1 at 0",
     "sweep 1",
     "used",
 ];
@@ -388,6 +418,14 @@ fn texts_of_replies(rt: HostRuntime) -> Result<(), Fail> {
     assert_eq!(rt; text.as_str(), "made 7.15.65535");
     let text = ReplyText(&Reply::Done).to_string(alloc)?;
     assert_eq!(rt; text.as_str(), "done");
+    let entry = Reply::Entry {
+        grant: Grant::Admin,
+        index: 15,
+        user: Principal::new(4294967294).ok_or("a principal")?,
+        rights: Rights::new(31).ok_or("rights")?,
+    };
+    let text = ReplyText(&entry).to_string(alloc)?;
+    assert_eq!(rt; text.as_str(), "entry 15 4294967294 31 by admin");
     Ok(())
 }
 
@@ -433,6 +471,8 @@ fn texts_of_refusals(rt: HostRuntime) -> Result<(), Fail> {
         (Refusal::NoObject, "no-object"),
         (Refusal::Future, "future"),
         (Refusal::TooLong, "too-long"),
+        (Refusal::AclFull, "acl-full"),
+        (Refusal::NoEntry, "no-entry"),
         (Refusal::NamesSpent, "names-spent"),
         (Refusal::NoMemory, "no-memory"),
     ] {

@@ -2,7 +2,7 @@
 
 use crate::fault::ParseError;
 use hex::FromHexError;
-use s4_types::{Bytes, Moment, ObjectId, Principal, Purse, PurseNo, Serial};
+use s4_types::{Bytes, Moment, ObjectId, Principal, Purse, PurseNo, Rights, Serial};
 use std::alloc::Global;
 
 /// A decimal number without sign and without leading zeros, in the range of its type.
@@ -41,6 +41,11 @@ pub fn principal(word: &str) -> Result<Principal, ParseError> {
 
 pub fn purse_number(word: &str) -> Result<PurseNo, ParseError> {
     PurseNo::new(number(word)?).ok_or(ParseError::Bad)
+}
+
+/// The sum of the rights' numbers, 0 to 31.
+pub fn rights(word: &str) -> Result<Rights, ParseError> {
+    Rights::new(number(word)?).ok_or(ParseError::Bad)
 }
 
 fn serial(word: &str) -> Result<Serial, ParseError> {

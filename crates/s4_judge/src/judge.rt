@@ -4,9 +4,9 @@ ghost use Rattle.std.specs.Prelude.{◌≡◌};
 ghost use Rattle.s4_types.specs.declared.reply.Refusal.TheVariants as refusal;
 ghost use Rattle.s4_types.specs.declared.rights.Right.TheVariants as right_of;
 ghost use Rattle.s4_types.specs.Judgement.{judge_now as judged, judge_past as judged_past, denied_absent};
-ghost use Rattle.s4_drive.specs.Held.{shown_held};
+ghost use Rattle.s4_judge.specs.Held.{shown_held};
 
-use crate::acl::entry_of;
+use s4_acl::entry_of;
 use s4_types::{Acl, Caller, Grant, Moment, ObjectId, Refusal, Right};
 
 /// An ACL that is in force, and since when.
@@ -16,7 +16,13 @@ pub struct Held<'a> {
     pub since: Moment,
 }
 
-/// Grants or refuses by the ACL in force; there is none where the object doesn't live.
+/// Grants or refuses what needs the right now, by the ACL in force. There is none where the object
+/// doesn't live.
+///
+/// `NoObject` is told to the object's creator and to the administrator alone, and anyone else is
+/// told `Denied` with the right. The administrator is granted all, and the creator what needs
+/// Control. Anyone else is granted what his entry has the right for, and else told `Denied` with
+/// the right.
 pub fn judge_now(
     caller: Caller,
     object: &ObjectId,
@@ -31,6 +37,9 @@ pub fn judge_now(
     if caller.who.is_administrator() {
         return Ok(Grant::Admin);
     }
+    if right == Right::Control && caller.who == object.purse.creator {
+        return Ok(Grant::Owner);
+    }
     match entry_of(held.acl, caller.who) {
         Some((index, rights)) if rights.has(right) => Ok(Grant::Entry {
             index,
@@ -40,7 +49,11 @@ pub fn judge_now(
     }
 }
 
-/// Grants or refuses by the ACL that was in force at a moment, which needs Read and then Recover.
+/// Grants or refuses a request that names a moment, by the ACL that was in force then. It needs
+/// Read and then Recover.
+///
+/// As `judge_now` where the object didn't live, with Read as the right. `Denied` names Read where
+/// that lacks, and Recover where it alone lacks.
 pub fn judge_past(
     caller: Caller,
     object: &ObjectId,

@@ -1,0 +1,227 @@
+-- Which lists are ACLs, once one of their entries is changed.
+use Rattle.std.proofs.Common.{take, drop, append-nil, ◌≡◌, ℕ, ◌+◌, ◌≤◌, ◌<◌, Bool, IsTrue, true, false, not, cond, List, [], ◌∷◌, ◌++◌, refl, sym, ◌∙◌, ap, subst, arith, length, length-append}
+use Rattle.std.specs.Prelude.{is_some, Option, Some, None, Result, Ok, Err, slice_index_or, ◌&&◌, ◌||◌, ◌==◌, nat_le, nat_lt, map, filter, if◌then◌else◌}
+use Rattle.std.specs.List.{list_any, list_all}
+use Rattle.std.proofs.lemmas.List.Folds.{list_all-append, list_any-append, list_all-map}
+use Rattle.std.proofs.lemmas.List.{take-append-drop, map_more}
+use Rattle.std.proofs.lemmas.List.Elements.{filter_more}
+use Rattle.s4_types.specs.declared.acl.AclEntry.{AclEntry}
+use Rattle.s4_types.specs.declared.reply.Refusal.TheVariants.{AclFull, NoEntry}
+use Rattle.s4_types.specs.Acl.{names, one_each, is_acl, IsAcl, without_entry, replaced}
+use Rattle.s4_types.specs.Judgement.{found_from}
+use Rattle.s4_acl.specs.Set.{acl_once_set}
+use Rattle.s4_types.proofs.Booleans.{by_test, both, not_both}
+use Rattle.s4_types.proofs.Entries.{length-without, length-replaced}
+
+-- what makes a list an ACL
+record AclParts (acl : List AclEntry) : Type 0 where
+  short : length acl ≤ 16
+  once : one_each acl ≡ true
+  given : list_all (λ entry. nat_lt 0 entry.rights) acl ≡ true
+
+parts : (acl : List AclEntry) → IsAcl acl → AclParts acl
+parts acl is =
+    let outer = both (nat_le (length acl) 16 && one_each acl) (list_all (λ entry. nat_lt 0 entry.rights) acl) is in
+    let inner = both (nat_le (length acl) 16) (one_each acl) outer.0 in
+    let low : nat_le (length acl) 16 ≡ true = inner.0 in
+    record { short = grind arith; once = inner.1; given = outer.1 }
+
+whole : (acl : List AclEntry) → AclParts acl → IsAcl acl
+whole acl p =
+    let short : length acl ≤ 16 = p.short in
+    let low : nat_le (length acl) 16 ≡ true = grind arith in
+    rw (low, p.once, p.given) refl
+
+-- A BEGINNING OF AN ACL
+
+names-front : (who : ℕ) (xs ys : List AclEntry) → names who (xs ++ ys) ≡ false → names who xs ≡ false
+names-front who [] ys e = refl
+names-front who (x ∷ xs) ys e = of (x.who == who) (names-front who xs ys) e
+  where
+    of : (b : Bool) → (names who (xs ++ ys) ≡ false → names who xs ≡ false) → (b || names who (xs ++ ys)) ≡ false → (b || names who xs) ≡ false
+    of true rest f = cc
+    of false rest f = rest f
+
+not-true : (b : Bool) → not b ≡ true → b ≡ false
+not-true true e = cc
+not-true false e = refl
+
+one_each-front : (xs ys : List AclEntry) → one_each (xs ++ ys) ≡ true → one_each xs ≡ true
+one_each-front [] ys e = refl
+one_each-front (x ∷ xs) ys e =
+    let parts = both (not (names x.who (xs ++ ys))) (one_each (xs ++ ys)) e in
+    rw (names-front x.who xs ys (not-true (names x.who (xs ++ ys)) parts.0), one_each-front xs ys parts.1) refl
+
+pub is_acl-front : (xs ys : List AclEntry) → IsAcl (xs ++ ys) → IsAcl xs
+is_acl-front xs ys is =
+    let p = parts (xs ++ ys) is in
+    let low : length (xs ++ ys) ≤ 16 = p.short in
+    let sum : length (xs ++ ys) ≡ length xs + length ys = length-append xs ys in
+    let all : (list_all (λ (entry : AclEntry). nat_lt 0 entry.rights) xs && list_all (λ (entry : AclEntry). nat_lt 0 entry.rights) ys) ≡ true
+    = sym (list_all-append (λ (entry : AclEntry). nat_lt 0 entry.rights) xs ys) ∙ p.given in
+    whole xs (record {
+      short = omega arith;
+      once = one_each-front xs ys p.once;
+      given = (both (list_all (λ (entry : AclEntry). nat_lt 0 entry.rights) xs) _ all).0;
+    })
+
+-- AN ACL WITHOUT AN ENTRY
+
+names-without : (p : AclEntry → Bool) (who : ℕ) (xs : List AclEntry) → names who xs ≡ false → names who (filter p xs) ≡ false
+names-without p who [] e = refl
+names-without p who (x ∷ xs) e = of (x.who == who) (p x) refl (names-without p who xs) e
+  where
+    of : (b c : Bool) → (x.who == who) ≡ b → (names who xs ≡ false → names who (filter p xs) ≡ false) → (b || names who xs) ≡ false → names who (cond c (x ∷ filter p xs) (filter p xs)) ≡ false
+    of true c is rest f = cc
+    of false true is rest f = ap (λ d. d || names who (filter p xs)) is ∙ rest f
+    of false false is rest f = rest f
+
+one_each-without : (p : AclEntry → Bool) (xs : List AclEntry) → one_each xs ≡ true → one_each (filter p xs) ≡ true
+one_each-without p [] e = refl
+one_each-without p (x ∷ xs) e =
+    let parts = both (not (names x.who xs)) (one_each xs) e in
+    of (p x) (names-without p x.who xs (not-true (names x.who xs) parts.0)) (one_each-without p xs parts.1)
+  where
+    of : (b : Bool) → names x.who (filter p xs) ≡ false → one_each (filter p xs) ≡ true → one_each (cond b (x ∷ filter p xs) (filter p xs)) ≡ true
+    of true f g = rw (f, g) refl
+    of false f g = g
+
+all-without : (p q : AclEntry → Bool) (xs : List AclEntry) → list_all q xs ≡ true → list_all q (filter p xs) ≡ true
+all-without p q [] e = refl
+all-without p q (x ∷ xs) e = let parts = both (q x) (list_all q xs) e in of (p x) parts.0 (all-without p q xs parts.1)
+  where
+    of : (b : Bool) → q x ≡ true → list_all q (filter p xs) ≡ true → list_all q (cond b (x ∷ filter p xs) (filter p xs)) ≡ true
+    of true f g = rw (f, g) refl
+    of false f g = g
+
+pub is_acl-without : (who : ℕ) (xs : List AclEntry) → IsAcl xs → IsAcl (without_entry who xs)
+is_acl-without who xs is =
+    let p = parts xs is in
+    let low : length xs ≤ 16 = p.short in
+    let shorter : length (without_entry who xs) ≤ length xs = length-without (λ entry. not (entry.who == who)) xs in
+    whole (without_entry who xs) (record {
+      short = omega arith;
+      once = one_each-without (λ entry. not (entry.who == who)) xs p.once;
+      given = all-without (λ entry. not (entry.who == who)) (λ entry. nat_lt 0 entry.rights) xs p.given;
+    })
+
+-- AN ACL WITH AN ENTRY CHANGED
+
+-- the entry in the place of its principal's
+abbrev pub in_place : AclEntry → AclEntry → AclEntry
+in_place new entry = if entry.who == new.who then new else entry
+
+in_place-who : (new entry : AclEntry) → (in_place new entry).who ≡ entry.who
+in_place-who new entry = by_test (entry.who == new.who)
+    (λ e. let same : entry.who ≡ new.who = grind arith in ap (λ b. (cond b new entry).who) e ∙ sym same)
+    (λ e. ap (λ b. (cond b new entry).who) e)
+
+names-replaced : (new : AclEntry) (who : ℕ) (xs : List AclEntry) → names who (replaced new xs) ≡ names who xs
+names-replaced new who [] = refl
+names-replaced new who (x ∷ xs) = ap (λ w. (w == who) || names who (replaced new xs)) (in_place-who new x) ∙ ap (λ b. (x.who == who) || b) (names-replaced new who xs)
+
+one_each-replaced : (new : AclEntry) (xs : List AclEntry) → one_each (replaced new xs) ≡ one_each xs
+one_each-replaced new [] = refl
+one_each-replaced new (x ∷ xs) =
+    ap (λ w. not (names w (replaced new xs)) && one_each (replaced new xs)) (in_place-who new x)
+    ∙ ap (λ b. not b && one_each (replaced new xs)) (names-replaced new x.who xs)
+    ∙ ap (λ b. not (names x.who xs) && b) (one_each-replaced new xs)
+
+all-replaced : (new : AclEntry) (xs : List AclEntry) → nat_lt 0 new.rights ≡ true → list_all (λ entry. nat_lt 0 entry.rights) xs ≡ true → list_all (λ entry. nat_lt 0 entry.rights) (replaced new xs) ≡ true
+all-replaced new [] g e = refl
+all-replaced new (x ∷ xs) g e =
+    let parts = both (nat_lt 0 x.rights) (list_all (λ (entry : AclEntry). nat_lt 0 entry.rights) xs) e in
+    of (x.who == new.who) parts.0 (all-replaced new xs g parts.1)
+  where
+    of : (b : Bool) → nat_lt 0 x.rights ≡ true → list_all (λ entry. nat_lt 0 entry.rights) (replaced new xs) ≡ true → (nat_lt 0 (cond b new x).rights && list_all (λ entry. nat_lt 0 entry.rights) (replaced new xs)) ≡ true
+    of true f r = rw (g, r) refl
+    of false f r = rw (f, r) refl
+
+pub is_acl-replaced : (new : AclEntry) (xs : List AclEntry) → 0 < new.rights → IsAcl xs → IsAcl (replaced new xs)
+is_acl-replaced new xs given is =
+    let p = parts xs is in
+    let low : length xs ≤ 16 = p.short in
+    let same : length (replaced new xs) ≡ length xs = length-replaced new xs in
+    let some : nat_lt 0 new.rights ≡ true = grind arith in
+    whole (replaced new xs) (record {
+      short = omega arith;
+      once = one_each-replaced new xs ∙ p.once;
+      given = all-replaced new xs some p.given;
+    })
+
+-- AN ACL WITH ONE MORE ENTRY
+
+names-more : (who : ℕ) (new : AclEntry) (xs : List AclEntry) → names who xs ≡ false → (new.who == who) ≡ false → names who (xs ++ new ∷ []) ≡ false
+names-more who new xs e f = list_any-append (λ entry. entry.who == who) xs (new ∷ []) ∙ ap (λ b. b || ((new.who == who) || false)) e ∙ ap (λ b. b || false) f
+
+one_each-more : (new : AclEntry) (xs : List AclEntry) → names new.who xs ≡ false → one_each xs ≡ true → one_each (xs ++ new ∷ []) ≡ true
+one_each-more new [] e o = refl
+one_each-more new (x ∷ xs) e o =
+    let once = both (not (names x.who xs)) (one_each xs) o in
+    by_test (x.who == new.who)
+    (λ f. absurd (not_both true refl (ap (λ b. b || names new.who xs) (sym f) ∙ e)))
+    (λ f. let other : (new.who == x.who) ≡ false = grind arith in
+    let rest : names new.who xs ≡ false = ap (λ b. b || names new.who xs) (sym f) ∙ e in
+    rw (names-more x.who new xs (not-true (names x.who xs) once.0) other, one_each-more new xs rest once.1) refl)
+
+pub is_acl-more : (new : AclEntry) (xs : List AclEntry) → 0 < new.rights → names new.who xs ≡ false → length xs < 16 → IsAcl xs → IsAcl (xs ++ new ∷ [])
+is_acl-more new xs given free room is =
+    let p = parts xs is in
+    let sum : length (xs ++ new ∷ []) ≡ length xs + 1 = length-append xs (new ∷ []) in
+    let some : nat_lt 0 new.rights ≡ true = grind arith in
+    whole (xs ++ new ∷ []) (record {
+      short = omega arith;
+      once = one_each-more new xs free p.once;
+      given = list_all-append (λ entry. nat_lt 0 entry.rights) xs (new ∷ []) ∙ rw (p.given, some) refl;
+    })
+
+-- ONE ENTRY AFTER THE OTHER
+
+beginning : (n : ℕ) (xs : List AclEntry) → IsAcl xs → IsAcl (take n xs)
+beginning n xs is = is_acl-front (take n xs) (drop n xs) (subst IsAcl (sym (take-append-drop n xs)) is)
+
+module _ (xs : List AclEntry) (i : ℕ) (x : AclEntry) (low : i < length xs) (is : x ≡ slice_index_or xs i x) where
+  pub replaced-next : (new : AclEntry) → replaced new (take (i + 1) xs) ≡ replaced new (take i xs) ++ in_place new x ∷ []
+  replaced-next new = map_more (in_place new) xs i x low ∙ ap (λ y. replaced new (take i xs) ++ in_place new y ∷ []) (sym is)
+
+  pub is_acl-replaced-next : (new : AclEntry) → 0 < new.rights → IsAcl xs → IsAcl (replaced new (take i xs) ++ in_place new x ∷ [])
+  is_acl-replaced-next new given acl = subst IsAcl (replaced-next new) (is_acl-replaced new (take (i + 1) xs) given (beginning (i + 1) xs acl))
+
+  pub without-next : (who : ℕ) → without_entry who (take (i + 1) xs) ≡ without_entry who (take i xs) ++ cond (not (x.who == who)) (x ∷ []) []
+  without-next who = filter_more (λ entry. not (entry.who == who)) xs i x low
+      ∙ ap (λ (y : AclEntry). without_entry who (take i xs) ++ cond (not (y.who == who)) (y ∷ []) []) (sym is)
+
+  pub is_acl-without-next : (who : ℕ) → not (x.who == who) ≡ true → IsAcl xs → IsAcl (without_entry who (take i xs) ++ x ∷ [])
+  is_acl-without-next who e acl =
+      subst IsAcl (without-next who ∙ ap (λ b. without_entry who (take i xs) ++ cond b (x ∷ []) []) e) (is_acl-without who (take (i + 1) xs) (beginning (i + 1) xs acl))
+
+-- LOOKING UP
+
+pub found-names : (i who : ℕ) (xs : List AclEntry) → names who xs ≡ is_some (found_from i who xs)
+found-names i who [] = refl
+found-names i who (x ∷ xs) = of (x.who == who) (found-names (i + 1) who xs)
+  where
+    of : (b : Bool) → names who xs ≡ is_some (found_from (i + 1) who xs) → (b || names who xs) ≡ is_some (cond b (Some (record { index = i; rights = x.rights })) (found_from (i + 1) who xs))
+    of true e = refl
+    of false e = e
+
+-- WHAT A CHANGE COMES TO
+
+module _ (who rights : ℕ) (acl : List AclEntry) where
+  abbrev new-entry : AclEntry
+  new-entry = record { who = who; rights = rights }
+
+  pub taken-away : names who acl ≡ true → (rights == 0) ≡ true → acl_once_set who rights acl ≡ Ok (without_entry who acl)
+  taken-away e f = rw (e, f) refl
+
+  pub changed-in-place : names who acl ≡ true → (rights == 0) ≡ false → acl_once_set who rights acl ≡ Ok (replaced new-entry acl)
+  changed-in-place e f = rw (e, f) refl
+
+  pub none-to-take : names who acl ≡ false → (rights == 0) ≡ true → acl_once_set who rights acl ≡ Err NoEntry
+  none-to-take e f = rw (e, f) refl
+
+  pub full : names who acl ≡ false → (rights == 0) ≡ false → nat_le 16 (length acl) ≡ true → acl_once_set who rights acl ≡ Err AclFull
+  full e f g = rw (e, f, g) refl
+
+  pub added : names who acl ≡ false → (rights == 0) ≡ false → nat_le 16 (length acl) ≡ false → acl_once_set who rights acl ≡ Ok (acl ++ new-entry ∷ [])
+  added e f g = rw (e, f, g) refl

@@ -1,0 +1,12 @@
+//! ACLs: looking an entry up, and giving a principal rights (docs/MODEL.md, "ACLs"). No call takes
+//! memory.
+#![tactic(auto)]
+
+mod change;
+mod look;
+
+pub use change::set;
+pub use look::{by_index, entry_of};
+
+#[cfg(test)]
+mod tests;
