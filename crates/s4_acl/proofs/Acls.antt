@@ -1,13 +1,13 @@
 -- Which lists are ACLs, once one of their entries is changed.
-use Rattle.std.proofs.Common.{take, drop, append-nil, ◌≡◌, ℕ, ◌+◌, ◌≤◌, ◌<◌, Bool, IsTrue, true, false, not, cond, List, [], ◌∷◌, ◌++◌, refl, sym, ◌∙◌, ap, subst, arith, length, length-append}
-use Rattle.std.specs.Prelude.{is_some, Option, Some, None, Result, Ok, Err, slice_index_or, ◌&&◌, ◌||◌, ◌==◌, nat_le, nat_lt, map, filter, if◌then◌else◌}
-use Rattle.std.specs.List.{list_any, list_all}
-use Rattle.std.proofs.lemmas.List.Folds.{list_all-append, list_any-append, list_all-map}
+use Rattle.std.proofs.Common.{take, drop, ◌≡◌, ℕ, ◌+◌, ◌≤◌, ◌<◌, Bool, true, false, not, cond, List, [], ◌∷◌, ◌++◌, refl, sym, ◌∙◌, ap, subst, arith, length, length-append}
+use Rattle.std.specs.Prelude.{is_some, Some, Ok, Err, slice_index_or, ◌&&◌, ◌||◌, ◌==◌, nat_le, nat_lt, filter, if◌then◌else◌}
+use Rattle.std.specs.List.{list_all}
+use Rattle.std.proofs.lemmas.List.Folds.{list_all-append, list_any-append}
 use Rattle.std.proofs.lemmas.List.{take-append-drop, map_more}
 use Rattle.std.proofs.lemmas.List.Elements.{filter_more}
 use Rattle.s4_types.specs.declared.acl.AclEntry.{AclEntry}
 use Rattle.s4_types.specs.declared.reply.Refusal.TheVariants.{AclFull, NoEntry}
-use Rattle.s4_types.specs.Acl.{names, one_each, is_acl, IsAcl, without_entry, replaced}
+use Rattle.s4_types.specs.Acl.{names, one_each, IsAcl, without_entry, replaced}
 use Rattle.s4_types.specs.Judgement.{found_from}
 use Rattle.s4_acl.specs.Set.{acl_once_set}
 use Rattle.s4_types.proofs.Booleans.{by_test, both, not_both}

@@ -1,6 +1,6 @@
 -- What an accepted request puts, ends and makes.
 use Rattle.std.proofs.Common.{◌≡◌, ℕ, ◌+◌, ◌≤◌, Bool, true, false, cond, Option, Some, None, List, [], ◌∷◌, ◌++◌, refl, sym, ◌∙◌, ap, subst}
-use Rattle.std.specs.Prelude.{◌&&◌, ◌==◌, nat_le, is_ok, Result, Ok, if◌then◌else◌}
+use Rattle.std.specs.Prelude.{◌&&◌, ◌==◌, nat_le, is_ok, Ok, if◌then◌else◌}
 use Rattle.s4_types.specs.declared.principal.Caller.{Caller}
 use Rattle.s4_types.specs.declared.object.Purse.{Purse}
 use Rattle.s4_types.specs.declared.object.ObjectId.{ObjectId}
@@ -11,7 +11,6 @@ use Rattle.s4_types.specs.declared.reply.Refusal.{Refusal}
 use Rattle.s4_types.specs.declared.reply.Refusal.TheVariants.{NamesSpent}
 use Rattle.s4_types.specs.declared.reply.Reply.TheVariants.{Done, Made}
 use Rattle.s4_types.specs.declared.record.Record.{Record}
-use Rattle.s4_types.specs.declared.version.Version.{Version}
 use Rattle.s4_types.specs.declared.version.Item.{Item}
 use Rattle.s4_types.specs.declared.version.Item.TheVariants as item
 use Rattle.s4_types.specs.Names.{same_purse, same_object, object_in}
@@ -21,13 +20,13 @@ use Rattle.s4_types.specs.Versions as model
 use Rattle.s4_types.specs.Outcome.{◌>>◌, refuse_if, reply_of}
 use Rattle.s4_types.specs.Base.{Base}
 use Rattle.s4_types.specs.Acl.{acl_with}
-use Rattle.s4_types.specs.Answer.{answer, drawn, draws, data_of, acl_of, settable}
+use Rattle.s4_types.specs.Answer.{answer, drawn, data_of, acl_of, settable}
 use Rattle.s4_types.specs.Play.{last_of}
 use Rattle.s4_types.specs.Judgement.{judge}
 use Rattle.s4_types.specs.declared.rights.Right.TheVariants as right
 use Rattle.s4_types.proofs.Tests.{passes_judgement}
-use Rattle.s4_types.proofs.Booleans.{by_test, both, not_both, &&-true, &&-false}
-use Rattle.s4_types.proofs.SameNames.{purse_self, object_self, object_is, same_purses}
+use Rattle.s4_types.proofs.Booleans.{by_test, both, &&-true, &&-false}
+use Rattle.s4_types.proofs.SameNames.{purse_self, object_self, object_is}
 use Rattle.s4_types.proofs.Snoc.{versions-snoc}
 use Rattle.s4_tracks.specs.Chain.{begun, end_at, ended, with_end, with_put, cost_of}
 use Rattle.s4_tracks.proofs.Ending.{with_end-snoc}

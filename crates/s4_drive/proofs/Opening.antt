@@ -1,5 +1,5 @@
 -- The chains of a new object.
-use Rattle.std.proofs.Common.{◌≡◌, ℕ, Bool, true, false, cond, Option, Some, None, List, [], ◌∷◌, ◌++◌, refl, sym, ◌∙◌, ap, subst}
+use Rattle.std.proofs.Common.{◌≡◌, ℕ, false, List, [], ◌∷◌, ◌++◌, refl, sym, ◌∙◌, ap, subst}
 use Rattle.std.specs.Prelude.{◌==◌}
 use Rattle.std.specs.FinMap as finmap
 use Rattle.std.proofs.lemmas.Bool.{eqb-true, eq-eqb}
@@ -9,12 +9,12 @@ use Rattle.s4_types.specs.declared.version.Item.TheVariants as item
 use Rattle.s4_types.specs.Acl.{first_acl}
 use Rattle.s4_types.proofs.Booleans.{by_test, not_both}
 use Rattle.s4_store.specs.Chains.{Chains, items_of, IsOpen}
-use Rattle.s4_store.specs.Laws.{items_here, open_here, items_elsewhere, open_still, items_fresh, fresh_differs, get_elsewhere, remove-insert}
+use Rattle.s4_store.specs.Laws.{items_here, open_here, items_elsewhere, open_still, fresh_differs, remove-insert}
 use Rattle.s4_tracks.specs.Chain.{begun}
 use Rattle.s4_drive.specs.declared.objects.Which.{Which}
 use Rattle.s4_drive.specs.declared.objects.Which.TheVariants as which
 use Rattle.s4_drive.specs.declared.objects.Kept.{Kept}
-use Rattle.s4_drive.specs.Chains.{chain_of, OpensTwo, Opens, Begins, first_on}
+use Rattle.s4_drive.specs.Chains.{chain_of, Opens, Begins, first_on}
 
 turned : (a b : ℕ) → (a == b) ≡ false → (b == a) ≡ false
 turned a b e = by_test (b == a) (λ f. absurd (not_both _ (eq-eqb a b (sym (eqb-true b a f))) e)) (λ f. f)

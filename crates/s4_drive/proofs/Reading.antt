@@ -1,5 +1,5 @@
 -- What is held tells what is in force.
-use Rattle.std.proofs.Common.{◌≡◌, ℕ, ◌≤◌, Bool, true, false, cond, Option, Some, None, List, [], ◌∷◌, ◌++◌, refl, sym, ◌∙◌, ap, subst, arith, fold}
+use Rattle.std.proofs.Common.{◌≡◌, ℕ, ◌≤◌, Bool, true, false, cond, Option, Some, None, List, [], ◌∷◌, refl, sym, ◌∙◌, ap, subst, arith}
 use Rattle.std.specs.Prelude.{nat_le, is_some, if◌then◌else◌}
 use Rattle.std.specs.List.{find}
 use Rattle.std.specs.Option.{option_map}
@@ -16,14 +16,14 @@ use Rattle.s4_types.specs.Judgement.{held_of}
 use Rattle.s4_types.specs.Answer.{value_or_empty, data_of, acl_of, moment_of}
 use Rattle.s4_types.specs.Play.{last_of}
 use Rattle.s4_types.proofs.Snoc.{newest-snoc}
-use Rattle.s4_store.specs.Chains.{Chains, items_of, newest_of}
+use Rattle.s4_store.specs.Chains.{Chains, items_of}
 use Rattle.s4_tracks.specs.Chain.{is_by, newer, latest, unended, in_force, endless, current_of}
 use Rattle.s4_drive.specs.declared.objects.Which.{Which}
 use Rattle.s4_drive.specs.declared.objects.Which.TheVariants as which
 use Rattle.s4_drive.specs.declared.objects.Kept.{Kept}
 use Rattle.s4_drive.specs.Held.{bytes_in, held_in}
 use Rattle.s4_drive.specs.Chains.{chain_of, held}
-use Rattle.s4_drive.specs.Laid.{version_of, laid, versions_on, version_at, version_in}
+use Rattle.s4_drive.specs.Laid.{version_of, laid, version_at, version_in}
 use Rattle.s4_drive.specs.Sound.{IsSound, IsTrack, TrackStands, DataFits, AttributesFit, AclFits, held_by, was_made, was_deleted}
 use Rattle.s4_drive.specs.Stands.{StandsFor}
 

@@ -17,7 +17,7 @@ use Rattle.s4_types.specs.Answer.{drawn, draws}
 use Rattle.s4_types.proofs.Booleans.{by_test, both, ||-false, ||-true, not_both}
 use Rattle.s4_types.proofs.SameNames.{object_is, object_self, purse_is}
 use Rattle.s4_types.proofs.Snoc.{versions-snoc, drawn-snoc, list_any-snoc}
-use Rattle.s4_store.specs.Chains.{Chains, items_of, IsOpen, StillOpen}
+use Rattle.s4_store.specs.Chains.{Chains, items_of, IsOpen}
 use Rattle.s4_store.specs.Laws.{items_here, items_elsewhere, StillOpen-insert}
 use Rattle.s4_tracks.specs.Chain.{with_put, with_end}
 use Rattle.s4_drive.specs.declared.objects.Which.{Which}

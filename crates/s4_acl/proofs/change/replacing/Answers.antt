@@ -1,5 +1,4 @@
-use Rattle.std.proofs.Common.{◌≡◌, ◌≤◌, ◌++◌, ◌∷◌, [], true, false, cond, sym, ap, subst, ◌∙◌, length, refl, arith, take}
-use Rattle.std.specs.Prelude.{◌==◌}
+use Rattle.std.proofs.Common.{◌≡◌, ◌≤◌, ◌++◌, ◌∷◌, [], cond, sym, ap, subst, ◌∙◌, length, arith, take}
 use Rattle.std.proofs.lemmas.List.{take_all}
 use Rattle.s4_types.specs.Acl.{IsAcl, replaced}
 use Rattle.s4_acl.proofs.Acls.{in_place, replaced-next, is_acl-replaced-next}

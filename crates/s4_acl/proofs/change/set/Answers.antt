@@ -1,5 +1,5 @@
-use Rattle.std.proofs.Common.{◌≡◌, ◌≤◌, ◌<◌, ◌++◌, ◌∷◌, [], true, false, sym, ap, subst, ◌∙◌, length, refl, arith}
-use Rattle.std.specs.Prelude.{◌==◌, nat_le, is_some, Ok}
+use Rattle.std.proofs.Common.{◌≡◌, ◌++◌, ◌∷◌, [], true, false, sym, ap, subst, ◌∙◌, arith}
+use Rattle.std.specs.Prelude.{is_some, Ok}
 use Rattle.s4_types.specs.Acl.{IsAcl, names}
 use Rattle.s4_acl.specs.Found.{shown_entry}
 use Rattle.s4_acl.proofs.Acls.{found-names, taken-away, changed-in-place, none-to-take, full, added, is_acl-more}

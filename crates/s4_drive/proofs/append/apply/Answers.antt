@@ -1,6 +1,5 @@
 use Rattle.std.proofs.Common.{◌++◌, sym, ap, subst, refl, ◌∙◌}
 use Rattle.s4_types.specs.declared.version.Item.TheVariants as item
-use Rattle.s4_types.specs.Answer.{data_of}
 use Rattle.s4_drive.specs.declared.objects.Which.TheVariants as which
 use Rattle.s4_drive.specs.Stands.{PutsOn}
 use Rattle.s4_drive.proofs.Effects.{append_puts, changed_made}

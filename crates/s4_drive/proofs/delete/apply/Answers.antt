@@ -1,8 +1,5 @@
-use Rattle.std.proofs.Common.{◌≡◌, Some, true, sym, ap, subst, refl, ◌∙◌}
+use Rattle.std.proofs.Common.{◌≡◌, true, sym, ap, refl, ◌∙◌}
 use Rattle.std.specs.Prelude.{is_some}
-use Rattle.std.specs.BTreeMap.{get}
-use Rattle.s4_store.specs.Chains.{IsOpen}
-use Rattle.s4_drive.specs.Keys.{object_cmp}
 use Rattle.s4_drive.specs.declared.objects.Which.TheVariants as which
 use Rattle.s4_drive.proofs.Standing.{stands_end}
 use Rattle.s4_drive.proofs.Effects.{delete_ends, changed_made}

@@ -1,4 +1,4 @@
-use Rattle.std.proofs.Common.{Some, sym, ap, subst, ◌∙◌}
+use Rattle.std.proofs.Common.{sym, ap, subst, ◌∙◌}
 use Rattle.s4_store.specs.Chains.{items_of, IsOpen}
 use Rattle.s4_types.specs.Answer.{moment_of}
 use Rattle.s4_drive.specs.Laid.{version_in}
