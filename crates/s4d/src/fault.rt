@@ -10,9 +10,10 @@ ghost use Rattle.s4d.specs.declared.fault.ParseError.TheVariants as parse_error;
 use std::alloc::{AllocError, AllocFailed};
 use std::io::ErrorKind;
 use std::{fmt, io};
+use thiserror::Error;
 
 /// Why the program ends without success. Lines count from 1.
-#[derive(Debug, PartialEq, Drop)]
+#[derive(Debug, PartialEq, Drop, Error)]
 pub enum Fault {
     BadLine(usize),
     MomentGoesBack(usize),
