@@ -55,17 +55,13 @@ fn outcome<S: Store<Version>>(
             create::outcome(parts, &purse)
         }
         Request::Delete { object } => delete::outcome(parts, moment, caller, object),
-        Request::Read {
-            object,
+        &Request::Read {
+            ref object,
             offset,
             length,
             at,
         } => {
-            let range = Range {
-                offset: *offset,
-                length: *length,
-                at: *at,
-            };
+            let range = Range { offset, length, at };
             read::outcome(alloc, parts, moment, caller, object, range)
         }
         Request::Write {

@@ -163,57 +163,62 @@ fn looks_at_sizes_first(rt: HostRuntime) -> Result<(), Fail> {
     answers(&rt, alloc, &steps, &wanted, 3)
 }
 
+fn set_acl(object: ObjectId, user: u32, rights: u8) -> Result<Request, Fail> {
+    Ok(Request::SetAcl {
+        object,
+        user: Principal::new(user).ok_or("a principal")?,
+        rights: Rights::new(rights).ok_or("rights")?,
+    })
+}
+
+fn by_user(object: ObjectId, user: u32, at: Option<Moment>) -> Result<Request, Fail> {
+    let user = Principal::new(user).ok_or("a principal")?;
+    Ok(Request::GetAclByUser { object, user, at })
+}
+
+// Principal 9's entry, with rights 17, as it tells itself in the ACL of moment 2.
+fn entry_of_9() -> Result<Reply, Fail> {
+    let since = Moment::new(2);
+    Ok(Reply::Entry {
+        grant: Grant::Entry { index: 1, since },
+        index: 1,
+        user: Principal::new(9).ok_or("a principal")?,
+        rights: Rights::new(17).ok_or("rights")?,
+    })
+}
+
 #[test]
 fn sets_and_tells_entries(rt: HostRuntime) -> Result<(), Fail> {
     let alloc = rt.alloc();
-    let object = object(7, 0, 1)?;
-    let user = Principal::new(9).ok_or("a principal")?;
-    let set = |rights| -> Result<Request, Fail> {
-        let rights = Rights::new(rights).ok_or("rights")?;
-        Ok(Request::SetAcl {
-            object,
-            user,
-            rights,
-        })
-    };
-    let by_user = |at| Request::GetAclByUser { object, user, at };
+    let o = object(7, 0, 1)?;
     let by_index = |index| Request::GetAclByIndex {
-        object,
+        object: o,
         index,
         at: None,
     };
-    let told = |index, since| -> Result<Reply, Fail> {
-        let since = Moment::new(since);
-        Ok(Reply::Entry {
-            grant: Grant::Entry { index: 1, since },
-            index,
-            user,
-            rights: Rights::new(17).ok_or("rights")?,
-        })
-    };
     let steps = [
         ask(1, 7, create(0)?)?,
-        ask(2, 7, set(17)?)?,
-        ask(3, 9, by_user(None))?,
+        ask(2, 7, set_acl(o, 9, 17)?)?,
+        ask(3, 9, by_user(o, 9, None)?)?,
         ask(3, 9, by_index(1))?,
         ask(3, 9, by_index(2))?,
-        ask(3, 9, set(31)?)?,
-        ask(4, 7, set(0)?)?,
-        ask(4, 7, set(0)?)?,
-        ask(5, 9, by_user(Some(Moment::new(3))))?,
-        ask(5, 9, by_user(None))?,
-        ask(5, 9, by_user(Some(Moment::new(6))))?,
+        ask(3, 9, set_acl(o, 9, 31)?)?,
+        ask(4, 7, set_acl(o, 9, 0)?)?,
+        ask(4, 7, set_acl(o, 9, 0)?)?,
+        ask(5, 9, by_user(o, 9, Some(Moment::new(3)))?)?,
+        ask(5, 9, by_user(o, 9, None)?)?,
+        ask(5, 9, by_user(o, 9, Some(Moment::new(6)))?)?,
     ];
     let wanted = [
-        Reply::Made(object),
+        Reply::Made(o),
         Reply::Done,
-        told(1, 2)?,
-        told(1, 2)?,
+        entry_of_9()?,
+        entry_of_9()?,
         Reply::Refused(Refusal::NoEntry),
         Reply::Refused(Refusal::Denied(Right::Control)),
         Reply::Done,
         Reply::Refused(Refusal::NoEntry),
-        told(1, 2)?,
+        entry_of_9()?,
         Reply::Refused(Refusal::Denied(Right::Read)),
         Reply::Refused(Refusal::Future),
     ];
