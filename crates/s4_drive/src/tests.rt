@@ -176,6 +176,11 @@ fn by_user(object: ObjectId, user: u32, at: Option<Moment>) -> Result<Request, F
     Ok(Request::GetAclByUser { object, user, at })
 }
 
+fn by_index(object: ObjectId, index: u8) -> Request {
+    let at = None;
+    Request::GetAclByIndex { object, index, at }
+}
+
 // Principal 9's entry, with rights 17, as it tells itself in the ACL of moment 2.
 fn entry_of_9() -> Result<Reply, Fail> {
     let since = Moment::new(2);
@@ -191,17 +196,12 @@ fn entry_of_9() -> Result<Reply, Fail> {
 fn sets_and_tells_entries(rt: HostRuntime) -> Result<(), Fail> {
     let alloc = rt.alloc();
     let o = object(7, 0, 1)?;
-    let by_index = |index| Request::GetAclByIndex {
-        object: o,
-        index,
-        at: None,
-    };
     let steps = [
         ask(1, 7, create(0)?)?,
         ask(2, 7, set_acl(o, 9, 17)?)?,
         ask(3, 9, by_user(o, 9, None)?)?,
-        ask(3, 9, by_index(1))?,
-        ask(3, 9, by_index(2))?,
+        ask(3, 9, by_index(o, 1))?,
+        ask(3, 9, by_index(o, 2))?,
         ask(3, 9, set_acl(o, 9, 31)?)?,
         ask(4, 7, set_acl(o, 9, 0)?)?,
         ask(4, 7, set_acl(o, 9, 0)?)?,
