@@ -24,7 +24,7 @@ use Rattle.s4_types.specs.Answer.{answer, drawn, data_of, acl_of, settable}
 use Rattle.s4_types.specs.Play.{last_of}
 use Rattle.s4_types.specs.Judgement.{judge}
 use Rattle.s4_types.specs.declared.rights.Right.TheVariants as right
-use Rattle.s4_types.proofs.Tests.{passes_judgement}
+use Rattle.s4_types.proofs.Outcomes.{passes_judgement}
 use Rattle.s4_types.proofs.Booleans.{by_test, both, &&-true, &&-false}
 use Rattle.s4_types.proofs.SameNames.{purse_self, object_self, object_is}
 use Rattle.s4_types.proofs.Snoc.{versions-snoc}

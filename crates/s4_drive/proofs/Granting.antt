@@ -27,7 +27,7 @@ use Rattle.s4_types.specs.Outcome.{◌>>=◌, ◌>>◌, refuse_if, reply_of}
 use Rattle.s4_types.specs.Base.{Base}
 use Rattle.s4_types.specs.Answer.{answer, outcome, drawn, timely, moment_of, data_of, attributes_of, acl_of, entry_by_user, entry_by_index, settable}
 use Rattle.s4_types.proofs.SameNames.{object_is}
-use Rattle.s4_types.proofs.Tests.{passes_test, passes_judgement}
+use Rattle.s4_types.proofs.Outcomes.{passes_test, passes_judgement}
 use Rattle.s4_types.proofs.Entries.{length-without, length-replaced}
 use Rattle.s4_drive.specs.Sound.{DataFits, AttributesFit, AclFits}
 

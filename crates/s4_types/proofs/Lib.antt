@@ -1,7 +1,7 @@
 pub mod Booleans
 pub mod SameNames
 pub mod Snoc
-pub mod Tests
+pub mod Outcomes
 pub mod Examples
 pub mod OfPurse
 pub mod Applying

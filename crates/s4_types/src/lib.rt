@@ -27,3 +27,6 @@ pub use reply::{Grant, Refusal, Reply};
 pub use request::Request;
 pub use rights::{Right, Rights};
 pub use version::{Item, Version};
+
+#[cfg(test)]
+mod tests;

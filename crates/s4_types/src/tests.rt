@@ -1,0 +1,141 @@
+//! Each public call once, and at its borders.
+
+use crate::{
+    Acl, AclEntry, Bytes, Grant, Moment, ObjectId, Principal, Purse, PurseNo, Refusal, Reply,
+    Request, Right, Rights, Serial,
+};
+use std::alloc::Global;
+use std::test::Fail;
+
+fn bytes(alloc: Global, text: &[u8]) -> Result<Bytes, Fail> {
+    Ok(Bytes::new(Vec::from_slice(alloc, text)?))
+}
+
+#[test]
+fn numbers_at_their_borders(rt: HostRuntime) -> Result<(), Fail> {
+    for (number, want) in [
+        (0, Some(0)),
+        (4294967294, Some(4294967294)),
+        (4294967295, None),
+    ] {
+        let principal = Principal::new(number);
+        assert_eq!(rt; principal.map(|p| p.number()), want, "principal {number}");
+    }
+    for (number, want) in [(0, Some(0)), (15, Some(15)), (16, None), (255, None)] {
+        let purse = PurseNo::new(number);
+        assert_eq!(rt; purse.map(|p| p.number()), want, "purse {number}");
+    }
+    for (number, want) in [(0, None), (1, Some(1)), (65535, Some(65535))] {
+        let serial = Serial::new(number);
+        assert_eq!(rt; serial.map(|s| s.number()), want, "serial {number}");
+    }
+    for (number, want) in [(0, Some(0)), (31, Some(31)), (32, None), (255, None)] {
+        let rights = Rights::new(number);
+        assert_eq!(rt; rights.map(|r| r.number()), want, "rights {number}");
+    }
+    Ok(())
+}
+
+#[test]
+fn administrator_is_principal_0(rt: HostRuntime) -> Result<(), Fail> {
+    assert_eq!(rt; Principal::administrator().number(), 0);
+    assert!(rt; Principal::administrator().is_administrator());
+    let other = Principal::new(1).ok_or("a principal")?;
+    assert!(rt; !other.is_administrator());
+    Ok(())
+}
+
+#[test]
+fn moments_are_ordered(rt: HostRuntime) {
+    let early = Moment::new(5);
+    let late = Moment::new(u64::MAX);
+    assert_eq!(rt; early.tick(), 5);
+    assert_eq!(rt; late.tick(), 18446744073709551615);
+    assert!(rt; early < late);
+    assert!(rt; early == Moment::new(5));
+}
+
+#[test]
+fn rights_are_sums(rt: HostRuntime) -> Result<(), Fail> {
+    let all = Rights::all();
+    let some = Rights::new(18).ok_or("rights")?;
+    assert_eq!(rt; all.number(), 31);
+    for (right, number, in_all, in_some) in [
+        (Right::Read, 1, true, false),
+        (Right::Write, 2, true, true),
+        (Right::Delete, 4, true, false),
+        (Right::Control, 8, true, false),
+        (Right::Recover, 16, true, true),
+        (Right::Admin, 32, false, false),
+    ] {
+        assert_eq!(rt; right.number(), number, "number of {right:?}");
+        assert_eq!(rt; all.has(right), in_all, "{right:?} in all");
+        assert_eq!(rt; some.has(right), in_some, "{right:?} in 18");
+    }
+    Ok(())
+}
+
+#[test]
+fn first_acl_has_its_creator(rt: HostRuntime) -> Result<(), Fail> {
+    let who = Principal::new(7).ok_or("a principal")?;
+    let rights = Rights::new(31).ok_or("rights")?;
+    let wanted = [AclEntry { who, rights }];
+    let acl = Acl::of_creator(who);
+    assert_eq!(rt; acl.entries(), wanted.as_slice());
+    let copied = acl.copy();
+    assert_eq!(rt; copied.entries(), wanted.as_slice());
+    assert!(rt; Acl::empty().entries().is_empty());
+    assert!(rt; Rights::none().is_empty());
+    assert!(rt; !rights.is_empty());
+    Ok(())
+}
+
+#[test]
+fn bytes_stay_as_given(rt: HostRuntime) -> Result<(), Fail> {
+    let alloc = rt.alloc();
+    let empty = bytes(alloc, b"")?;
+    assert!(rt; empty.is_empty());
+    assert_eq!(rt; empty.len(), 0);
+    let hello = bytes(alloc, b"hello")?;
+    assert!(rt; !hello.is_empty());
+    assert_eq!(rt; hello.len(), 5);
+    assert_eq!(rt; hello.as_slice(), b"hello".as_slice());
+    assert_eq!(rt; hello.copy()?, hello);
+    assert_ne!(rt; hello, empty);
+    assert_eq!(rt; hello.into_vec().as_slice(), b"hello".as_slice());
+    Ok(())
+}
+
+#[test]
+fn copies_of_requests_are_equal(rt: HostRuntime) -> Result<(), Fail> {
+    let object = ObjectId {
+        purse: Purse {
+            creator: Principal::administrator(),
+            number: PurseNo::new(15).ok_or("a purse")?,
+        },
+        serial: Serial::new(65535).ok_or("a serial")?,
+    };
+    let written = Request::Write {
+        object,
+        offset: u32::MAX,
+        bytes: bytes(rt.alloc(), b"hello")?,
+    };
+    let deleted = Request::Delete { object };
+    assert_eq!(rt; written.copy()?, written);
+    assert_eq!(rt; deleted.copy()?, deleted);
+    Ok(())
+}
+
+#[test]
+fn copies_of_replies_are_equal(rt: HostRuntime) -> Result<(), Fail> {
+    let told = Reply::Data {
+        grant: Grant::Admin,
+        bytes: bytes(rt.alloc(), b"hello")?,
+    };
+    let refused = Reply::Refused(Refusal::Denied(Right::Admin));
+    for (reply, is_refused) in [(&told, false), (&Reply::Done, false), (&refused, true)] {
+        assert_eq!(rt; reply.copy()?, *reply);
+        assert_eq!(rt; reply.is_refused(), is_refused, "{reply:?}");
+    }
+    Ok(())
+}
