@@ -17,6 +17,7 @@ use Rattle.s4_types.specs.Names.{same_purse, same_object, object_in}
 use Rattle.s4_types.specs.Kinds.{is_refused, is_create, concerns}
 use Rattle.s4_types.specs.Versions.{Track, Value, versions, with_effect, makes, deletes, is_made, is_deleted, lives_at, when, data_track, attribute_track, acl_track, of_length, written}
 use Rattle.s4_types.specs.Versions as model
+use Rattle.s4_types.specs.Bindings.{rebound, named_by}
 use Rattle.s4_types.specs.Outcome.{◌>>◌, refuse_if, reply_of}
 use Rattle.s4_types.specs.Base.{Base}
 use Rattle.s4_types.specs.Acl.{acl_with}
@@ -35,7 +36,7 @@ use Rattle.s4_drive.specs.declared.objects.Which.TheVariants as which
 use Rattle.s4_drive.specs.Chains.{same_which}
 use Rattle.s4_drive.specs.Laid.{version_of, laid, versions_on}
 use Rattle.s4_drive.specs.Sound.{IsSound, IsNext, IsTrack, TrackStands, DataFits, AttributesFit, AclFits, was_made, was_deleted}
-use Rattle.s4_drive.specs.Stands.{MakesNone, PutsOn, EndsAll}
+use Rattle.s4_drive.specs.Stands.{MakesNone, RebindsNone, PutsOn, EndsAll}
 use Rattle.s4_drive.proofs.Granting.{changed_by, changed-lives, changed-done, data-fit}
 use Rattle.s4_drive.proofs.Living.{lives_at-now}
 use Rattle.s4_drive.proofs.Reading.{data-in-force, acl-in-force}
@@ -82,9 +83,16 @@ module _ {V : Type 0} (track : Track V) (wrap : V → Item) (cost : (x : V) → 
 
 -- A RECORD ABOUT ONE OBJECT
 
+-- a record whose request is about no name
+rebinds-none : (r : Record) → ((p : Purse) (n : List ℕ) (m : ℕ) (old : List (Value ℕ)) → rebound p n m r.request old ≡ old) → ((p : Purse) (old : List (List ℕ)) → named_by p r.request old ≡ old) → RebindsNone r
+rebinds-none r f g = record {
+  bindings = λ p n old. either-same (concerns p r) _ _ (f p n r.moment old);
+  names = λ p old. either-same (concerns p r) _ _ (g p old);
+}
+
 -- what a record does that is about the object and makes none
 module _ (h : List Record) (r : Record) (o : ObjectId) (about : (p : Purse) → concerns p r ≡ same_purse o.purse p) (made : (q : ObjectId) → is_made q r.reply ≡ false) (kind : is_create r.request ≡ false) where
-  makes-none : MakesNone r
+  pub makes-none : MakesNone r
   makes-none = record {
     makes_none = λ q. ap (λ b. concerns q.purse r && b) (made q) ∙ &&-false (concerns q.purse r);
     draws_none = λ p. ap (λ b. concerns p r && b) kind ∙ &&-false (concerns p r);
@@ -105,7 +113,7 @@ module _ (h : List Record) (r : Record) (o : ObjectId) (about : (p : Purse) → 
         ∙ ap (λ b. cond (same_purse o.purse q.purse) (cond b (model.with_end r.moment (versions track q h)) (with_effect r.moment (track.effect q r.request) (versions track q h))) (versions track q h)) (&&-false (concerns q.purse r))
 
     -- and changes nothing on this track
-    idle : is_deleted q r.request ≡ false → ((old : V) → track.effect q r.request old ≡ None) → versions track q (h ++ r ∷ []) ≡ versions track q h
+    pub idle : is_deleted q r.request ≡ false → ((old : V) → track.effect q r.request old ≡ None) → versions track q (h ++ r ∷ []) ≡ versions track q h
     idle e none = effected e ∙ either-same (same_purse o.purse q.purse) _ _ (ap (λ effect. with_effect r.moment effect (versions track q h)) (λ i old. none old i) ∙ effect-none r.moment (versions track q h))
 
   module _ {V : Type 0} {Fits : V → Type 0} (track : Track V) (wrap : V → Item) (cost : (x : V) → cost_of (wrap x) ≡ track.cost x) (live : IsLive Fits (versions track o h)) where
@@ -207,8 +215,9 @@ module _ (h : List Record) (t : ℕ) (caller : Caller) (o : ObjectId) where
       → ((p : Purse) → concerns p (done request) ≡ same_purse o.purse p) → is_create request ≡ false → ((q : ObjectId) → is_deleted q request ≡ false)
       → ((q : ObjectId) (old : List ℕ) → model.data_effect q request old ≡ when (same_object o q) (f old))
       → ((q : ObjectId) (old : List ℕ) → model.attribute_effect q request old ≡ None) → ((q : ObjectId) (old : List AclEntry) → model.acl_effect q request old ≡ None)
+      → RebindsNone (done request)
       → PutsOn h (done request) o which.Data (item.Data (f live.newest.value))
-  puts-data request f live about kind undeleted does none keeps = record { makes = makes-none h (done request) o about (λ q. refl) kind; tracks = tracks }
+  puts-data request f live about kind undeleted does none keeps rebinds = record { makes = makes-none h (done request) o about (λ q. refl) kind; rebinds = rebinds; tracks = tracks }
     where
       tracks : (q : ObjectId) (u : Which) → versions_on u q (h ++ done request ∷ []) ≡ (if same_object o q && same_which which.Data u then with_put t (item.Data (f live.newest.value)) (versions_on u q h) else versions_on u q h)
       tracks q which.Data = then-both (same_object o q) _ _ _ (put-typed h (done request) o about (λ q. refl) kind data_track item.Data (λ x. refl) live f undeleted does q)
@@ -216,7 +225,7 @@ module _ (h : List Record) (t : ℕ) (caller : Caller) (o : ObjectId) where
       tracks q which.Acl = else-both (same_object o q) _ _ _ (ap (laid acl_track item.Acl) (idle h (done request) o about (λ q. refl) kind acl_track q (undeleted q) (keeps q)))
 
   puts-attributes : (bytes : List ℕ) (live : IsLive AttributesFit (versions attribute_track o h)) → PutsOn h (done (SetAttr o bytes)) o which.Attributes (item.Attr bytes)
-  puts-attributes bytes live = record { makes = makes-none h (done (SetAttr o bytes)) o (λ p. refl) (λ q. refl) refl; tracks = tracks }
+  puts-attributes bytes live = record { makes = makes-none h (done (SetAttr o bytes)) o (λ p. refl) (λ q. refl) refl; rebinds = rebinds-none (done (SetAttr o bytes)) (λ p n m old. refl) (λ p old. refl); tracks = tracks }
     where
       tracks : (q : ObjectId) (u : Which) → versions_on u q (h ++ done (SetAttr o bytes) ∷ []) ≡ (if same_object o q && same_which which.Attributes u then with_put t (item.Attr bytes) (versions_on u q h) else versions_on u q h)
       tracks q which.Attributes = then-both (same_object o q) _ _ _ (put-typed h (done (SetAttr o bytes)) o (λ p. refl) (λ q. refl) refl attribute_track item.Attr (λ x. refl) live (λ old. bytes) (λ q. refl) (λ q old. refl) q)
@@ -224,7 +233,7 @@ module _ (h : List Record) (t : ℕ) (caller : Caller) (o : ObjectId) where
       tracks q which.Acl = else-both (same_object o q) _ _ _ (ap (laid acl_track item.Acl) (idle h (done (SetAttr o bytes)) o (λ p. refl) (λ q. refl) refl acl_track q refl (λ old. refl)))
 
   puts-acl : (user rights : ℕ) (live : IsLive AclFits (versions acl_track o h)) → PutsOn h (done (SetAcl o user rights)) o which.Acl (item.Acl (acl_with user rights live.newest.value))
-  puts-acl user rights live = record { makes = makes-none h (done (SetAcl o user rights)) o (λ p. refl) (λ q. refl) refl; tracks = tracks }
+  puts-acl user rights live = record { makes = makes-none h (done (SetAcl o user rights)) o (λ p. refl) (λ q. refl) refl; rebinds = rebinds-none (done (SetAcl o user rights)) (λ p n m old. refl) (λ p old. refl); tracks = tracks }
     where
       tracks : (q : ObjectId) (u : Which) → versions_on u q (h ++ done (SetAcl o user rights) ∷ []) ≡ (if same_object o q && same_which which.Acl u then with_put t (item.Acl (acl_with user rights live.newest.value)) (versions_on u q h) else versions_on u q h)
       tracks q which.Acl = then-both (same_object o q) _ _ _ (put-typed h (done (SetAcl o user rights)) o (λ p. refl) (λ q. refl) refl acl_track item.Acl (λ x. refl) live (acl_with user rights) (λ q. refl) (λ q old. refl) q)
@@ -232,7 +241,7 @@ module _ (h : List Record) (t : ℕ) (caller : Caller) (o : ObjectId) where
       tracks q which.Attributes = else-both (same_object o q) _ _ _ (ap (laid attribute_track item.Attr) (idle h (done (SetAcl o user rights)) o (λ p. refl) (λ q. refl) refl attribute_track q refl (λ old. refl)))
 
   ends-all : IsLive DataFits (versions data_track o h) → IsLive AttributesFit (versions attribute_track o h) → IsLive AclFits (versions acl_track o h) → EndsAll h (done (Delete o)) o
-  ends-all a b c = record { makes = makes-none h (done (Delete o)) o (λ p. refl) (λ q. refl) refl; tracks = tracks }
+  ends-all a b c = record { makes = makes-none h (done (Delete o)) o (λ p. refl) (λ q. refl) refl; rebinds = rebinds-none (done (Delete o)) (λ p n m old. refl) (λ p old. refl); tracks = tracks }
     where
       tracks : (q : ObjectId) (u : Which) → versions_on u q (h ++ done (Delete o) ∷ []) ≡ (if same_object o q then with_end t (versions_on u q h) else versions_on u q h)
       tracks q which.Data = end-typed h (done (Delete o)) o (λ p. refl) (λ q. refl) refl data_track item.Data (λ x. refl) a (λ q. refl) (λ q old. refl) q
@@ -245,7 +254,8 @@ module _ {base : Base} {h : List Record} {r : Record} (s : IsSound h) (n : IsNex
       let live = live-data s n granted o (Write o offset bytes) asked refl in
       subst (λ old. PutsOn h r o which.Data (item.Data (written offset bytes old))) (current-data s n granted o (Write o offset bytes) asked refl)
       (subst (λ p. PutsOn h p o which.Data (item.Data (written offset bytes live.newest.value))) (sym (is-plain s n granted o (Write o offset bytes) asked refl))
-      (puts-data h r.moment r.caller o (Write o offset bytes) (written offset bytes) live (λ p. refl) refl (λ q. refl) (λ q old. refl) (λ q old. refl) (λ q old. refl)))
+      (puts-data h r.moment r.caller o (Write o offset bytes) (written offset bytes) live (λ p. refl) refl (λ q. refl) (λ q old. refl) (λ q old. refl) (λ q old. refl)
+      (rebinds-none (done h r.moment r.caller o (Write o offset bytes)) (λ p n m old. refl) (λ p old. refl))))
 
   -- and what it leaves fits
   pub write_fits : (offset : ℕ) (bytes : List ℕ) → r.request ≡ Write o offset bytes → DataFits (written offset bytes (data_of o r.moment h))
@@ -260,14 +270,16 @@ module _ {base : Base} {h : List Record} {r : Record} (s : IsSound h) (n : IsNex
       let live = live-data s n granted o (Append o bytes) asked refl in
       subst (λ old. PutsOn h r o which.Data (item.Data (old ++ bytes))) (current-data s n granted o (Append o bytes) asked refl)
       (subst (λ p. PutsOn h p o which.Data (item.Data (live.newest.value ++ bytes))) (sym (is-plain s n granted o (Append o bytes) asked refl))
-      (puts-data h r.moment r.caller o (Append o bytes) (λ old. old ++ bytes) live (λ p. refl) refl (λ q. refl) (λ q old. refl) (λ q old. refl) (λ q old. refl)))
+      (puts-data h r.moment r.caller o (Append o bytes) (λ old. old ++ bytes) live (λ p. refl) refl (λ q. refl) (λ q old. refl) (λ q old. refl) (λ q old. refl)
+      (rebinds-none (done h r.moment r.caller o (Append o bytes)) (λ p n m old. refl) (λ p old. refl))))
 
   pub truncate_puts : (length : ℕ) → r.request ≡ Truncate o length → PutsOn h r o which.Data (item.Data (of_length length (data_of o r.moment h)))
   truncate_puts length asked =
       let live = live-data s n granted o (Truncate o length) asked refl in
       subst (λ old. PutsOn h r o which.Data (item.Data (of_length length old))) (current-data s n granted o (Truncate o length) asked refl)
       (subst (λ p. PutsOn h p o which.Data (item.Data (of_length length live.newest.value))) (sym (is-plain s n granted o (Truncate o length) asked refl))
-      (puts-data h r.moment r.caller o (Truncate o length) (of_length length) live (λ p. refl) refl (λ q. refl) (λ q old. refl) (λ q old. refl) (λ q old. refl)))
+      (puts-data h r.moment r.caller o (Truncate o length) (of_length length) live (λ p. refl) refl (λ q. refl) (λ q old. refl) (λ q old. refl) (λ q old. refl)
+      (rebinds-none (done h r.moment r.caller o (Truncate o length)) (λ p n m old. refl) (λ p old. refl))))
 
   pub set_attributes_puts : (bytes : List ℕ) → r.request ≡ SetAttr o bytes → PutsOn h r o which.Attributes (item.Attr bytes)
   set_attributes_puts bytes asked =
@@ -328,6 +340,7 @@ module _ (h : List Record) (t : ℕ) (caller : Caller) (number : ℕ) where
     attributes_here = made-here attribute_track;
     acl_here = made-here acl_track;
     elsewhere = elsewhere;
+    rebinds = rebinds-none creation (λ p n m old. refl) (λ p old. refl);
   }
     where
       elsewhere : (q : ObjectId) (w : Which) → same_object new_object q ≡ false → versions_on w q (h ++ creation ∷ []) ≡ versions_on w q h

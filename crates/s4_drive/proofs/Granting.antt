@@ -1,6 +1,6 @@
 -- What an accepted request tells of the object that it is about.
 use Rattle.std.proofs.Common.{◌≡◌, ℕ, ◌+◌, ◌≤◌, ◌<◌, Bool, true, false, not, cond, Option, Some, None, List, [], ◌∷◌, ◌++◌, refl, sym, ◌∙◌, ap, subst, arith, length, take, drop, length-append, length-drop}
-use Rattle.std.specs.Prelude.{◌==◌, nat_le, nat_lt, is_ok, Result, Ok, Err, slice_get}
+use Rattle.std.specs.Prelude.{◌==◌, nat_le, nat_lt, is_ok, is_some, flat_map, Result, Ok, Err, slice_get}
 use Rattle.std.specs.List.{find}
 use Rattle.std.specs.Option.{option_map}
 use Rattle.std.proofs.lemmas.List.{length-take, length-replicate}
@@ -11,12 +11,12 @@ use Rattle.s4_types.specs.declared.acl.AclEntry.{AclEntry}
 use Rattle.s4_types.specs.declared.rights.Right.{Right}
 use Rattle.s4_types.specs.declared.rights.Right.TheVariants as right
 use Rattle.s4_types.specs.declared.request.Request.{Request}
-use Rattle.s4_types.specs.declared.request.Request.TheVariants.{Create, Delete, Read, Write, Append, Truncate, GetAttr, SetAttr, GetAclByUser, GetAclByIndex, SetAcl}
+use Rattle.s4_types.specs.declared.request.Request.TheVariants.{Create, Delete, Read, Write, Append, Truncate, GetAttr, SetAttr, GetAclByUser, GetAclByIndex, SetAcl, PCreate, PDelete, PList, PMount}
 use Rattle.s4_types.specs.declared.reply.Grant.{Grant}
 use Rattle.s4_types.specs.declared.reply.Refusal.{Refusal}
-use Rattle.s4_types.specs.declared.reply.Refusal.TheVariants.{TooLong, AclFull, NoEntry, NamesSpent}
+use Rattle.s4_types.specs.declared.reply.Refusal.TheVariants.{TooLong, AclFull, NoEntry, NamesSpent, Exists, PartsFull, Named}
 use Rattle.s4_types.specs.declared.reply.Reply.{Reply}
-use Rattle.s4_types.specs.declared.reply.Reply.TheVariants.{Done, Made, Data, Attr, Entry, Refused}
+use Rattle.s4_types.specs.declared.reply.Reply.TheVariants.{Done, Made, Data, Attr, Entry, Mounted, Names, Refused}
 use Rattle.s4_types.specs.declared.record.Record.{Record}
 use Rattle.s4_types.specs.Names.{same_object, object_in}
 use Rattle.s4_types.specs.Kinds.{is_refused, is_create}
@@ -25,7 +25,8 @@ use Rattle.s4_types.specs.Acl.{names, without_entry, replaced, acl_with}
 use Rattle.s4_types.specs.Judgement.{Found, entry_of, judge, judge_now, held_of}
 use Rattle.s4_types.specs.Outcome.{◌>>=◌, ◌>>◌, refuse_if, reply_of}
 use Rattle.s4_types.specs.Base.{Base}
-use Rattle.s4_types.specs.Answer.{answer, outcome, drawn, timely, moment_of, data_of, attributes_of, acl_of, entry_by_user, entry_by_index, settable}
+use Rattle.s4_types.specs.Answer.{answer, outcome, drawn, timely, moment_of, data_of, attributes_of, acl_of, entry_by_user, entry_by_index, settable, found_bound, lines_in, page_of, purse_numbers}
+use Rattle.s4_types.specs.Bindings.{bound_at, bound_count, has_name}
 use Rattle.s4_types.proofs.SameNames.{object_is}
 use Rattle.s4_types.proofs.Outcomes.{passes_test, passes_judgement}
 use Rattle.s4_types.proofs.Entries.{length-without, length-replaced}
@@ -57,6 +58,8 @@ nothing-made o (Ok (Made p)) e = cc
 nothing-made o (Ok (Data g bytes)) e = refl
 nothing-made o (Ok (Attr g bytes)) e = refl
 nothing-made o (Ok (Entry g index user rights)) e = refl
+nothing-made o (Ok (Mounted g p)) e = refl
+nothing-made o (Ok (Names lines more)) e = refl
 nothing-made o (Ok (Refused r)) e = refl
 nothing-made o (Err r) e = refl
 
@@ -70,7 +73,7 @@ nothing-index g index (Some entry) = refl
 
 pub makes_nothing-outcome : (base : Base) (h : List Record) (t : ℕ) (caller : Caller) (request : Request) → is_create request ≡ false → makes_nothing (outcome base h t caller request) ≡ true
 makes_nothing-outcome base h t caller (Create number) e = cc
-makes_nothing-outcome base h t caller (Delete p) e = nothing-then (judge h t caller p right.Delete None) (Ok Done) refl
+makes_nothing-outcome base h t caller (Delete p) e = nothing-then (judge h t caller p right.Delete None) _ (nothing-then (refuse_if (has_name p t h) Named) (Ok Done) refl)
 makes_nothing-outcome base h t caller (Read p offset length at) e =
     nothing-then (timely t at) _ (nothing-bind (judge h t caller p right.Read at) (λ g. Ok (Data g (take length (drop offset (data_of p (moment_of t at) h))))) (λ g. refl))
 makes_nothing-outcome base h t caller (Write p offset bytes) e =
@@ -90,6 +93,17 @@ makes_nothing-outcome base h t caller (GetAclByIndex p index at) e =
     nothing-then (timely t at) _ (nothing-bind (judge h t caller p right.Read at) (λ g. entry_by_index g index (slice_get (acl_of p (moment_of t at) h) index)) (λ g. nothing-index g index (slice_get (acl_of p (moment_of t at) h) index)))
 makes_nothing-outcome base h t caller (SetAcl p user rights) e =
     nothing-then (judge h t caller p right.Control None) _ (nothing-then (settable user rights (acl_of p t h)) (Ok Done) refl)
+makes_nothing-outcome base h t caller (PCreate name p) e =
+    nothing-then (judge h t caller p right.Control None) _ (nothing-then (refuse_if (is_some (bound_at p.purse name t h)) Exists) _
+    (nothing-then (refuse_if (nat_le 64 (bound_count p.purse t h)) PartsFull) (Ok Done) refl))
+makes_nothing-outcome base h t caller (PDelete purse name) e =
+    nothing-bind (found_bound caller purse right.Control (bound_at purse name t h)) (λ serial. judge h t caller (object_in purse serial) right.Control None >> Ok Done)
+    (λ serial. nothing-then (judge h t caller (object_in purse serial) right.Control None) (Ok Done) refl)
+makes_nothing-outcome base h t caller (PList range after at) e =
+    nothing-then (timely t at) (Ok (page_of (flat_map (lines_in h t caller range after at) purse_numbers))) refl
+makes_nothing-outcome base h t caller (PMount purse name at) e =
+    nothing-then (timely t at) _ (nothing-bind (found_bound caller purse right.Read (bound_at purse name (moment_of t at) h)) (λ serial. judge h t caller (object_in purse serial) right.Read at >>= λ g. Ok (Mounted g (object_in purse serial)))
+    (λ serial. nothing-bind (judge h t caller (object_in purse serial) right.Read at) (λ g. Ok (Mounted g (object_in purse serial))) (λ g. refl)))
 
 clash : {A : Type 0} (b : Bool) → b ≡ false → b ≡ true → A
 clash true e f = absurd (no e)
@@ -123,6 +137,10 @@ made_is base h t caller (SetAttr p bytes) o e = clash _ (nothing-made o _ (makes
 made_is base h t caller (GetAclByUser p user at) o e = clash _ (nothing-made o _ (makes_nothing-outcome base h t caller (GetAclByUser p user at) refl)) e
 made_is base h t caller (GetAclByIndex p index at) o e = clash _ (nothing-made o _ (makes_nothing-outcome base h t caller (GetAclByIndex p index at) refl)) e
 made_is base h t caller (SetAcl p user rights) o e = clash _ (nothing-made o _ (makes_nothing-outcome base h t caller (SetAcl p user rights) refl)) e
+made_is base h t caller (PCreate name p) o e = clash _ (nothing-made o _ (makes_nothing-outcome base h t caller (PCreate name p) refl)) e
+made_is base h t caller (PDelete purse name) o e = clash _ (nothing-made o _ (makes_nothing-outcome base h t caller (PDelete purse name) refl)) e
+made_is base h t caller (PList range after at) o e = clash _ (nothing-made o _ (makes_nothing-outcome base h t caller (PList range after at) refl)) e
+made_is base h t caller (PMount purse name at) o e = clash _ (nothing-made o _ (makes_nothing-outcome base h t caller (PMount purse name at) refl)) e
 
 create-deletes : (request : Request) (o : ObjectId) → is_create request ≡ true → is_deleted o request ≡ false
 create-deletes (Create number) o e = refl
@@ -136,6 +154,10 @@ create-deletes (SetAttr p bytes) o e = cc
 create-deletes (GetAclByUser p user at) o e = cc
 create-deletes (GetAclByIndex p index at) o e = cc
 create-deletes (SetAcl p user rights) o e = cc
+create-deletes (PCreate name p) o e = cc
+create-deletes (PDelete purse name) o e = cc
+create-deletes (PList range after at) o e = cc
+create-deletes (PMount purse name at) o e = cc
 
 pub create_deletes_none : (request : Request) (o : ObjectId) → is_create request ≡ true → is_deleted o request ≡ false
 create_deletes_none = create-deletes
@@ -166,9 +188,13 @@ changed-lives base h t caller (Read p offset length at) o e f = cc
 changed-lives base h t caller (GetAttr p at) o e f = cc
 changed-lives base h t caller (GetAclByUser p user at) o e f = cc
 changed-lives base h t caller (GetAclByIndex p index at) o e f = cc
+changed-lives base h t caller (PCreate name p) o e f = cc
+changed-lives base h t caller (PDelete purse name) o e f = cc
+changed-lives base h t caller (PList range after at) o e f = cc
+changed-lives base h t caller (PMount purse name at) o e f = cc
 changed-lives base h t caller (Delete p) o e f =
     let is : p ≡ o = cc in
-    subst (λ q. lives_at t q h ≡ true) is (granted-lives p t h caller right.Delete (passes_judgement (judge h t caller p right.Delete None) (Ok Done) e).0)
+    subst (λ q. lives_at t q h ≡ true) is (granted-lives p t h caller right.Delete (passes_judgement (judge h t caller p right.Delete None) (refuse_if (has_name p t h) Named >> Ok Done) e).0)
 changed-lives base h t caller (Write p offset bytes) o e f =
     let is : p ≡ o = cc in
     subst (λ q. lives_at t q h ≡ true) is (granted-lives p t h caller right.Write (passes_judgement (judge h t caller p right.Write None) (Ok Done)
@@ -209,6 +235,10 @@ deleted-changed (SetAttr p bytes) o e = cc
 deleted-changed (GetAclByUser p user at) o e = cc
 deleted-changed (GetAclByIndex p index at) o e = cc
 deleted-changed (SetAcl p user rights) o e = cc
+deleted-changed (PCreate name p) o e = cc
+deleted-changed (PDelete purse name) o e = cc
+deleted-changed (PList range after at) o e = cc
+deleted-changed (PMount purse name at) o e = cc
 
 pub data-changed : (request : Request) (o : ObjectId) (old new : List ℕ) → data_effect o request old ≡ Some new → changed_by request ≡ Some o
 data-changed (Write p offset bytes) o old new e = same-changed p o (some-when (same_object p o) (written offset bytes old) new e).0
@@ -222,6 +252,10 @@ data-changed (SetAttr p bytes) o old new e = cc
 data-changed (GetAclByUser p user at) o old new e = cc
 data-changed (GetAclByIndex p index at) o old new e = cc
 data-changed (SetAcl p user rights) o old new e = cc
+data-changed (PCreate name p) o old new e = cc
+data-changed (PDelete purse name) o old new e = cc
+data-changed (PList range after at) o old new e = cc
+data-changed (PMount purse name at) o old new e = cc
 
 pub attributes-changed : (request : Request) (o : ObjectId) (old new : List ℕ) → attribute_effect o request old ≡ Some new → changed_by request ≡ Some o
 attributes-changed (SetAttr p bytes) o old new e = same-changed p o (some-when (same_object p o) bytes new e).0
@@ -235,6 +269,10 @@ attributes-changed (GetAttr p at) o old new e = cc
 attributes-changed (GetAclByUser p user at) o old new e = cc
 attributes-changed (GetAclByIndex p index at) o old new e = cc
 attributes-changed (SetAcl p user rights) o old new e = cc
+attributes-changed (PCreate name p) o old new e = cc
+attributes-changed (PDelete purse name) o old new e = cc
+attributes-changed (PList range after at) o old new e = cc
+attributes-changed (PMount purse name at) o old new e = cc
 
 pub acl-changed : (request : Request) (o : ObjectId) (old new : List AclEntry) → acl_effect o request old ≡ Some new → changed_by request ≡ Some o
 acl-changed (SetAcl p user rights) o old new e = same-changed p o (some-when (same_object p o) (acl_with user rights old) new e).0
@@ -248,6 +286,10 @@ acl-changed (GetAttr p at) o old new e = cc
 acl-changed (SetAttr p bytes) o old new e = cc
 acl-changed (GetAclByUser p user at) o old new e = cc
 acl-changed (GetAclByIndex p index at) o old new e = cc
+acl-changed (PCreate name p) o old new e = cc
+acl-changed (PDelete purse name) o old new e = cc
+acl-changed (PList range after at) o old new e = cc
+acl-changed (PMount purse name at) o old new e = cc
 
 -- LENGTHS
 
@@ -286,6 +328,10 @@ data-fit base h t caller (SetAttr p bytes) o e old new f is fits = cc
 data-fit base h t caller (GetAclByUser p user at) o e old new f is fits = cc
 data-fit base h t caller (GetAclByIndex p index at) o e old new f is fits = cc
 data-fit base h t caller (SetAcl p user rights) o e old new f is fits = cc
+data-fit base h t caller (PCreate name p) o e old new f is fits = cc
+data-fit base h t caller (PDelete purse name) o e old new f is fits = cc
+data-fit base h t caller (PList range after at) o e old new f is fits = cc
+data-fit base h t caller (PMount purse name at) o e old new f is fits = cc
 
 pub attributes-fit : (base : Base) (h : List Record) (t : ℕ) (caller : Caller) (request : Request) (o : ObjectId) → is_refused (answer base h t caller request) ≡ false
     → (old new : List ℕ) → attribute_effect o request old ≡ Some new → AttributesFit new
@@ -303,6 +349,10 @@ attributes-fit base h t caller (GetAttr p at) o e old new f = cc
 attributes-fit base h t caller (GetAclByUser p user at) o e old new f = cc
 attributes-fit base h t caller (GetAclByIndex p index at) o e old new f = cc
 attributes-fit base h t caller (SetAcl p user rights) o e old new f = cc
+attributes-fit base h t caller (PCreate name p) o e old new f = cc
+attributes-fit base h t caller (PDelete purse name) o e old new f = cc
+attributes-fit base h t caller (PList range after at) o e old new f = cc
+attributes-fit base h t caller (PMount purse name at) o e old new f = cc
 
 -- the entries that a SetAcl leaves, where it may be carried out
 entries-fit : (user rights : ℕ) (acl : List AclEntry) → is_ok (settable user rights acl) ≡ true → AclFits acl → AclFits (acl_with user rights acl)
@@ -337,6 +387,10 @@ acl-fit base h t caller (GetAttr p at) o e old new f is fits = cc
 acl-fit base h t caller (SetAttr p bytes) o e old new f is fits = cc
 acl-fit base h t caller (GetAclByUser p user at) o e old new f is fits = cc
 acl-fit base h t caller (GetAclByIndex p index at) o e old new f is fits = cc
+acl-fit base h t caller (PCreate name p) o e old new f is fits = cc
+acl-fit base h t caller (PDelete purse name) o e old new f is fits = cc
+acl-fit base h t caller (PList range after at) o e old new f is fits = cc
+acl-fit base h t caller (PMount purse name at) o e old new f is fits = cc
 
 -- TELLING
 
@@ -356,6 +410,8 @@ told-done (Ok (Made o)) e f = cc
 told-done (Ok (Data g bytes)) e f = cc
 told-done (Ok (Attr g bytes)) e f = cc
 told-done (Ok (Entry g index user rights)) e f = cc
+told-done (Ok (Mounted g o)) e f = cc
+told-done (Ok (Names lines more)) e f = cc
 told-done (Ok (Refused r)) e f = cc
 told-done (Err r) e f = cc
 
@@ -365,7 +421,11 @@ only_done-outcome base h t caller (Read p offset length at) o e = cc
 only_done-outcome base h t caller (GetAttr p at) o e = cc
 only_done-outcome base h t caller (GetAclByUser p user at) o e = cc
 only_done-outcome base h t caller (GetAclByIndex p index at) o e = cc
-only_done-outcome base h t caller (Delete p) o e = done-then (judge h t caller p right.Delete None) (Ok Done) refl
+only_done-outcome base h t caller (PCreate name p) o e = cc
+only_done-outcome base h t caller (PDelete purse name) o e = cc
+only_done-outcome base h t caller (PList range after at) o e = cc
+only_done-outcome base h t caller (PMount purse name at) o e = cc
+only_done-outcome base h t caller (Delete p) o e = done-then (judge h t caller p right.Delete None) _ (done-then (refuse_if (has_name p t h) Named) (Ok Done) refl)
 only_done-outcome base h t caller (Write p offset bytes) o e =
     done-then (refuse_if (nat_lt 4096 (offset + length bytes)) TooLong) _ (done-then (judge h t caller p right.Write None) (Ok Done) refl)
 only_done-outcome base h t caller (Append p bytes) o e =
@@ -381,3 +441,31 @@ only_done-outcome base h t caller (SetAcl p user rights) o e =
 -- an accepted change is told Done
 pub changed-done : (base : Base) (h : List Record) (t : ℕ) (caller : Caller) (request : Request) (o : ObjectId) → is_refused (answer base h t caller request) ≡ false → changed_by request ≡ Some o → answer base h t caller request ≡ Done
 changed-done base h t caller request o e f = told-done (outcome base h t caller request) (only_done-outcome base h t caller request o f) e
+
+-- and so is an accepted binding, and the end of one
+done-bind : {A : Type 0} (first : Result A Refusal) (next : A → Result Reply Refusal) → ((x : A) → only_done (next x) ≡ true) → only_done (first >>= next) ≡ true
+done-bind (Ok x) next e = e x
+done-bind (Err r) next e = refl
+
+pub bound-done : (base : Base) (h : List Record) (t : ℕ) (caller : Caller) (name : List ℕ) (o : ObjectId) → is_refused (answer base h t caller (PCreate name o)) ≡ false → answer base h t caller (PCreate name o) ≡ Done
+bound-done base h t caller name o e = told-done (outcome base h t caller (PCreate name o))
+    (done-then (judge h t caller o right.Control None) _ (done-then (refuse_if (is_some (bound_at o.purse name t h)) Exists) _
+    (done-then (refuse_if (nat_le 64 (bound_count o.purse t h)) PartsFull) (Ok Done) refl))) e
+
+pub unbound-done : (base : Base) (h : List Record) (t : ℕ) (caller : Caller) (purse : Purse) (name : List ℕ) → is_refused (answer base h t caller (PDelete purse name)) ≡ false → answer base h t caller (PDelete purse name) ≡ Done
+unbound-done base h t caller purse name e = told-done (outcome base h t caller (PDelete purse name))
+    (done-bind (found_bound caller purse right.Control (bound_at purse name t h)) (λ serial. judge h t caller (object_in purse serial) right.Control None >> Ok Done)
+    (λ serial. done-then (judge h t caller (object_in purse serial) right.Control None) (Ok Done) refl)) e
+
+-- a name that is bound anew wasn't bound, and one that is bound no longer was
+pub was_unbound : (base : Base) (h : List Record) (t : ℕ) (caller : Caller) (name : List ℕ) (o : ObjectId) → is_refused (answer base h t caller (PCreate name o)) ≡ false → is_some (bound_at o.purse name t h) ≡ false
+was_unbound base h t caller name o e =
+    let last : Result Reply Refusal = refuse_if (nat_le 64 (bound_count o.purse t h)) PartsFull >> Ok Done in
+    (passes_test (is_some (bound_at o.purse name t h)) Exists last (passes_judgement (judge h t caller o right.Control None) (refuse_if (is_some (bound_at o.purse name t h)) Exists >> last) e).1).0
+
+pub was_bound : (base : Base) (h : List Record) (t : ℕ) (caller : Caller) (purse : Purse) (name : List ℕ) → is_refused (answer base h t caller (PDelete purse name)) ≡ false → is_some (bound_at purse name t h) ≡ true
+was_bound base h t caller purse name e = of (bound_at purse name t h) e
+  where
+    of : (found : Option ℕ) → is_refused (reply_of (found_bound caller purse right.Control found >>= λ serial. judge h t caller (object_in purse serial) right.Control None >> Ok Done)) ≡ false → is_some found ≡ true
+    of (Some serial) f = refl
+    of None f = cc

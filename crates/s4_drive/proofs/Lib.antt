@@ -1,4 +1,5 @@
 pub mod Living
+pub mod Naming
 pub mod Following
 pub mod Granting
 pub mod Reading
@@ -6,4 +7,6 @@ pub mod Sounding
 pub mod Opening
 pub mod Standing
 pub mod Effects
+pub mod Binding
+pub mod Mounting
 pub mod Runs

@@ -11,70 +11,71 @@ use Rattle.s4_types.specs.declared.record.Record.{Record}
 use Rattle.s4_types.specs.declared.version.Version.{Version}
 use Rattle.s4_types.specs.declared.version.Item.{Item}
 use Rattle.s4_types.specs.declared.version.Item.TheVariants as item
-use Rattle.s4_types.specs.Versions.{Track, Value, versions, value_at, lives_at, data_track, attribute_track, acl_track}
+use Rattle.s4_types.specs.Versions.{Track, Value, versions, value_at, lives_at, ends_by, in_force_by, data_track, attribute_track, acl_track}
 use Rattle.s4_types.specs.Judgement.{held_of}
 use Rattle.s4_types.specs.Answer.{value_or_empty, data_of, acl_of, moment_of}
 use Rattle.s4_types.specs.Play.{last_of}
 use Rattle.s4_types.proofs.Snoc.{newest-snoc}
 use Rattle.s4_store.specs.Chains.{Chains, items_of}
-use Rattle.s4_tracks.specs.Chain.{is_by, newer, latest, unended, in_force, endless, current_of}
+use Rattle.s4_tracks.specs.Chain.{newer, latest, unended, in_force, endless, current_of, version_in}
 use Rattle.s4_drive.specs.declared.objects.Which.{Which}
 use Rattle.s4_drive.specs.declared.objects.Which.TheVariants as which
+use Rattle.s4_parts.specs.declared.parts.Parts.{Parts as Table}
 use Rattle.s4_drive.specs.declared.objects.Kept.{Kept}
 use Rattle.s4_drive.specs.Held.{bytes_in, held_in}
 use Rattle.s4_drive.specs.Chains.{chain_of, held}
-use Rattle.s4_drive.specs.Laid.{version_of, laid, version_at, version_in}
-use Rattle.s4_drive.specs.Sound.{IsSound, IsTrack, TrackStands, DataFits, AttributesFit, AclFits, held_by, was_made, was_deleted}
+use Rattle.s4_drive.specs.Laid.{version_by, laid_by, version_of, laid, version_at, bindings_on}
+use Rattle.s4_drive.specs.Sound.{IsSound, IsTrack, TrackStands, DataFits, AttributesFit, AclFits, was_made, was_deleted}
 use Rattle.s4_drive.specs.Stands.{StandsFor}
 
 -- FROM VALUES TO VERSIONS
 
-module _ {V : Type 0} (track : Track V) (wrap : V → Item) where
-  latest-laid : (m : ℕ) (values : List (Value V)) → latest m (laid track wrap values) ≡ option_map (version_of track wrap) (find (λ v. nat_le v.begin m) values)
+module _ {V : Type 0} (cost : V → ℕ) (wrap : V → Item) where
+  latest-laid : (m : ℕ) (values : List (Value V)) → latest m (laid_by cost wrap values) ≡ option_map (version_by cost wrap) (find (λ v. nat_le v.begin m) values)
   latest-laid m [] = refl
   latest-laid m (v ∷ past) =
-      fold-append (newer m) None (laid track wrap past) (version_of track wrap v ∷ [])
-      ∙ ap (λ o. if nat_le v.begin m then Some (version_of track wrap v) else o) (latest-laid m past)
-      ∙ (elim (nat_le v.begin m) as (λ b. (if b then Some (version_of track wrap v) else option_map (version_of track wrap) (find (λ v. nat_le v.begin m) past)) ≡ option_map (version_of track wrap) (cond b (Some v) (find (λ v. nat_le v.begin m) past))) [ true ↦ refl | false ↦ refl ])
+      fold-append (newer m) None (laid_by cost wrap past) (version_by cost wrap v ∷ [])
+      ∙ ap (λ o. if nat_le v.begin m then Some (version_by cost wrap v) else o) (latest-laid m past)
+      ∙ (elim (nat_le v.begin m) as (λ b. (if b then Some (version_by cost wrap v) else option_map (version_by cost wrap) (find (λ v. nat_le v.begin m) past)) ≡ option_map (version_by cost wrap) (cond b (Some v) (find (λ v. nat_le v.begin m) past))) [ true ↦ refl | false ↦ refl ])
 
-  unended-found : (m : ℕ) (values : List (Value V)) → unended m (option_map (version_of track wrap) (find (λ v. nat_le v.begin m) values)) ≡ option_map (version_of track wrap) (held_by m values)
+  unended-found : (m : ℕ) (values : List (Value V)) → unended m (option_map (version_by cost wrap) (find (λ v. nat_le v.begin m) values)) ≡ option_map (version_by cost wrap) (in_force_by m values)
   unended-found m [] = refl
-  unended-found m (v ∷ past) = elim (nat_le v.begin m) as (λ b. unended m (option_map (version_of track wrap) (cond b (Some v) (find (λ v. nat_le v.begin m) past))) ≡ option_map (version_of track wrap) (if b then (if is_by m v.end then None else Some v) else held_by m past)) [
-    | true ↦ (elim (is_by m v.end) as (λ b. (if b then None else Some (version_of track wrap v)) ≡ option_map (version_of track wrap) (if b then None else Some v)) [ true ↦ refl | false ↦ refl ])
+  unended-found m (v ∷ past) = elim (nat_le v.begin m) as (λ b. unended m (option_map (version_by cost wrap) (cond b (Some v) (find (λ v. nat_le v.begin m) past))) ≡ option_map (version_by cost wrap) (if b then (if ends_by m v.end then None else Some v) else in_force_by m past)) [
+    | true ↦ (elim (ends_by m v.end) as (λ b. (if b then None else Some (version_by cost wrap v)) ≡ option_map (version_by cost wrap) (if b then None else Some v)) [ true ↦ refl | false ↦ refl ])
     | false ↦ unended-found m past
   ]
 
   -- at a moment the chain holds what the values hold
-  in_force-laid : (m : ℕ) (values : List (Value V)) → in_force m (laid track wrap values) ≡ option_map (version_of track wrap) (held_by m values)
+  pub in_force-laid : (m : ℕ) (values : List (Value V)) → in_force m (laid_by cost wrap values) ≡ option_map (version_by cost wrap) (in_force_by m values)
   in_force-laid m values = ap (unended m) (latest-laid m values) ∙ unended-found m values
 
 -- what is held where the object lives is the definition's value in force
-found-held : {V : Type 0} (m : ℕ) (values : List (Value V)) (lives : Bool) → lives ≡ is_some (held_by m values) → cond lives (find (λ v. nat_le v.begin m) values) None ≡ held_by m values
+found-held : {V : Type 0} (m : ℕ) (values : List (Value V)) (lives : Bool) → lives ≡ is_some (in_force_by m values) → cond lives (find (λ v. nat_le v.begin m) values) None ≡ in_force_by m values
 found-held m [] true e = refl
 found-held m [] false e = refl
-found-held {V} m (v ∷ past) lives e = of (λ b k. found-held m past b k) (nat_le v.begin m) (is_by m v.end) refl refl e
+found-held {V} m (v ∷ past) lives e = of (λ b k. found-held m past b k) (nat_le v.begin m) (ends_by m v.end) refl refl e
   where
-    of : ((b : Bool) → b ≡ is_some (held_by m past) → cond b (find (λ v. nat_le v.begin m) past) None ≡ held_by m past) → (a b : Bool) → nat_le v.begin m ≡ a → is_by m v.end ≡ b → lives ≡ is_some (if a then (if b then None else Some v) else held_by m past)
-        → cond lives (cond a (Some v) (find (λ v. nat_le v.begin m) past)) None ≡ (if a then (if b then None else Some v) else held_by m past)
+    of : ((b : Bool) → b ≡ is_some (in_force_by m past) → cond b (find (λ v. nat_le v.begin m) past) None ≡ in_force_by m past) → (a b : Bool) → nat_le v.begin m ≡ a → ends_by m v.end ≡ b → lives ≡ is_some (if a then (if b then None else Some v) else in_force_by m past)
+        → cond lives (cond a (Some v) (find (λ v. nat_le v.begin m) past)) None ≡ (if a then (if b then None else Some v) else in_force_by m past)
     of rest true true f g k = ap (λ b. cond b (Some v) None) k
     of rest true false f g k = ap (λ b. cond b (Some v) None) k
     of rest false b f g k = rest lives k
 
-value_at-held : {V : Type 0} (track : Track V) (Fits : V → Type 0) (o : ObjectId) (h : List Record) (m : ℕ) → TrackStands Fits o h (versions track o h) → value_at track o m h ≡ held_by m (versions track o h)
+value_at-held : {V : Type 0} (track : Track V) (Fits : V → Type 0) (o : ObjectId) (h : List Record) (m : ℕ) → TrackStands Fits o h (versions track o h) → value_at track o m h ≡ in_force_by m (versions track o h)
 value_at-held track Fits o h m s = found-held m (versions track o h) (lives_at m o h) (s.lives m)
 
 -- from the last moment on the current value is held
 current-laid : {V : Type 0} (track : Track V) (wrap : V → Item) (Fits : V → Type 0) (made deleted : Bool) (last t : ℕ) (values : List (Value V)) → last ≤ t → IsTrack Fits made deleted last values
-    → current_of (laid track wrap values) ≡ option_map (version_of track wrap) (held_by t values)
-current-laid track wrap Fits false deleted last t values l s = ap (λ vs. current_of (laid track wrap vs)) s ∙ sym (ap (λ vs. option_map (version_of track wrap) (held_by t vs)) s)
+    → current_of (laid track wrap values) ≡ option_map (version_of track wrap) (in_force_by t values)
+current-laid track wrap Fits false deleted last t values l s = ap (λ vs. current_of (laid track wrap vs)) s ∙ sym (ap (λ vs. option_map (version_of track wrap) (in_force_by t vs)) s)
 current-laid track wrap Fits true deleted last t [] l s = refl
 current-laid track wrap Fits true false last t (v ∷ past) l s =
     let low : v.begin ≤ last = s.begun in
     let begun : nat_le v.begin t ≡ true = grind arith in
     ap endless (newest-snoc (laid track wrap past) (version_of track wrap v))
     ∙ ap (λ e. if is_some e then None else Some (version_of track wrap v)) s.current
-    ∙ sym (ap (λ b. option_map (version_of track wrap) (if b then (if is_by t v.end then None else Some v) else held_by t past)) begun
-    ∙ ap (λ e. option_map (version_of track wrap) (if is_by t e then None else Some v)) s.current)
+    ∙ sym (ap (λ b. option_map (version_of track wrap) (if b then (if ends_by t v.end then None else Some v) else in_force_by t past)) begun
+    ∙ ap (λ e. option_map (version_of track wrap) (if ends_by t e then None else Some v)) s.current)
 current-laid track wrap Fits true true last t (v ∷ past) l s =
     let low : v.begin ≤ last = s.begun in
     let begun : nat_le v.begin t ≡ true = grind arith in
@@ -82,8 +83,8 @@ current-laid track wrap Fits true true last t (v ∷ past) l s =
     let over : nat_le s.end t ≡ true = grind arith in
     ap endless (newest-snoc (laid track wrap past) (version_of track wrap v))
     ∙ ap (λ e. if is_some e then None else Some (version_of track wrap v)) s.ended
-    ∙ sym (ap (λ b. option_map (version_of track wrap) (if b then (if is_by t v.end then None else Some v) else held_by t past)) begun
-    ∙ ap (λ e. option_map (version_of track wrap) (if is_by t e then None else Some v)) s.ended
+    ∙ sym (ap (λ b. option_map (version_of track wrap) (if b then (if ends_by t v.end then None else Some v) else in_force_by t past)) begun
+    ∙ ap (λ e. option_map (version_of track wrap) (if ends_by t e then None else Some v)) s.ended
     ∙ ap (λ b. option_map (version_of track wrap) (if b then None else Some v)) over)
 
 -- the value in force from the last moment on is the newest
@@ -106,12 +107,12 @@ acl-in-force s o t later lives v past is = sym (ap value_or_empty (newest-in-for
 
 -- FROM CHAINS
 
-module _ {chains : Chains Version} {found : ObjectId → Option Kept} {serials : Purse → ℕ} {h : List Record} (s : StandsFor chains found serials h) (o : ObjectId) where
+module _ {chains : Chains Version} {found : ObjectId → Option Kept} {serials : Purse → ℕ} {table : Table} {h : List Record} (s : StandsFor chains found serials table h) (o : ObjectId) where
   -- at a moment
   pub held-at : (m : ℕ) (w : Which) → in_force m (held chains (found o) w) ≡ version_at w o m h
-  held-at m which.Data = ap (in_force m) (s.tracks o which.Data) ∙ in_force-laid data_track item.Data m (versions data_track o h) ∙ ap (option_map (version_of data_track item.Data)) (sym (value_at-held data_track DataFits o h m (s.sound.tracks o which.Data)))
-  held-at m which.Attributes = ap (in_force m) (s.tracks o which.Attributes) ∙ in_force-laid attribute_track item.Attr m (versions attribute_track o h) ∙ ap (option_map (version_of attribute_track item.Attr)) (sym (value_at-held attribute_track AttributesFit o h m (s.sound.tracks o which.Attributes)))
-  held-at m which.Acl = ap (in_force m) (s.tracks o which.Acl) ∙ in_force-laid acl_track item.Acl m (versions acl_track o h) ∙ ap (option_map (version_of acl_track item.Acl)) (sym (value_at-held acl_track AclFits o h m (s.sound.tracks o which.Acl)))
+  held-at m which.Data = ap (in_force m) (s.tracks o which.Data) ∙ in_force-laid data_track.cost item.Data m (versions data_track o h) ∙ ap (option_map (version_of data_track item.Data)) (sym (value_at-held data_track DataFits o h m (s.sound.tracks o which.Data)))
+  held-at m which.Attributes = ap (in_force m) (s.tracks o which.Attributes) ∙ in_force-laid attribute_track.cost item.Attr m (versions attribute_track o h) ∙ ap (option_map (version_of attribute_track item.Attr)) (sym (value_at-held attribute_track AttributesFit o h m (s.sound.tracks o which.Attributes)))
+  held-at m which.Acl = ap (in_force m) (s.tracks o which.Acl) ∙ in_force-laid acl_track.cost item.Acl m (versions acl_track o h) ∙ ap (option_map (version_of acl_track item.Acl)) (sym (value_at-held acl_track AclFits o h m (s.sound.tracks o which.Acl)))
 
   -- now
   pub held-now : (t : ℕ) → last_of h ≤ t → (w : Which) → current_of (held chains (found o) w) ≡ version_at w o t h

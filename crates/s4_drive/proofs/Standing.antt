@@ -13,6 +13,7 @@ use Rattle.s4_types.specs.Acl.{first_acl}
 use Rattle.s4_types.specs.Names.{same_purse, same_object}
 use Rattle.s4_types.specs.Kinds.{concerns, is_create}
 use Rattle.s4_types.specs.Versions.{Track, versions, makes, deletes, is_made, data_track, attribute_track, acl_track, begun as begins, with_end as ends, with_effect}
+use Rattle.s4_types.specs.Bindings.{rebound, named_by}
 use Rattle.s4_types.specs.Answer.{drawn, draws}
 use Rattle.s4_types.proofs.Booleans.{by_test, both, ||-false, ||-true, not_both}
 use Rattle.s4_types.proofs.SameNames.{object_is, object_self, purse_is}
@@ -22,11 +23,14 @@ use Rattle.s4_store.specs.Laws.{items_here, items_elsewhere, StillOpen-insert}
 use Rattle.s4_tracks.specs.Chain.{with_put, with_end}
 use Rattle.s4_drive.specs.declared.objects.Which.{Which}
 use Rattle.s4_drive.specs.declared.objects.Which.TheVariants as which
+use Rattle.s4_parts.specs.declared.parts.Parts.{Parts as Table}
+use Rattle.s4_parts.specs.Table.{IsForeign}
 use Rattle.s4_drive.specs.declared.objects.Kept.{Kept}
 use Rattle.s4_drive.specs.Chains.{same_which, chain_of, held, Chained, Begins, first_on}
 use Rattle.s4_drive.specs.Laid.{laid, versions_on}
 use Rattle.s4_drive.specs.Sound.{IsSound, IsTrack, TrackStands, DataFits, AttributesFit, AclFits, was_made, was_deleted}
-use Rattle.s4_drive.specs.Stands.{StandsFor, MakesNone, PutsOn, EndsAll}
+use Rattle.s4_drive.specs.Stands.{StandsFor, NamesStand, MakesNone, RebindsNone, PutsOn, EndsAll}
+use Rattle.s4_drive.proofs.Naming.{names_with, names_over, names_beside}
 
 which_self : (w : Which) → same_which w w ≡ true
 which_self which.Data = refl
@@ -96,26 +100,28 @@ module _ {chains new : Chains Version} {found : ObjectId → Option Kept} (c : C
       ∙ sym (ap (λ b. if b then xs else held chains (found q) u) e))
       (λ e. held_elsewhere q u e ∙ sym (ap (λ b. if b then xs else held chains (found q) u) e))
 
-module _ {chains : Chains Version} {found : ObjectId → Option Kept} {serials : Purse → ℕ} {h : List Record} (s : StandsFor chains found serials h) (r : Record) (sound : IsSound (h ++ r ∷ [])) where
+module _ {chains : Chains Version} {found : ObjectId → Option Kept} {serials : Purse → ℕ} {table : Table} {h : List Record} (s : StandsFor chains found serials table h) (r : Record) (sound : IsSound (h ++ r ∷ [])) where
   -- a record that makes no object, where the tracks follow
-  pub stands_on : {new : Chains Version} → MakesNone r → Chained new found → ((q : ObjectId) (u : Which) → held new (found q) u ≡ versions_on u q (h ++ r ∷ [])) → StandsFor new found serials (h ++ r ∷ [])
-  stands_on none chained tracks = record {
+  pub stands_on : {new : Chains Version} {table' : Table} → MakesNone r → Chained new found → ((q : ObjectId) (u : Which) → held new (found q) u ≡ versions_on u q (h ++ r ∷ [])) → NamesStand new found table' (h ++ r ∷ []) → StandsFor new found serials table' (h ++ r ∷ [])
+  stands_on none chained tracks partitions = record {
     sound = sound;
     chained = chained;
     kept = λ o. s.kept o ∙ sym (was_made-same h r o (none.makes_none o));
     tracks = tracks;
     names = λ p. s.names p ∙ sym (drawn-same h r p (none.draws_none p));
+    partitions = partitions;
   }
 
   -- a record that changes no purse
-  pub stands_idle : ((p : Purse) → concerns p r ≡ false) → StandsFor chains found serials (h ++ r ∷ [])
+  pub stands_idle : ((p : Purse) → concerns p r ≡ false) → StandsFor chains found serials table (h ++ r ∷ [])
   stands_idle idle = stands_on (record { makes_none = λ q. ap (λ b. b && is_made q r.reply) (idle q.purse); draws_none = λ p. ap (λ b. b && is_create r.request) (idle p) }) s.chained
       (λ o w. s.tracks o w ∙ sym (versions_on-same h r w o (idle o.purse)))
+      (names_with s.partitions r (record { bindings = λ p n old. ap (λ b. if b then rebound p n r.moment r.request old else old) (idle p); names = λ p old. ap (λ b. if b then named_by p r.request old else old) (idle p) }))
 
   -- a record that puts one value in the place of another
   pub stands_put : (new : Chains Version) (o : ObjectId) (k : Kept) (w : Which) (item : Item) → found o ≡ Some k → PutsOn h r o w item
       → new ≡ finmap.insert chains (chain_of w k) (with_put r.moment item (items_of chains (chain_of w k)))
-      → StandsFor new found serials (h ++ r ∷ [])
+      → StandsFor new found serials table (h ++ r ∷ [])
   stands_put new o k w item kept puts changed =
       let xs : List Version = with_put r.moment item (items_of chains (chain_of w k)) in
       let is : xs ≡ with_put r.moment item (versions_on w o h) = ap (with_put r.moment item) (sym (ap (λ f. held chains f w) kept) ∙ s.tracks o w) in
@@ -125,13 +131,14 @@ module _ {chains : Chains Version} {found : ObjectId → Option Kept} {serials :
       let same : with_put r.moment item (versions_on w o h) ≡ with_put r.moment item (versions_on u q h) = ap (λ x. with_put r.moment item (versions_on w x h)) (object_is o q parts.0) ∙ ap (λ v. with_put r.moment item (versions_on v q h)) (which_is w u parts.1) in
       ap (λ b. if b then xs else held chains (found q) u) e ∙ is ∙ same ∙ sym (puts.tracks q u ∙ ap (λ b. if b then with_put r.moment item (versions_on u q h) else versions_on u q h) e))
       (λ e. ap (λ b. if b then xs else held chains (found q) u) e ∙ s.tracks q u ∙ sym (puts.tracks q u ∙ ap (λ b. if b then with_put r.moment item (versions_on u q h) else versions_on u q h) e)))
+      (names_with (names_beside s.partitions new o k w xs kept changed) r puts.rebinds)
 
   -- a record that ends the object
   pub stands_end : (a b new : Chains Version) (o : ObjectId) (k : Kept) → found o ≡ Some k → EndsAll h r o
       → a ≡ finmap.insert chains k.data.chain (with_end r.moment (items_of chains k.data.chain))
       → b ≡ finmap.insert a k.attributes.chain (with_end r.moment (items_of a k.attributes.chain))
       → new ≡ finmap.insert b k.acl.chain (with_end r.moment (items_of b k.acl.chain))
-      → StandsFor new found serials (h ++ r ∷ [])
+      → StandsFor new found serials table (h ++ r ∷ [])
   stands_end a b new o k kept over e f g =
       let t = r.moment in
       let c1 = chained_still s.chained o k kept which.Data _ e in
@@ -142,6 +149,7 @@ module _ {chains : Chains Version} {found : ObjectId → Option Kept} {serials :
       (λ other. let not : (w : Which) → (same_object o q && same_which w u) ≡ false = λ w. ap (λ x. x && same_which w u) other in
       held_elsewhere c2 o k kept which.Acl _ g q u (not which.Acl) ∙ held_elsewhere c1 o k kept which.Attributes _ f q u (not which.Attributes) ∙ held_elsewhere s.chained o k kept which.Data _ e q u (not which.Data)
       ∙ s.tracks q u ∙ sym (over.tracks q u ∙ ap (λ x. if x then with_end t (versions_on u q h) else versions_on u q h) other)))
+      (names_with (names_beside (names_beside (names_beside s.partitions a o k which.Data _ kept e) b o k which.Attributes _ kept f) new o k which.Acl _ kept g) r over.rebinds)
     where
       t : ℕ
       t = r.moment
@@ -184,6 +192,7 @@ pub record MakesOnly (h : List Record) (r : Record) (o : ObjectId) : Type 0 wher
   pub attributes_here : versions attribute_track o (h ++ r ∷ []) ≡ begins r.moment [] ∷ versions attribute_track o h
   pub acl_here : versions acl_track o (h ++ r ∷ []) ≡ begins r.moment (first_acl o.purse.creator) ∷ versions acl_track o h
   pub elsewhere : (q : ObjectId) (w : Which) → same_object o q ≡ false → versions_on w q (h ++ r ∷ []) ≡ versions_on w q h
+  pub rebinds : RebindsNone r
 
 unmade-track : {V : Type 0} (Fits : V → Type 0) (m d : Bool) (last : ℕ) (values : List (Rattle.s4_types.specs.Versions.Value V)) → m ≡ false → IsTrack Fits m d last values → values ≡ []
 unmade-track Fits true d last values e s = cc
@@ -192,7 +201,7 @@ unmade-track Fits false d last values e s = s
 some_is : {A : Type 0} (x y : A) → Some x ≡ Some y → x ≡ y
 some_is x y e = cc
 
-module _ {chains : Chains Version} {found : ObjectId → Option Kept} {serials : Purse → ℕ} {h : List Record} (s : StandsFor chains found serials h) (r : Record) (sound : IsSound (h ++ r ∷ [])) (o : ObjectId) (only : MakesOnly h r o) where
+module _ {chains : Chains Version} {found : ObjectId → Option Kept} {serials : Purse → ℕ} {table : Table} {h : List Record} (s : StandsFor chains found serials table h) (r : Record) (sound : IsSound (h ++ r ∷ [])) (o : ObjectId) (only : MakesOnly h r o) where
   unmade : was_made o h ≡ false
   unmade = by_test (was_made o h)
       (λ e. let low : o.serial ≤ drawn o.purse h = s.sound.named o e in let is : o.serial ≡ drawn o.purse h + 1 = only.next in absurd (omega arith))
@@ -241,7 +250,7 @@ module _ {chains : Chains Version} {found : ObjectId → Option Kept} {serials :
         still None got = refl
         still (Some l) got = b.others (chain_of w l) (s.chained.opened q l w got)
 
-    pub stands_made : (serials' : Purse → ℕ) → ((p : Purse) → serials' p ≡ (if same_purse o.purse p then serials o.purse + 1 else serials p)) → StandsFor new found' serials' (h ++ r ∷ [])
+    pub stands_made : (serials' : Purse → ℕ) → ((p : Purse) → serials' p ≡ (if same_purse o.purse p then serials o.purse + 1 else serials p)) → StandsFor new found' serials' table (h ++ r ∷ [])
     stands_made serials' counts = record {
       sound = sound;
       chained = chained-made;
@@ -252,4 +261,15 @@ module _ {chains : Chains Version} {found : ObjectId → Option Kept} {serials :
       names = λ p. by_test (same_purse o.purse p)
           (λ e. counts p ∙ ap (λ x. if x then serials o.purse + 1 else serials p) e ∙ ap (λ n. n + 1) (s.names o.purse ∙ ap (λ x. drawn x h) (purse_is o.purse p e)) ∙ sym (drawn-more h r p (only.draws_it p ∙ e)))
           (λ e. counts p ∙ ap (λ x. if x then serials o.purse + 1 else serials p) e ∙ s.names p ∙ sym (drawn-same h r p (only.draws_it p ∙ e)));
+      partitions = names_with (names_over s.partitions new found' (record {
+        opened = λ p n c got. b.still c (s.partitions.holds.opened p n c got);
+        items = λ p n c got. b.others c (s.partitions.holds.opened p n c got);
+      }) apart-made) r only.rebinds;
     }
+      where
+        apart-made : (q : ObjectId) (l : Kept) (w : Which) → found' q ≡ Some l → IsForeign table (chain_of w l)
+        apart-made q l w got p n has = by_test (same_object o q)
+            (λ e. let is : k ≡ l = some_is k l (sym (here q e) ∙ got) in
+            let self : (chain_of w l == chain_of w l) ≡ true = eq-eqb (chain_of w l) (chain_of w l) refl in
+            not_both _ self (subst (λ x. (chain_of w l == chain_of w x) ≡ false) is (b.fresh w (chain_of w l) (s.partitions.holds.opened p n (chain_of w l) has))))
+            (λ e. s.partitions.apart q l w (sym (there q e) ∙ got) p n has)

@@ -2,7 +2,7 @@
 use Rattle.std.specs.declared.cmp.Ordering.{Ordering}
 use Rattle.std.specs.Ordering.{nat_cmp, ordering_then}
 use Rattle.s4_types.specs.declared.object.ObjectId.{ObjectId}
-use Rattle.s4_names.specs.Drawn.{purse_cmp}
+use Rattle.s4_types.specs.Names.{purse_cmp}
 
 -- by purse, then by serial
 abbrev pub object_cmp : ObjectId → ObjectId → Ordering

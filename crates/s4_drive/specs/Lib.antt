@@ -3,5 +3,6 @@ pub mod Held
 pub mod Laid
 pub mod Sound
 pub mod Chains
+pub mod Shown
 pub mod Stands
 pub mod Step

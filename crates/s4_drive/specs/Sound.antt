@@ -1,14 +1,15 @@
 -- What holds of every history whose records were answered in turn.
 use Rattle.std.specs.Prelude.{◌≡◌, ℕ, ◌≤◌, Bool, true, false, nat_le, is_some, Option, Some, None, List, [], ◌∷◌, length, if◌then◌else◌}
 use Rattle.std.specs.List.{list_all, list_any}
+use Rattle.s4_types.specs.declared.object.Purse.{Purse}
 use Rattle.s4_types.specs.declared.object.ObjectId.{ObjectId}
 use Rattle.s4_types.specs.declared.acl.AclEntry.{AclEntry}
 use Rattle.s4_types.specs.declared.record.Record.{Record}
-use Rattle.s4_types.specs.Versions.{Value, versions, makes, deletes, lives_at, data_track, attribute_track, acl_track}
+use Rattle.s4_types.specs.Versions.{Value, versions, in_force_by, makes, deletes, lives_at, data_track, attribute_track, acl_track}
+use Rattle.s4_types.specs.Bindings.{bindings}
 use Rattle.s4_types.specs.Base.{Base}
 use Rattle.s4_types.specs.Answer.{answer, drawn}
 use Rattle.s4_types.specs.Play.{last_of}
-use Rattle.s4_tracks.specs.Chain.{is_by}
 use Rattle.s4_drive.specs.declared.objects.Which.{Which}
 use Rattle.s4_drive.specs.declared.objects.Which.TheVariants as which
 
@@ -28,11 +29,6 @@ AttributesFit bytes = length bytes ≤ 256
 
 abbrev pub AclFits : List AclEntry → Type 0
 AclFits acl = length acl ≤ 16
-
--- the newest value that began by the moment, where it hasn't ended by then
-abbrev pub held_by : {V : Type 0} → ℕ → List (Value V) → Option (Value V)
-held_by m [] = None
-held_by m (v ∷ past) = if nat_le v.begin m then (if is_by m v.end then None else Some v) else held_by m past
 
 -- the newest value is current, and began by the moment
 pub record IsCurrent {V : Type 0} (Fits : V → Type 0) (last : ℕ) (v : Value V) : Type 0 where
@@ -58,12 +54,22 @@ IsTrack Fits true true last (v ∷ past) = IsOver last v
 pub record TrackStands {V : Type 0} (Fits : V → Type 0) (o : ObjectId) (h : List Record) (values : List (Value V)) : Type 0 where
   pub shape : IsTrack Fits (was_made o h) (was_deleted o h) (last_of h) values
   -- at each moment a value is held just if the object lives then
-  pub lives : (m : ℕ) → lives_at m o h ≡ is_some (held_by m values)
+  pub lives : (m : ℕ) → lives_at m o h ≡ is_some (in_force_by m values)
 
 abbrev pub StandsOn : Which → ObjectId → List Record → Type 0
 StandsOn which.Data o h = TrackStands DataFits o h (versions data_track o h)
 StandsOn which.Attributes o h = TrackStands AttributesFit o h (versions attribute_track o h)
 StandsOn which.Acl o h = TrackStands AclFits o h (versions acl_track o h)
+
+-- the end, if there is one, is at most the moment
+abbrev pub EndsBy : ℕ → Option ℕ → Type 0
+EndsBy last None = Unit {0}
+EndsBy last (Some end) = end ≤ last
+
+-- the newest binding of a name began by the moment, and where it ended, it ended by then
+abbrev pub BindingsStand : ℕ → List (Value ℕ) → Type 0
+BindingsStand last [] = Unit {0}
+BindingsStand last (v ∷ past) = (v.begin ≤ last) × EndsBy last v.end
 
 pub record IsSound (h : List Record) : Type 0 where
   -- no record is newer than the last
@@ -73,6 +79,8 @@ pub record IsSound (h : List Record) : Type 0 where
   -- an object that was deleted was made
   pub made_first : (o : ObjectId) → was_deleted o h ≡ true → was_made o h ≡ true
   pub tracks : (o : ObjectId) (w : Which) → StandsOn w o h
+  -- no binding begins or ends later than the last record
+  pub bindings : (p : Purse) (name : List ℕ) → BindingsStand (last_of h) (bindings p name h)
 
 -- the record is the next one of the history
 pub record IsNext (base : Base) (h : List Record) (r : Record) : Type 0 where

@@ -25,6 +25,9 @@ pub fn outcome<S: Store<Version>>(
     ensures { result ≡ deleted parts.now.history.items moment caller object.now }
 {
     parts.judge(caller, object, Right::Delete, None)?;
+    if parts.has_name(object) {
+        return Err(Refusal::Named);
+    }
     Ok(Reply::Done)
 }
 

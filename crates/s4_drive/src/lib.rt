@@ -11,6 +11,7 @@ mod delete;
 mod drive;
 mod moments;
 mod objects;
+mod partitions;
 mod parts;
 mod read;
 mod step;

@@ -1,36 +1,36 @@
 //! What the drive keeps beside its history, and what it tells of the objects.
 
 ghost use Rattle.std.specs.Prelude.{◌≡◌, ℕ, ◌≤◌, ◌+◌, IfSome, is_some, nat_le, not};
-ghost use Rattle.std.specs.Option.{option_copied};
+ghost use Rattle.std.specs.Option.{option_copied, option_map};
 ghost use Rattle.std.specs.BTreeMap.{get};
 ghost use Rattle.s4_types.specs.Answer.{drawn, moment_of, data_of, attributes_of, acl_of};
+ghost use Rattle.s4_types.specs.Bindings.{bound_at, bound_count, has_name};
 ghost use Rattle.s4_types.specs.Judgement.{held_at, judge as judge_of};
 ghost use Rattle.s4_types.specs.Names.{object_in};
 ghost use Rattle.s4_types.specs.Play.{last_of};
 ghost use Rattle.s4_judge.specs.Held.{shown_held};
 ghost use Rattle.s4_drive.specs.Keys.{object_cmp};
-ghost use Rattle.s4_store.specs.Chains.{items_of, IsOpen};
-ghost use Rattle.s4_drive.specs.Laid.{version_at, version_in};
+ghost use Rattle.s4_drive.specs.Laid.{version_at};
 
 use crate::objects::{Kept, Which};
 use crate::values::{bytes_of, held_of};
 use s4_judge::{Held, judge_now, judge_past};
 use s4_names::Names;
 use s4_store::Store;
-use s4_tracks::Track;
 use s4_types::{
-    Acl, Caller, Grant, Moment, ObjectId, Purse, Record, Refusal, Right, Serial, Version,
+    Acl, Caller, Grant, Moment, Name, ObjectId, Purse, Record, Refusal, Right, Serial, Version,
 };
 use std::collections::BTreeMap;
 
-/// The window at the opening, the values, the objects by their names, the serials drawn, and all
-/// records.
+/// The window at the opening, the values, the objects by their names, the serials drawn, the
+/// partitions, and all records.
 #[derive(Drop)]
 pub struct Parts<S> {
     pub window: u64,
     pub store: S,
     pub objects: BTreeMap<ObjectId, Kept>,
     pub names: Names,
+    pub partitions: s4_parts::Parts,
     pub history: Vec<Record>,
 }
 
@@ -61,13 +61,37 @@ impl<S: Store<Version>> Parts<S> {
         })
     }
 
+    /// The object that a name in the purse is bound to, now or at a moment.
+    pub fn bound(&self, purse: &Purse, name: &Name, at: Option<Moment>) -> Option<ObjectId>
+        requires { IsKept S.chains self.now }
+        ensures { (t : ℕ) → last_of self.now.history.items ≤ t → result ≡ option_map (object_in purse.now) (bound_at purse.now name.now (moment_of t at) self.now.history.items) }
+    {
+        self.partitions.mount(&self.store, purse, name, at)
+    }
+
+    /// How many names are bound in the purse.
+    pub fn bound_count(&self, purse: &Purse) -> usize
+        requires { IsKept S.chains self.now }
+        ensures { (t : ℕ) → last_of self.now.history.items ≤ t → result ≡ bound_count purse.now t self.now.history.items }
+    {
+        self.partitions.bound_names(purse)
+    }
+
+    /// Whether the object has a bound name.
+    pub fn has_name(&self, object: &ObjectId) -> bool
+        requires { IsKept S.chains self.now }
+        ensures { (t : ℕ) → last_of self.now.history.items ≤ t → result ≡ has_name object.now t self.now.history.items }
+    {
+        self.partitions.named(object)
+    }
+
     /// The version in force on one of an object's tracks, now or at a moment.
     pub fn version(&self, object: &ObjectId, which: Which, at: Option<Moment>) -> Option<&Version>
         requires { IsKept S.chains self.now }
         ensures { (t : ℕ) → last_of self.now.history.items ≤ t → option_copied result ≡ version_at which object.now (moment_of t at) self.now.history.items }
     {
         match self.kept(object) {
-            Some(kept) => version_of(&self.store, kept.track(which), at),
+            Some(kept) => kept.track(which).version(&self.store, at),
             None => None,
         }
     }
@@ -125,16 +149,5 @@ impl<S: Store<Version>> Parts<S> {
         } else {
             judge_now(caller, object, &held, right)
         }
-    }
-}
-
-// The version in force on a track, now or at a moment.
-fn version_of<S: Store<Version>>(store: &S, track: Track, at: Option<Moment>) -> Option<&Version>
-    requires { IsOpen (S.chains store.now) track.chain }
-    ensures { option_copied result ≡ version_in at (items_of (S.chains store.now) track.chain) }
-{
-    match at {
-        None => track.current(store),
-        Some(moment) => track.at(store, moment),
     }
 }

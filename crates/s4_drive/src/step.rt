@@ -10,7 +10,7 @@ ghost use Rattle.s4_drive.specs.Step.{IsOutcome};
 
 use crate::parts::Parts;
 use crate::read::Range;
-use crate::{acl, append, attributes, create, delete, read, truncate, write};
+use crate::{acl, append, attributes, create, delete, partitions, read, truncate, write};
 use s4_store::Store;
 use s4_types::{Caller, Moment, NoMemory, Purse, Record, Refusal, Reply, Request, Version};
 use std::alloc::{AllocError, Global};
@@ -90,6 +90,18 @@ fn outcome<S: Store<Version>>(
             user,
             rights,
         } => acl::set_outcome(parts, moment, caller, object, *user, *rights),
+        Request::PCreate { name, object } => {
+            partitions::bind_outcome(parts, moment, caller, name, object)
+        }
+        Request::PDelete { purse, name } => {
+            partitions::unbind_outcome(parts, moment, caller, purse, name)
+        }
+        Request::PList { range, after, at } => {
+            partitions::list_outcome(parts, moment, caller, *range, after, at)
+        }
+        Request::PMount { purse, name, at } => {
+            partitions::mount_outcome(parts, moment, caller, purse, name, at)
+        }
     }
 }
 
@@ -120,7 +132,9 @@ pub fn apply<S: Store<Version>>(
         Request::Read { .. }
         | Request::GetAttr { .. }
         | Request::GetAclByUser { .. }
-        | Request::GetAclByIndex { .. } => Ok(()),
+        | Request::GetAclByIndex { .. }
+        | Request::PList { .. }
+        | Request::PMount { .. } => Ok(()),
         Request::Write {
             object,
             offset,
@@ -136,5 +150,10 @@ pub fn apply<S: Store<Version>>(
             user,
             rights,
         } => acl::apply(parts, added, object, *user, *rights),
+        Request::PCreate { name, object } => partitions::bind(parts, added, name, object),
+        Request::PDelete { purse, name } => {
+            partitions::unbind(parts, added, purse, name);
+            Ok(())
+        }
     }
 }

@@ -1,14 +1,9 @@
 -- What the drawn serials say of a purse.
 use Rattle.std.specs.Prelude.{ℕ, true, unwrap_or, is_some, ◌≡◌}
-use Rattle.std.specs.declared.cmp.Ordering.{Ordering}
-use Rattle.std.specs.Ordering.{nat_cmp, ordering_then}
 use Rattle.std.specs.BTreeMap.{get}
 use Rattle.s4_types.specs.declared.object.Purse.{Purse}
+use Rattle.s4_types.specs.Names.{purse_cmp}
 use Rattle.s4_names.specs.declared.names.Names.{Names}
-
--- by creator, then by number
-abbrev pub purse_cmp : Purse → Purse → Ordering
-purse_cmp a b = ordering_then (nat_cmp a.creator b.creator) (nat_cmp a.number b.number)
 
 -- how many serials the purse has drawn
 abbrev pub drawn_in : Names → Purse → ℕ

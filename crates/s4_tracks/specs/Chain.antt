@@ -2,14 +2,16 @@
 use Rattle.std.specs.Prelude.{ℕ, Bool, false, ◌+◌, ◌*◌, ◌^◌, ◌<◌, nat_le, Option, Some, None, is_some, List, [], ◌∷◌, ◌++◌, fold, length, if◌then◌else◌}
 use Rattle.s4_store.specs.Chains.{newest_of}
 use Rattle.s4_types.specs.declared.version.Version.{Version}
+use Rattle.s4_types.specs.Versions.{ends_by}
 use Rattle.s4_types.specs.declared.version.Item.{Item}
-use Rattle.s4_types.specs.declared.version.Item.TheVariants.{Data, Attr, Acl}
+use Rattle.s4_types.specs.declared.version.Item.TheVariants.{Data, Attr, Acl, Bind}
 
--- what the value costs once it is past
+-- what the value costs once it is past, but for its name
 abbrev pub cost_of : Item → ℕ
 cost_of (Data bytes) = 64 + length bytes
 cost_of (Attr bytes) = 64 + length bytes
 cost_of (Acl acl) = 64 + 16 * length acl
+cost_of (Bind object) = 64
 
 -- a value whose cost a number of the drive can hold
 pub record IsSmall (item : Item) : Type 0 where
@@ -39,11 +41,6 @@ with_put m item vs = with_end m vs ++ begun m item ∷ []
 
 -- LOOKING BACK
 
--- whether there is an end, and it is at most the moment
-abbrev pub is_by : ℕ → Option ℕ → Bool
-is_by m None = false
-is_by m (Some end) = nat_le end m
-
 abbrev pub newer : ℕ → Option Version → Version → Option Version
 newer m old v = if nat_le v.begin m then Some v else old
 
@@ -54,7 +51,7 @@ latest m vs = fold (newer m) None vs
 -- the value, where it hasn't ended by the moment
 abbrev pub unended : ℕ → Option Version → Option Version
 unended m None = None
-unended m (Some v) = if is_by m v.end then None else Some v
+unended m (Some v) = if ends_by m v.end then None else Some v
 
 -- the value in force at the moment
 abbrev pub in_force : ℕ → List Version → Option Version
@@ -68,3 +65,8 @@ endless (Some v) = if is_some v.end then None else Some v
 -- the current value: the newest, where it has no end
 abbrev pub current_of : List Version → Option Version
 current_of vs = endless (newest_of vs)
+
+-- the current value, or the one in force at a moment
+abbrev pub version_in : Option ℕ → List Version → Option Version
+version_in None vs = current_of vs
+version_in (Some m) vs = in_force m vs

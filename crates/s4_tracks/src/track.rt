@@ -4,7 +4,8 @@ ghost use Rattle.std.specs.Prelude.{◌≡◌, ◌+◌, ◌<◌, ◌++◌, ◌�
 ghost use Rattle.std.specs.Option.{option_copied};
 ghost use Rattle.std.specs.FinMap as finmap;
 ghost use Rattle.s4_store.specs.Chains.{items_of, IsOpen, StillOpen};
-ghost use Rattle.s4_tracks.specs.Chain.{IsSmall, begun, in_force, current_of, latest as latest_of, is_by as is_by_of, with_end, with_put, cost_of as cost};
+ghost use Rattle.s4_types.specs.Versions.{ends_by};
+ghost use Rattle.s4_tracks.specs.Chain.{IsSmall, begun, in_force, current_of, latest as latest_of, version_in, with_end, with_put, cost_of as cost};
 
 use s4_store::{Chain, Store};
 use s4_types::{Item, Moment, Version};
@@ -41,6 +42,21 @@ impl Track {
             None
         } else {
             Some(newest)
+        }
+    }
+
+    /// The current value, or the one in force at a moment.
+    pub fn version<'a, S: Store<Version>>(
+        &self,
+        store: &'a S,
+        at: Option<Moment>,
+    ) -> Option<&'a Version>
+        requires { IsOpen (S.chains store.now) self.now.chain }
+        ensures { option_copied result ≡ version_in at (items_of (S.chains store.now) self.now.chain) }
+    {
+        match at {
+            None => self.current(store),
+            Some(moment) => self.at(store, moment),
         }
     }
 
@@ -104,7 +120,8 @@ impl Track {
     }
 }
 
-/// What a value costs once it is past: 64 and its length, or 64 and 16 for each entry of an ACL.
+/// What a value costs once it is past: 64 and its length, or 64 and 16 for each entry of an ACL. For
+/// a binding it is 64, to which the length of its name comes.
 pub fn cost_of(item: &Item) -> u32
     requires { IsSmall item.now }
     ensures { result ≡ cost item.now }
@@ -112,12 +129,13 @@ pub fn cost_of(item: &Item) -> u32
     match item {
         Item::Data(bytes) | Item::Attr(bytes) => 64 + bytes.len() as u32,
         Item::Acl(acl) => 64 + 16 * acl.entries().len() as u32,
+        Item::Bind(_) => 64,
     }
 }
 
 // Whether there is an end, and it is at most the moment.
 fn is_by(end: Option<Moment>, moment: Moment) -> bool
-    ensures { result ≡ is_by_of moment end }
+    ensures { result ≡ ends_by moment end }
 {
     match end {
         Some(end) => end.tick() <= moment.tick(),

@@ -1,20 +1,24 @@
 -- Worked examples of the definitions, each computed.
-use Rattle.std.proofs.Common.{◌≡◌, ℕ, Option, Some, None, List, [], ◌∷◌, refl}
-use Rattle.std.specs.Prelude.{Ok, Err, map}
+use Rattle.std.proofs.Common.{◌≡◌, ℕ, true, false, Option, Some, None, List, [], ◌∷◌, refl}
+use Rattle.std.specs.Prelude.{Ok, Err, map, replicate}
 use Rattle.s4_types.specs.declared.object.Purse.{Purse}
 use Rattle.s4_types.specs.declared.object.ObjectId.{ObjectId}
 use Rattle.s4_types.specs.declared.rights.Right.TheVariants as right
 use Rattle.s4_types.specs.declared.request.Request.{Request}
-use Rattle.s4_types.specs.declared.request.Request.TheVariants.{Create, Delete, Read, Write, Append, Truncate, GetAttr, GetAclByUser, GetAclByIndex, SetAcl}
+use Rattle.s4_types.specs.declared.request.Request.TheVariants.{Create, Delete, Read, Write, Append, Truncate, GetAttr, GetAclByUser, GetAclByIndex, SetAcl, PCreate, PDelete, PList, PMount}
+use Rattle.s4_types.specs.declared.request.After.{After}
+use Rattle.s4_types.specs.declared.reply.Grant.{Grant}
 use Rattle.s4_types.specs.declared.reply.Grant.TheVariants as grant
-use Rattle.s4_types.specs.declared.reply.Refusal.TheVariants.{Denied, NoObject, Future, TooLong, AclFull, NoEntry}
-use Rattle.s4_types.specs.declared.reply.Reply.TheVariants.{Done, Made, Data, Attr, Entry, Refused}
+use Rattle.s4_types.specs.declared.reply.NameLine.{NameLine}
+use Rattle.s4_types.specs.declared.reply.Refusal.TheVariants.{Denied, NoObject, Future, TooLong, AclFull, NoEntry, NoPartition, Exists, Named}
+use Rattle.s4_types.specs.declared.reply.Reply.TheVariants.{Done, Made, Data, Attr, Entry, Mounted, Names, Refused}
 use Rattle.s4_types.specs.declared.record.Step.{Step}
 use Rattle.s4_types.specs.declared.record.Step.TheVariants as step
 use Rattle.s4_types.specs.Base.{opened}
 use Rattle.s4_types.specs.Versions.{Value, versions, written, data_track}
 use Rattle.s4_types.specs.Acl.{acl_with}
-use Rattle.s4_types.specs.Answer.{settable}
+use Rattle.s4_types.specs.Bindings.{bindings}
+use Rattle.s4_types.specs.Answer.{settable, page_of}
 use Rattle.s4_types.specs.declared.acl.AclEntry.{AclEntry}
 use Rattle.s4_types.specs.Play.{play, replies}
 
@@ -268,3 +272,135 @@ full_acl_in_place = refl
 
 pub full_acl_without_the_user : settable 16 0 sixteen ≡ Err NoEntry
 full_acl_without_the_user = refl
+
+-- the bytes of 'home'
+abbrev home : List ℕ
+home = 104 ∷ 111 ∷ 109 ∷ 101 ∷ []
+
+-- a name is bound once at a time, keeps its object from being deleted, and tells what it was bound to
+abbrev bound_object_steps : List Step
+bound_object_steps =
+    ask 1 7 (Create 0)
+    ∷ ask 2 7 (PCreate home (object 7 0 1))
+    ∷ ask 2 7 (PCreate home (object 7 0 1))
+    ∷ ask 3 7 (Delete (object 7 0 1))
+    ∷ ask 4 7 (PDelete (purse 7 0) home)
+    ∷ ask 5 7 (Delete (object 7 0 1))
+    ∷ ask 6 7 (PMount (purse 7 0) home (Some 3))
+    ∷ ask 6 7 (PMount (purse 7 0) home (Some 4))
+    ∷ ask 6 9 (PMount (purse 7 0) home None)
+    ∷ []
+
+pub bound_object : replies (play (opened 100) bound_object_steps) ≡
+    Made (object 7 0 1)
+    ∷ Done
+    ∷ Refused Exists
+    ∷ Refused Named
+    ∷ Done
+    ∷ Done
+    ∷ Mounted (grant.Entry 0 1) (object 7 0 1)
+    ∷ Refused NoPartition
+    ∷ Refused (Denied right.Read)
+    ∷ []
+bound_object = refl
+
+-- names of one letter
+abbrev letter_a : List ℕ
+letter_a = 97 ∷ []
+
+abbrev letter_b : List ℕ
+letter_b = 98 ∷ []
+
+abbrev letter_c : List ℕ
+letter_c = 99 ∷ []
+
+abbrev letter_z : List ℕ
+letter_z = 122 ∷ []
+
+abbrev place : ℕ → List ℕ → Option After
+place number name = Some (record { number = number; name = name })
+
+abbrev line : List ℕ → ObjectId → Grant → NameLine
+line name object grant = record { name = name; object = object; grant = grant }
+
+-- a page shows what its reader may mount and no more, by purse number and then by name
+abbrev visible_names_alone_steps : List Step
+visible_names_alone_steps =
+    ask 1 9 (Create 0)
+    ∷ ask 1 9 (Create 1)
+    ∷ ask 2 9 (PCreate letter_b (object 9 1 1))
+    ∷ ask 2 9 (PCreate letter_c (object 9 0 1))
+    ∷ ask 3 9 (PCreate letter_a (object 9 1 1))
+    ∷ ask 4 9 (SetAcl (object 9 1 1) 7 1)
+    ∷ ask 5 7 (PList 9 None None)
+    ∷ ask 5 7 (PList 9 None (Some 4))
+    ∷ ask 5 9 (PList 9 None None)
+    ∷ ask 5 9 (PList 9 (place 0 letter_c) None)
+    ∷ ask 5 9 (PList 9 (place 1 letter_a) None)
+    ∷ ask 5 9 (PList 9 (place 0 letter_z) None)
+    ∷ ask 5 9 (PList 9 None (Some 2))
+    ∷ ask 5 9 (PList 9 None (Some 1))
+    ∷ ask 5 9 (PList 9 None (Some 6))
+    ∷ []
+
+pub visible_names_alone : replies (play (opened 100) visible_names_alone_steps) ≡
+    Made (object 9 0 1)
+    ∷ Made (object 9 1 1)
+    ∷ Done
+    ∷ Done
+    ∷ Done
+    ∷ Done
+    ∷ Names (line letter_a (object 9 1 1) (grant.Entry 1 4) ∷ line letter_b (object 9 1 1) (grant.Entry 1 4) ∷ []) false
+    ∷ Names [] false
+    ∷ Names (line letter_c (object 9 0 1) (grant.Entry 0 1) ∷ line letter_a (object 9 1 1) (grant.Entry 0 4) ∷ line letter_b (object 9 1 1) (grant.Entry 0 4) ∷ []) false
+    ∷ Names (line letter_a (object 9 1 1) (grant.Entry 0 4) ∷ line letter_b (object 9 1 1) (grant.Entry 0 4) ∷ []) false
+    ∷ Names (line letter_b (object 9 1 1) (grant.Entry 0 4) ∷ []) false
+    ∷ Names (line letter_a (object 9 1 1) (grant.Entry 0 4) ∷ line letter_b (object 9 1 1) (grant.Entry 0 4) ∷ []) false
+    ∷ Names (line letter_c (object 9 0 1) (grant.Entry 0 1) ∷ line letter_b (object 9 1 1) (grant.Entry 0 1) ∷ []) false
+    ∷ Names [] false
+    ∷ Refused Future
+    ∷ []
+visible_names_alone = refl
+
+-- a page has the first 64 lines, and says whether more follow
+abbrev some_line : NameLine
+some_line = line home (object 7 0 1) grant.Admin
+
+pub page_of_64 : page_of (replicate 64 some_line) ≡ Names (replicate 64 some_line) false
+page_of_64 = refl
+
+pub page_of_65 : page_of (replicate 65 some_line) ≡ Names (replicate 64 some_line) true
+page_of_65 = refl
+
+-- of two bindings at one moment the later one in the list is in force at that moment
+abbrev name_bound_again_steps : List Step
+name_bound_again_steps =
+    ask 1 7 (Create 0)
+    ∷ ask 1 7 (Create 0)
+    ∷ ask 2 7 (PCreate home (object 7 0 1))
+    ∷ ask 2 7 (PDelete (purse 7 0) home)
+    ∷ ask 2 7 (PCreate home (object 7 0 2))
+    ∷ ask 2 7 (PMount (purse 7 0) home None)
+    ∷ ask 3 7 (PMount (purse 7 0) home (Some 2))
+    ∷ ask 3 7 (PMount (purse 7 0) home (Some 1))
+    ∷ []
+
+pub name_bound_again : replies (play (opened 100) name_bound_again_steps) ≡
+    Made (object 7 0 1)
+    ∷ Made (object 7 0 2)
+    ∷ Done
+    ∷ Done
+    ∷ Done
+    ∷ Mounted (grant.Entry 0 1) (object 7 0 2)
+    ∷ Mounted (grant.Entry 0 1) (object 7 0 2)
+    ∷ Refused NoPartition
+    ∷ []
+name_bound_again = refl
+
+-- the bindings that a name ever had, the newest first
+abbrev binding : ℕ → Option ℕ → ℕ → Value ℕ
+binding begin end serial = record { begin = begin; end = end; value = serial }
+
+pub bound_again : bindings (purse 7 0) home (play (opened 100) name_bound_again_steps) ≡
+    binding 2 None 2 ∷ binding 2 (Some 2) 1 ∷ []
+bound_again = refl

@@ -1,6 +1,6 @@
 -- What a reply that is no refusal tells of the tests before it, and that no answer is want of memory.
 use Rattle.std.proofs.Common.{◌≡◌, ℕ, Bool, true, false, not, Option, Some, None, List, refl}
-use Rattle.std.specs.Prelude.{Result, Ok, Err, nat_le, nat_lt, ◌+◌, length, ◌==◌, ◌&&◌, cond, is_ok, take, drop, slice_get}
+use Rattle.std.specs.Prelude.{Result, Ok, Err, nat_le, nat_lt, ◌+◌, length, ◌==◌, ◌&&◌, cond, is_ok, is_some, take, drop, slice_get, flat_map}
 use Rattle.s4_types.specs.declared.principal.Caller.{Caller}
 use Rattle.s4_types.specs.declared.object.Purse.{Purse}
 use Rattle.s4_types.specs.declared.object.ObjectId.{ObjectId}
@@ -9,13 +9,13 @@ use Rattle.s4_types.specs.declared.rights.Right.TheVariants as right
 use Rattle.s4_types.specs.Names.{object_in}
 use Rattle.s4_types.specs.declared.rights.Right.{Right}
 use Rattle.s4_types.specs.declared.request.Request.{Request}
-use Rattle.s4_types.specs.declared.request.Request.TheVariants.{Create, Delete, Read, Write, Append, Truncate, GetAttr, SetAttr, GetAclByUser, GetAclByIndex, SetAcl}
+use Rattle.s4_types.specs.declared.request.Request.TheVariants.{Create, Delete, Read, Write, Append, Truncate, GetAttr, SetAttr, GetAclByUser, GetAclByIndex, SetAcl, PCreate, PDelete, PList, PMount}
 use Rattle.s4_types.specs.declared.reply.Grant.{Grant}
 use Rattle.s4_types.specs.declared.reply.Grant.TheVariants as grant
 use Rattle.s4_types.specs.declared.reply.Refusal.{Refusal}
-use Rattle.s4_types.specs.declared.reply.Refusal.TheVariants.{Denied, NoObject, Future, TooLong, AclFull, NoEntry, NamesSpent, NoMemory}
+use Rattle.s4_types.specs.declared.reply.Refusal.TheVariants.{Denied, NoObject, Future, TooLong, AclFull, NoEntry, NamesSpent, NoPartition, Exists, PartsFull, Named, NoMemory}
 use Rattle.s4_types.specs.declared.reply.Reply.{Reply}
-use Rattle.s4_types.specs.declared.reply.Reply.TheVariants.{Done, Made, Data, Attr, Entry, Refused}
+use Rattle.s4_types.specs.declared.reply.Reply.TheVariants.{Done, Made, Data, Attr, Entry, Mounted, Names, Refused}
 use Rattle.s4_types.specs.declared.record.Record.{Record}
 use Rattle.s4_types.specs.Rights.{has}
 use Rattle.s4_types.specs.Kinds.{is_refused}
@@ -23,7 +23,8 @@ use Rattle.s4_types.specs.Judgement.{Held, Found, judge, judge_now, judge_past, 
 use Rattle.s4_types.specs.Outcome.{◌>>=◌, ◌>>◌, refuse_if, reply_of}
 use Rattle.s4_types.specs.Base.{Base}
 use Rattle.s4_types.specs.Acl.{names}
-use Rattle.s4_types.specs.Answer.{answer, outcome, drawn, timely, moment_of, data_of, attributes_of, acl_of, entry_by_user, entry_by_index, settable}
+use Rattle.s4_types.specs.Answer.{answer, outcome, drawn, timely, moment_of, data_of, attributes_of, acl_of, entry_by_user, entry_by_index, settable, found_bound, lines_in, purse_numbers, page_of}
+use Rattle.s4_types.specs.Bindings.{bound_at, bound_count, has_name}
 use Rattle.s4_types.specs.Play.{is_no_memory}
 
 -- a test that lets a request pass
@@ -46,11 +47,15 @@ after_judgement (Err r) next e = cc
 
 -- NO ANSWER IS WANT OF MEMORY
 
+-- whether the refusal is any but want of memory
+abbrev is_answer : Refusal → Bool
+is_answer NoMemory = false
+is_answer _ = true
+
 -- whether the reply to the outcome is any but want of memory
 abbrev pub is_plain : {A : Type 0} → Result A Refusal → Bool
 is_plain (Ok x) = true
-is_plain (Err NoMemory) = false
-is_plain (Err _) = true
+is_plain (Err r) = is_answer r
 
 plain-either : {A : Type 0} (b : Bool) (x y : Result A Refusal) → is_plain x ≡ true → is_plain y ≡ true → is_plain (cond b x y) ≡ true
 plain-either true x y e f = e
@@ -97,8 +102,7 @@ plain-judge h t caller o needed (Some m) = plain-judge_past caller o (held_at o 
 -- the outcome is a refusal just if it says so, and none for want of memory
 abbrev is_told : Result Reply Refusal → Bool
 is_told (Ok reply) = not (is_refused reply)
-is_told (Err NoMemory) = false
-is_told (Err _) = true
+is_told (Err r) = is_answer r
 
 told-test : (b : Bool) (r : Refusal) (next : Result Reply Refusal) → is_told (Err r) ≡ true → is_told next ≡ true → is_told (refuse_if b r >> next) ≡ true
 told-test true r next e f = e
@@ -106,25 +110,11 @@ told-test false r next e f = f
 
 told-bind : {A : Type 0} (first : Result A Refusal) (next : A → Result Reply Refusal) → is_plain first ≡ true → ((x : A) → is_told (next x) ≡ true) → is_told (first >>= next) ≡ true
 told-bind (Ok x) next e f = f x
-told-bind (Err NoMemory) next e f = cc
-told-bind (Err (Denied right)) next e f = refl
-told-bind (Err NoObject) next e f = refl
-told-bind (Err Future) next e f = refl
-told-bind (Err TooLong) next e f = refl
-told-bind (Err AclFull) next e f = refl
-told-bind (Err NoEntry) next e f = refl
-told-bind (Err NamesSpent) next e f = refl
+told-bind (Err r) next e f = e
 
 told-then : {A : Type 0} (first : Result A Refusal) (next : Result Reply Refusal) → is_plain first ≡ true → is_told next ≡ true → is_told (first >> next) ≡ true
 told-then (Ok x) next e f = f
-told-then (Err NoMemory) next e f = cc
-told-then (Err (Denied right)) next e f = refl
-told-then (Err NoObject) next e f = refl
-told-then (Err Future) next e f = refl
-told-then (Err TooLong) next e f = refl
-told-then (Err AclFull) next e f = refl
-told-then (Err NoEntry) next e f = refl
-told-then (Err NamesSpent) next e f = refl
+told-then (Err r) next e f = e
 
 told-user : (g : Grant) (user : ℕ) (found : Option Found) → is_told (entry_by_user g user found) ≡ true
 told-user g user None = refl
@@ -143,11 +133,21 @@ plain-settable user rights acl = of (names user acl) (rights == 0) (nat_le 16 (l
     of false false true = refl
     of false false false = refl
 
+plain-found : (caller : Caller) (purse : Purse) (needed : Right) (found : Option ℕ) → is_plain (found_bound caller purse needed found) ≡ true
+plain-found caller purse needed (Some serial) = refl
+plain-found caller purse needed None = of (may_know caller purse.creator)
+  where
+    of : (b : Bool) → is_plain {A = ℕ} (Err (cond b NoPartition (Denied needed))) ≡ true
+    of true = refl
+    of false = refl
+
 pub told-outcome : (base : Base) (h : List Record) (t : ℕ) (caller : Caller) (request : Request) → is_told (outcome base h t caller request) ≡ true
 told-outcome base h t caller (Create number) =
     let purse : Purse = record { creator = caller.who; number = number } in
     told-test (nat_le 65535 (drawn purse h)) NamesSpent (Ok (Made (object_in purse (drawn purse h + 1)))) refl refl
-told-outcome base h t caller (Delete o) = told-then (judge h t caller o right.Delete None) (Ok Done) (plain-judge h t caller o right.Delete None) refl
+told-outcome base h t caller (Delete o) =
+    told-then (judge h t caller o right.Delete None) (refuse_if (has_name o t h) Named >> Ok Done) (plain-judge h t caller o right.Delete None)
+    (told-test (has_name o t h) Named (Ok Done) refl refl)
 told-outcome base h t caller (Read o offset length at) =
     told-then (timely t at) (judge h t caller o right.Read at >>= λ g. Ok (Data g (take length (drop offset (data_of o (moment_of t at) h))))) (plain-timely t at)
     (told-bind (judge h t caller o right.Read at) (λ g. Ok (Data g (take length (drop offset (data_of o (moment_of t at) h))))) (plain-judge h t caller o right.Read at) (λ g. refl))
@@ -178,6 +178,24 @@ told-outcome base h t caller (GetAclByIndex o index at) =
 told-outcome base h t caller (SetAcl o user rights) =
     told-then (judge h t caller o right.Control None) (settable user rights (acl_of o t h) >> Ok Done) (plain-judge h t caller o right.Control None)
     (told-then (settable user rights (acl_of o t h)) (Ok Done) (plain-settable user rights (acl_of o t h)) refl)
+told-outcome base h t caller (PCreate name o) =
+    let taken : Bool = is_some (bound_at o.purse name t h) in
+    let full : Bool = nat_le 64 (bound_count o.purse t h) in
+    told-then (judge h t caller o right.Control None) (refuse_if taken Exists >> (refuse_if full PartsFull >> Ok Done)) (plain-judge h t caller o right.Control None)
+    (told-test taken Exists (refuse_if full PartsFull >> Ok Done) refl (told-test full PartsFull (Ok Done) refl refl))
+told-outcome base h t caller (PDelete purse name) =
+    let next : ℕ → Result Reply Refusal = λ serial. judge h t caller (object_in purse serial) right.Control None >> Ok Done in
+    told-bind (found_bound caller purse right.Control (bound_at purse name t h)) next (plain-found caller purse right.Control (bound_at purse name t h))
+    (λ serial. told-then (judge h t caller (object_in purse serial) right.Control None) (Ok Done) (plain-judge h t caller (object_in purse serial) right.Control None) refl)
+told-outcome base h t caller (PList range after at) =
+    told-then (timely t at) (Ok (page_of (flat_map (lines_in h t caller range after at) purse_numbers))) (plain-timely t at) refl
+told-outcome base h t caller (PMount purse name at) =
+    let found : Result ℕ Refusal = found_bound caller purse right.Read (bound_at purse name (moment_of t at) h) in
+    let last : ℕ → Grant → Result Reply Refusal = λ serial grant. Ok (Mounted grant (object_in purse serial)) in
+    let next : ℕ → Result Reply Refusal = λ serial. judge h t caller (object_in purse serial) right.Read at >>= last serial in
+    told-then (timely t at) (found >>= next) (plain-timely t at)
+    (told-bind found next (plain-found caller purse right.Read (bound_at purse name (moment_of t at) h))
+    (λ serial. told-bind (judge h t caller (object_in purse serial) right.Read at) (last serial) (plain-judge h t caller (object_in purse serial) right.Read at) (λ g. refl)))
 
 replied : (r : Result Reply Refusal) → is_told r ≡ true → is_no_memory (reply_of r) ≡ false
 replied (Ok Done) e = refl
@@ -185,6 +203,8 @@ replied (Ok (Made o)) e = refl
 replied (Ok (Data g bytes)) e = refl
 replied (Ok (Attr g bytes)) e = refl
 replied (Ok (Entry g index user rights)) e = refl
+replied (Ok (Mounted g o)) e = refl
+replied (Ok (Names lines more)) e = refl
 replied (Ok (Refused r)) e = cc
 replied (Err NoMemory) e = cc
 replied (Err (Denied right)) e = refl
@@ -193,6 +213,10 @@ replied (Err Future) e = refl
 replied (Err TooLong) e = refl
 replied (Err AclFull) e = refl
 replied (Err NoEntry) e = refl
+replied (Err NoPartition) e = refl
+replied (Err Exists) e = refl
+replied (Err PartsFull) e = refl
+replied (Err Named) e = refl
 replied (Err NamesSpent) e = refl
 
 pub is_no_memory-answer : (base : Base) (h : List Record) (t : ℕ) (caller : Caller) (request : Request) → is_no_memory (answer base h t caller request) ≡ false

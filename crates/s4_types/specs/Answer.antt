@@ -1,23 +1,29 @@
 -- What the drive answers a request, from the list of all earlier records.
-use Rattle.std.specs.Prelude.{ℕ, Bool, ◌+◌, ◌==◌, ◌&&◌, nat_lt, nat_le, Option, Some, None, Result, Ok, Err, List, [], length, take, drop, slice_get, count_by, if◌then◌else◌}
+use Rattle.std.specs.Prelude.{ℕ, Bool, true, ◌∷◌, is_some, filter, filter_map, flat_map, ◌+◌, ◌==◌, ◌&&◌, ◌||◌, nat_lt, nat_le, Option, Some, None, Result, Ok, Err, List, [], length, take, drop, slice_get, count_by, if◌then◌else◌}
 use Rattle.s4_types.specs.declared.principal.Caller.{Caller}
 use Rattle.s4_types.specs.declared.object.Purse.{Purse}
 use Rattle.s4_types.specs.declared.object.ObjectId.{ObjectId}
 use Rattle.s4_types.specs.declared.acl.AclEntry.{AclEntry}
+use Rattle.s4_types.specs.declared.rights.Right.{Right}
 use Rattle.s4_types.specs.declared.rights.Right.TheVariants as right
+use Rattle.std.specs.Ordering.{is_lt}
 use Rattle.s4_types.specs.declared.request.Request.{Request}
-use Rattle.s4_types.specs.declared.request.Request.TheVariants.{Create, Delete, Read, Write, Append, Truncate, GetAttr, SetAttr, GetAclByUser, GetAclByIndex, SetAcl}
+use Rattle.s4_types.specs.declared.request.Request.TheVariants.{Create, Delete, Read, Write, Append, Truncate, GetAttr, SetAttr, GetAclByUser, GetAclByIndex, SetAcl, PCreate, PDelete, PList, PMount}
 use Rattle.s4_types.specs.declared.reply.Grant.{Grant}
+use Rattle.s4_types.specs.declared.reply.NameLine.{NameLine}
+use Rattle.s4_types.specs.declared.request.After.{After}
 use Rattle.s4_types.specs.declared.reply.Refusal.{Refusal}
-use Rattle.s4_types.specs.declared.reply.Refusal.TheVariants.{Future, TooLong, AclFull, NoEntry, NamesSpent}
+use Rattle.s4_types.specs.declared.reply.Refusal.TheVariants.{Future, TooLong, AclFull, NoEntry, NamesSpent, NoPartition, Exists, PartsFull, Named}
 use Rattle.s4_types.specs.declared.reply.Reply.{Reply}
-use Rattle.s4_types.specs.declared.reply.Reply.TheVariants.{Done, Made, Data, Attr, Entry}
+use Rattle.s4_types.specs.declared.reply.Reply.TheVariants.{Done, Made, Data, Attr, Entry, Mounted, Names}
 use Rattle.s4_types.specs.declared.record.Record.{Record}
 use Rattle.s4_types.specs.Names.{object_in}
 use Rattle.s4_types.specs.Kinds.{is_create, concerns}
 use Rattle.s4_types.specs.Versions.{Value, value_at, data_track, attribute_track, acl_track}
 use Rattle.s4_types.specs.Acl.{names}
-use Rattle.s4_types.specs.Judgement.{Found, entry_of, judge}
+use Rattle.s4_types.specs.Name.{name_cmp}
+use Rattle.s4_types.specs.Bindings.{bound_at, bound_count, has_name, names_of}
+use Rattle.s4_types.specs.Judgement.{Found, entry_of, denied_absent, judge}
 use Rattle.s4_types.specs.Outcome.{◌>>=◌, ◌>>◌, refuse_if, reply_of}
 use Rattle.s4_types.specs.Base.{Base}
 
@@ -104,6 +110,7 @@ entry_read_by_index h t caller o index at = do
 abbrev pub deleted : List Record → ℕ → Caller → ObjectId → Result Reply Refusal
 deleted h t caller o = do
   judge h t caller o right.Delete None
+  refuse_if (has_name o t h) Named
   Ok Done
 
 abbrev pub data_written : List Record → ℕ → Caller → ObjectId → ℕ → List ℕ → Result Reply Refusal
@@ -143,6 +150,69 @@ acl_set h t caller o user rights = do
   settable user rights (acl_of o t h)
   Ok Done
 
+-- PARTITIONS
+
+abbrev pub name_bound : List Record → ℕ → Caller → List ℕ → ObjectId → Result Reply Refusal
+name_bound h t caller name o = do
+  judge h t caller o right.Control None
+  refuse_if (is_some (bound_at o.purse name t h)) Exists
+  refuse_if (nat_le 64 (bound_count o.purse t h)) PartsFull
+  Ok Done
+
+-- what a name is bound to; the purse's creator and the administrator alone are told that it isn't
+abbrev pub found_bound : Caller → Purse → Right → Option ℕ → Result ℕ Refusal
+found_bound caller purse needed (Some serial) = Ok serial
+found_bound caller purse needed None = Err (denied_absent caller purse.creator NoPartition needed)
+
+abbrev pub name_unbound : List Record → ℕ → Caller → Purse → List ℕ → Result Reply Refusal
+name_unbound h t caller purse name = do
+  serial ← found_bound caller purse right.Control (bound_at purse name t h)
+  judge h t caller (object_in purse serial) right.Control None
+  Ok Done
+
+abbrev pub name_mounted : List Record → ℕ → Caller → Purse → List ℕ → Option ℕ → Result Reply Refusal
+name_mounted h t caller purse name at = do
+  timely t at
+  serial ← found_bound caller purse right.Read (bound_at purse name (moment_of t at) h)
+  grant ← judge h t caller (object_in purse serial) right.Read at
+  Ok (Mounted grant (object_in purse serial))
+
+-- the line of a name, where the caller may mount it
+abbrev pub line_where : List ℕ → ObjectId → Result Grant Refusal → Option NameLine
+line_where name o (Ok grant) = Some (record { name = name; object = o; grant = grant })
+line_where name o (Err refusal) = None
+
+abbrev pub line_of_bound : List Record → ℕ → Caller → Option ℕ → Purse → List ℕ → Option ℕ → Option NameLine
+line_of_bound h t caller at purse name (Some serial) = line_where name (object_in purse serial) (judge h t caller (object_in purse serial) right.Read at)
+line_of_bound h t caller at purse name None = None
+
+-- the line of a name that is bound and that the caller may mount
+abbrev pub line_of : List Record → ℕ → Caller → Option ℕ → Purse → List ℕ → Option NameLine
+line_of h t caller at purse name = line_of_bound h t caller at purse name (bound_at purse name (moment_of t at) h)
+
+-- whether a name in a purse of that number comes after the place
+abbrev pub is_after : Option After → ℕ → List ℕ → Bool
+is_after None number name = true
+is_after (Some after) number name = nat_lt after.number number || ((after.number == number) && is_lt (name_cmp after.name name))
+
+-- the lines of one purse, by the names
+abbrev pub lines_in : List Record → ℕ → Caller → ℕ → Option After → Option ℕ → ℕ → List NameLine
+lines_in h t caller range after at number =
+    let purse : Purse = record { creator = range; number = number } in
+    filter_map (line_of h t caller at purse) (filter (is_after after number) (names_of purse h))
+
+abbrev pub purse_numbers : List ℕ
+purse_numbers = 0 ∷ 1 ∷ 2 ∷ 3 ∷ 4 ∷ 5 ∷ 6 ∷ 7 ∷ 8 ∷ 9 ∷ 10 ∷ 11 ∷ 12 ∷ 13 ∷ 14 ∷ 15 ∷ []
+
+-- the first 64 lines, and whether more follow
+abbrev pub page_of : List NameLine → Reply
+page_of lines = Names (take 64 lines) (nat_lt 64 (length lines))
+
+abbrev pub names_listed : List Record → ℕ → Caller → ℕ → Option After → Option ℕ → Result Reply Refusal
+names_listed h t caller range after at = do
+  timely t at
+  Ok (page_of (flat_map (lines_in h t caller range after at) purse_numbers))
+
 -- ALL REQUESTS
 
 -- each request's tests in a row, and what it is told where none fails
@@ -158,6 +228,10 @@ outcome base h t caller (SetAttr o bytes) = attributes_set h t caller o bytes
 outcome base h t caller (GetAclByUser o user at) = entry_read_by_user h t caller o user at
 outcome base h t caller (GetAclByIndex o index at) = entry_read_by_index h t caller o index at
 outcome base h t caller (SetAcl o user rights) = acl_set h t caller o user rights
+outcome base h t caller (PCreate name o) = name_bound h t caller name o
+outcome base h t caller (PDelete purse name) = name_unbound h t caller purse name
+outcome base h t caller (PList range after at) = names_listed h t caller range after at
+outcome base h t caller (PMount purse name at) = name_mounted h t caller purse name at
 
 -- the reply to a request at the moment t, after the records h that came since the base
 abbrev pub answer : Base → List Record → ℕ → Caller → Request → Reply

@@ -3,7 +3,7 @@ use Rattle.std.specs.Prelude.{ℕ, Bool, true, false, not, ◌&&◌, Option, Som
 use Rattle.s4_types.specs.declared.principal.Caller.{Caller}
 use Rattle.s4_types.specs.declared.object.Purse.{Purse}
 use Rattle.s4_types.specs.declared.request.Request.{Request}
-use Rattle.s4_types.specs.declared.request.Request.TheVariants.{Create, Delete, Read, Write, Append, Truncate, GetAttr, SetAttr, GetAclByUser, GetAclByIndex, SetAcl}
+use Rattle.s4_types.specs.declared.request.Request.TheVariants.{Create, Delete, Read, Write, Append, Truncate, GetAttr, SetAttr, GetAclByUser, GetAclByIndex, SetAcl, PCreate, PDelete, PList, PMount}
 use Rattle.s4_types.specs.declared.reply.Reply.{Reply}
 use Rattle.s4_types.specs.declared.reply.Reply.TheVariants.{Refused}
 use Rattle.s4_types.specs.declared.record.Record.{Record}
@@ -15,6 +15,8 @@ only_reads (Read o offset length at) = true
 only_reads (GetAttr o at) = true
 only_reads (GetAclByUser o user at) = true
 only_reads (GetAclByIndex o index at) = true
+only_reads (PList range after at) = true
+only_reads (PMount purse name at) = true
 only_reads _ = false
 
 -- whether the request makes an object, where it is carried out
@@ -35,15 +37,24 @@ purse_of caller (SetAttr o bytes) = Some o.purse
 purse_of caller (GetAclByUser o user at) = Some o.purse
 purse_of caller (GetAclByIndex o index at) = Some o.purse
 purse_of caller (SetAcl o user rights) = Some o.purse
+purse_of caller (PCreate name o) = Some o.purse
+purse_of caller (PDelete purse name) = Some purse
+purse_of caller (PList range after at) = None
+purse_of caller (PMount purse name at) = Some purse
 
--- the creator of the purse, or else the caller
-abbrev pub creator_of : Caller → Option Purse → ℕ
-creator_of caller (Some purse) = purse.creator
-creator_of caller None = caller.who
+-- the principal in whose range a request without a purse lies: the one that it names, or else the caller
+abbrev pub principal_of : Caller → Request → ℕ
+principal_of caller (PList range after at) = range
+principal_of caller _ = caller.who
+
+-- the creator of the purse, or else that principal
+abbrev pub creator_or : ℕ → Option Purse → ℕ
+creator_or principal (Some purse) = purse.creator
+creator_or principal None = principal
 
 -- the principal in whose range the request lies
 abbrev pub range_of : Caller → Request → ℕ
-range_of caller request = creator_of caller (purse_of caller request)
+range_of caller request = creator_or (principal_of caller request) (purse_of caller request)
 
 abbrev pub is_refused : Reply → Bool
 is_refused (Refused refusal) = true

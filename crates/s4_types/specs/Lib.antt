@@ -1,7 +1,10 @@
 pub mod Rights
 pub mod Acl
 pub mod Names
+pub mod Name
+pub mod Same
 pub mod Kinds
+pub mod Bindings
 pub mod Versions
 pub mod Judgement
 pub mod Outcome

@@ -92,6 +92,18 @@ versions track o h = fold (versions_after track o) [] h
 abbrev pub value_at : {V : Type 0} → Track V → ObjectId → ℕ → List Record → Option (Value V)
 value_at track o m h = if lives_at m o h then find (λ v. nat_le v.begin m) (versions track o h) else None
 
+-- BEGINS AND ENDS
+
+-- whether there is an end, and it is at most the moment
+abbrev pub ends_by : ℕ → Option ℕ → Bool
+ends_by m None = false
+ends_by m (Some end) = nat_le end m
+
+-- of values, the newest first: the newest that began by the moment, where it hasn't ended by then
+abbrev pub in_force_by : {V : Type 0} → ℕ → List (Value V) → Option (Value V)
+in_force_by m [] = None
+in_force_by m (v ∷ past) = if nat_le v.begin m then (if ends_by m v.end then None else Some v) else in_force_by m past
+
 -- THE TRACKS OF AN OBJECT
 
 -- the bytes, and zeros up to the length

@@ -7,6 +7,7 @@ ghost use Rattle.s4_types.specs.declared.object.ObjectId.{ObjectId};
 ghost use Rattle.s4_types.specs.declared.record.Record.{Record};
 ghost use Rattle.s4_types.specs.Applied.{applied, InOrder, AgreeOn};
 ghost use Rattle.s4_types.specs.Answer.{drawn};
+ghost use Rattle.s4_types.specs.Bindings.{bindings, bound_at, names_of};
 ghost use Rattle.s4_types.specs.Versions.{lives_at, versions, value_at, data_track, attribute_track, acl_track};
 
 /// Where an object lives, the value in force at a moment is what the accepted changes up to that moment leave, applied in
@@ -20,8 +21,8 @@ pub fn values_are_applied_in_order()
         → option_map (λ v. v.value) (value_at acl_track o m h) ≡ applied acl_track o m h }
 {}
 
-/// The life and the values of a purse's objects, and the purse's serials, depend on the records
-/// that concern the purse, and on no others (docs/MODEL.md, "Kinds").
+/// The life and the values of a purse's objects, the purse's serials, and what its names are bound
+/// to depend on the records that concern the purse, and on no others (docs/MODEL.md, "Kinds").
 pub fn purses_depend_on_their_records()
     ensures life { (purse : Purse) (serial m : ℕ) (h k : List Record) → AgreeOn purse h k
         → lives_at m (record { purse = purse; serial = serial }) h ≡ lives_at m (record { purse = purse; serial = serial }) k }
@@ -32,4 +33,9 @@ pub fn purses_depend_on_their_records()
     ensures acl_track { (purse : Purse) (serial : ℕ) (h k : List Record) → AgreeOn purse h k
         → versions acl_track (record { purse = purse; serial = serial }) h ≡ versions acl_track (record { purse = purse; serial = serial }) k }
     ensures serials { (purse : Purse) (h k : List Record) → AgreeOn purse h k → drawn purse h ≡ drawn purse k }
+    ensures bindings { (purse : Purse) (name : List ℕ) (h k : List Record) → AgreeOn purse h k
+        → bindings purse name h ≡ bindings purse name k }
+    ensures names { (purse : Purse) (h k : List Record) → AgreeOn purse h k → names_of purse h ≡ names_of purse k }
+    ensures bound { (purse : Purse) (name : List ℕ) (m : ℕ) (h k : List Record) → AgreeOn purse h k
+        → bound_at purse name m h ≡ bound_at purse name m k }
 {}

@@ -1,14 +1,40 @@
 //! Each public call once, and at its borders.
 
 use crate::{
-    Acl, AclEntry, Bytes, Grant, Moment, ObjectId, Principal, Purse, PurseNo, Refusal, Reply,
-    Request, Right, Rights, Serial,
+    Acl, AclEntry, Bytes, Grant, Moment, Name, NameLine, NameLines, ObjectId, Principal, Purse,
+    PurseNo, Refusal, Reply, Request, Right, Rights, Serial,
 };
 use std::alloc::Global;
+use std::cmp::Ordering;
 use std::test::Fail;
 
 fn bytes(alloc: Global, text: &[u8]) -> Result<Bytes, Fail> {
     Ok(Bytes::new(Vec::from_slice(alloc, text)?))
+}
+
+fn named(text: &[u8]) -> Result<Name, Fail> {
+    Ok(Name::new(text).ok_or("a name")?)
+}
+
+fn last_object() -> Result<ObjectId, Fail> {
+    Ok(ObjectId {
+        purse: Purse {
+            creator: Principal::administrator(),
+            number: PurseNo::new(15).ok_or("a purse")?,
+        },
+        serial: Serial::new(65535).ok_or("a serial")?,
+    })
+}
+
+fn home_line() -> Result<NameLine, Fail> {
+    Ok(NameLine {
+        name: named(b"home")?,
+        object: last_object()?,
+        grant: Grant::Entry {
+            index: 1,
+            since: Moment::new(5),
+        },
+    })
 }
 
 #[test]
@@ -108,21 +134,20 @@ fn bytes_stay_as_given(rt: HostRuntime) -> Result<(), Fail> {
 
 #[test]
 fn copies_of_requests_are_equal(rt: HostRuntime) -> Result<(), Fail> {
-    let object = ObjectId {
-        purse: Purse {
-            creator: Principal::administrator(),
-            number: PurseNo::new(15).ok_or("a purse")?,
-        },
-        serial: Serial::new(65535).ok_or("a serial")?,
-    };
+    let object = last_object()?;
     let written = Request::Write {
         object,
         offset: u32::MAX,
         bytes: bytes(rt.alloc(), b"hello")?,
     };
     let deleted = Request::Delete { object };
+    let bound = Request::PCreate {
+        name: named(b"home")?,
+        object,
+    };
     assert_eq!(rt; written.copy()?, written);
     assert_eq!(rt; deleted.copy()?, deleted);
+    assert_eq!(rt; bound.copy()?, bound);
     Ok(())
 }
 
@@ -132,10 +157,97 @@ fn copies_of_replies_are_equal(rt: HostRuntime) -> Result<(), Fail> {
         grant: Grant::Admin,
         bytes: bytes(rt.alloc(), b"hello")?,
     };
+    let listed = Reply::Names {
+        lines: NameLines::new(vec![in rt.alloc(); home_line()?]?),
+        more: true,
+    };
     let refused = Reply::Refused(Refusal::Denied(Right::Admin));
-    for (reply, is_refused) in [(&told, false), (&Reply::Done, false), (&refused, true)] {
+    for (reply, is_refused) in [
+        (&told, false),
+        (&Reply::Done, false),
+        (&listed, false),
+        (&refused, true),
+    ] {
         assert_eq!(rt; reply.copy()?, *reply);
         assert_eq!(rt; reply.is_refused(), is_refused, "{reply:?}");
     }
+    Ok(())
+}
+
+#[test]
+fn names_at_their_borders(rt: HostRuntime) -> Result<(), Fail> {
+    for (text, taken) in [
+        (b"".as_slice(), false),
+        (b"a".as_slice(), true),
+        (b"z".as_slice(), true),
+        (b"0".as_slice(), true),
+        (b"9".as_slice(), true),
+        (b"-".as_slice(), true),
+        (b"abcdefghijklmnopqrstuvwxyz012345".as_slice(), true),
+        (b"abcdefghijklmnopqrstuvwxyz0123456".as_slice(), false),
+        (b"A".as_slice(), false),
+        (b"Z".as_slice(), false),
+        (b"_".as_slice(), false),
+        (b".".as_slice(), false),
+        (b"`".as_slice(), false),
+        (b"{".as_slice(), false),
+        (b"/".as_slice(), false),
+        (b":".as_slice(), false),
+        (b"home.".as_slice(), false),
+    ] {
+        assert_eq!(rt; Name::new(text).is_some(), taken, "name {text:?}");
+    }
+    Ok(())
+}
+
+#[test]
+fn names_stay_as_given(rt: HostRuntime) -> Result<(), Fail> {
+    for text in [
+        b"-".as_slice(),
+        b"home".as_slice(),
+        b"abcdefghijklmnopqrstuvwxyz012345".as_slice(),
+    ] {
+        let name = named(text)?;
+        assert_eq!(rt; name.as_slice(), text);
+        let copied = name.clone()?;
+        assert_eq!(rt; copied, name);
+        assert_eq!(rt; copied.as_slice(), text);
+    }
+    Ok(())
+}
+
+#[test]
+fn names_are_ordered_by_their_bytes(rt: HostRuntime) -> Result<(), Fail> {
+    for (low, high) in [
+        (b"-".as_slice(), b"0".as_slice()),
+        (b"0".as_slice(), b"9".as_slice()),
+        (b"9".as_slice(), b"a".as_slice()),
+        (b"a".as_slice(), b"a-".as_slice()),
+        (b"a-".as_slice(), b"a0".as_slice()),
+        (b"a0".as_slice(), b"ab".as_slice()),
+        (b"ab".as_slice(), b"b".as_slice()),
+    ] {
+        let low = named(low)?;
+        let high = named(high)?;
+        assert!(rt; low < high);
+        assert_eq!(rt; low.cmp(&high), Ordering::Less);
+        assert_eq!(rt; high.cmp(&low), Ordering::Greater);
+        assert_eq!(rt; low.cmp(&low), Ordering::Equal);
+        assert_ne!(rt; low, high);
+    }
+    Ok(())
+}
+
+#[test]
+fn lines_stay_as_given(rt: HostRuntime) -> Result<(), Fail> {
+    let alloc = rt.alloc();
+    let empty = NameLines::new(Vec::new(alloc));
+    assert!(rt; empty.as_slice().is_empty());
+    let lines = NameLines::new(vec![in alloc; home_line()?]?);
+    let copied = lines.clone()?;
+    assert_eq!(rt; copied, lines);
+    assert_ne!(rt; copied, empty);
+    let wanted = [home_line()?];
+    assert_eq!(rt; copied.as_slice(), wanted.as_slice());
     Ok(())
 }

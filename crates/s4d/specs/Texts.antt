@@ -1,9 +1,10 @@
 -- What the program prints of replies and faults.
-use Rattle.std.specs.Prelude.{ℕ, List, [], ◌∷◌, ◌++◌, codes, decimal, string_bytes}
+use Rattle.std.specs.Prelude.{ℕ, Bool, true, false, List, [], ◌∷◌, ◌++◌, length, flat_map, codes, decimal, string_bytes}
 use Rattle.hex.specs.Hex.{encode_lower}
 use Rattle.s4_types.specs.declared.object.ObjectId.{ObjectId}
 use Rattle.s4_types.specs.declared.reply.Grant.{Grant}
 use Rattle.s4_types.specs.declared.reply.Grant.TheVariants as grant
+use Rattle.s4_types.specs.declared.reply.NameLine.{NameLine}
 use Rattle.s4_types.specs.declared.reply.Refusal.{Refusal}
 use Rattle.s4_types.specs.declared.reply.Refusal.TheVariants as refusal
 use Rattle.s4_types.specs.declared.reply.Reply.{Reply}
@@ -45,16 +46,39 @@ refusal_text refusal.Future = codes "future"
 refusal_text refusal.TooLong = codes "too-long"
 refusal_text refusal.AclFull = codes "acl-full"
 refusal_text refusal.NoEntry = codes "no-entry"
+refusal_text refusal.NoPartition = codes "no-partition"
+refusal_text refusal.Exists = codes "exists"
+refusal_text refusal.PartsFull = codes "parts-full"
+refusal_text refusal.Named = codes "named"
 refusal_text refusal.NamesSpent = codes "names-spent"
 refusal_text refusal.NoMemory = codes "no-memory"
 
--- a reply as its line, without the end of the line
+-- a partition as its line: its name, its object, and why it is shown
+abbrev pub line_text : NameLine → List ℕ
+line_text line = codes "name " ++ line.name ++ codes " " ++ object_text line.object ++ codes " " ++ grant_text line.grant
+
+-- a line feed, and then a partition's line, for each of them
+abbrev pub lines_text : List NameLine → List ℕ
+lines_text lines = flat_map (λ line. 10 ∷ line_text line) lines
+
+-- whether more partitions follow a page
+abbrev pub end_text : Bool → List ℕ
+end_text true = codes "more"
+end_text false = codes "end"
+
+-- a page of partitions: how many there are on it, whether more follow, and then the line of each
+abbrev pub names_text : List NameLine → Bool → List ℕ
+names_text lines more = codes "names " ++ decimal (length lines) ++ codes " " ++ end_text more ++ lines_text lines
+
+-- a reply as its line, without the end of the line; a page of partitions is more lines, parted by line feeds
 abbrev pub reply_text : Reply → List ℕ
 reply_text reply.Done = codes "done"
 reply_text (reply.Made object) = codes "made " ++ object_text object
 reply_text (reply.Data granted bytes) = codes "data " ++ bytes_text bytes ++ codes " " ++ grant_text granted
 reply_text (reply.Attr granted bytes) = codes "attr " ++ bytes_text bytes ++ codes " " ++ grant_text granted
 reply_text (reply.Entry granted index user rights) = codes "entry " ++ decimal index ++ codes " " ++ decimal user ++ codes " " ++ decimal rights ++ codes " " ++ grant_text granted
+reply_text (reply.Mounted granted object) = codes "mounted " ++ object_text object ++ codes " " ++ grant_text granted
+reply_text (reply.Names lines more) = names_text lines more
 reply_text (reply.Refused why) = refusal_text why
 
 -- why the program ends without success

@@ -36,7 +36,7 @@ pub fn parse(alloc: Global, words: &[String]) -> Result<Command, Fault> {
 
 fn parser<'a>(alloc: Global) -> Result<Parser<'a>, AllocError> {
     let run = Parser::new(alloc, "run").about(
-        "Runs a script from standard input, and writes a line for each reply",
+        "Runs a script from standard input, and writes the replies",
     );
     Parser::new(alloc, "s4d")
         .about("A drive that keeps what was written, and answers each principal by its rights")

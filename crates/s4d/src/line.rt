@@ -6,7 +6,7 @@ use s4_types::{Caller, Moment, Request};
 use std::alloc::Global;
 
 /// The most words that a line has.
-const MOST_WORDS: usize = 8;
+const MOST_WORDS: usize = 9;
 
 /// A line after the first: a request at a moment.
 #[derive(Debug, PartialEq, Drop)]

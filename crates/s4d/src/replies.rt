@@ -1,14 +1,14 @@
 //! The texts of replies.
 
-ghost use Rattle.std.specs.Prelude.{Some};
+ghost use Rattle.std.specs.Prelude.{◌≡◌, Some};
 ghost use Rattle.std.specs.Fmt.{DisplaysOnOk};
 ghost use Rattle.hex.specs.Hex.{encode_lower};
-ghost use Rattle.s4d.specs.Texts.{bytes_text, grant_text, object_text, refusal_text, reply_text, right_text};
+ghost use Rattle.s4d.specs.Texts.{bytes_text, grant_text, line_text, lines_text, names_text, object_text, refusal_text, reply_text, right_text};
 
-use s4_types::{Grant, ObjectId, Refusal, Reply, Right};
+use s4_types::{Grant, Name, NameLine, ObjectId, Refusal, Reply, Right};
 use std::fmt;
 
-/// A reply as its line.
+/// A reply as its line, or as its lines where it is a page of partitions.
 #[derive(Clone, Copy)]
 pub struct ReplyText<'a>(pub &'a Reply);
 
@@ -45,6 +45,10 @@ impl fmt::Display for ReplyText<'_> {
                 let rights = rights.number();
                 write!(f, "entry {index} {user} {rights} {}", GrantText(*grant))
             }
+            Reply::Mounted { grant, object } => {
+                write!(f, "mounted {} {}", ObjectText(*object), GrantText(*grant))
+            }
+            Reply::Names { lines, more } => write!(f, "{}", NamesText(lines.as_slice(), *more)),
             Reply::Refused(refusal) => write!(f, "{}", RefusalText(*refusal)),
         }
     }
@@ -92,6 +96,56 @@ fn write_hexadecimal<W: fmt::Write>(bytes: &[u8], f: &mut fmt::Formatter<W>) -> 
     Ok(())
 }
 
+/// A page of partitions, and whether more of them follow.
+#[derive(Clone, Copy)]
+struct NamesText<'a>(&'a [NameLine], bool);
+
+impl fmt::Display for NamesText<'_> {
+    ghost output = { λ t. Some (names_text t.0.now t.1) };
+
+    fn fmt<W: fmt::Write>(&self, f: &mut fmt::Formatter<W>) -> fmt::Result {
+        let count = self.0.len();
+        let end = if self.1 { "more" } else { "end" };
+        write!(f, "names {count} {end}")?;
+        write_lines(self.0, f)
+    }
+}
+
+/// A new line for each partition.
+fn write_lines<W: fmt::Write>(lines: &[NameLine], f: &mut fmt::Formatter<W>) -> fmt::Result
+    ensures { DisplaysOnOk W.write_str_gives f.old result (Some (lines_text lines.now)) f.new }
+{
+    for line in lines {
+        write!(f, "\n{}", LineText(line))?;
+    }
+    Ok(())
+}
+
+/// A partition as its line.
+#[derive(Clone, Copy)]
+struct LineText<'a>(&'a NameLine);
+
+impl fmt::Display for LineText<'_> {
+    ghost output = { λ t. Some (line_text t.0.now) };
+
+    fn fmt<W: fmt::Write>(&self, f: &mut fmt::Formatter<W>) -> fmt::Result {
+        let name = text_of_name(&self.0.name);
+        let object = ObjectText(self.0.object);
+        let grant = GrantText(self.0.grant);
+        write!(f, "name {name} {object} {grant}")
+    }
+}
+
+/// The name as text, which its bytes always are.
+fn text_of_name(name: &Name) -> &str
+    ensures { result.now ≡ name.now }
+{
+    match std::str::from_utf8(name.as_slice()) {
+        Ok(text) => text,
+        Err(_) => unreachable!(),
+    }
+}
+
 /// Why a read was granted.
 #[derive(Clone, Copy)]
 struct GrantText(Grant);
@@ -126,6 +180,10 @@ impl fmt::Display for RefusalText {
             Refusal::TooLong => write!(f, "too-long"),
             Refusal::AclFull => write!(f, "acl-full"),
             Refusal::NoEntry => write!(f, "no-entry"),
+            Refusal::NoPartition => write!(f, "no-partition"),
+            Refusal::Exists => write!(f, "exists"),
+            Refusal::PartsFull => write!(f, "parts-full"),
+            Refusal::Named => write!(f, "named"),
             Refusal::NamesSpent => write!(f, "names-spent"),
             Refusal::NoMemory => write!(f, "no-memory"),
         }

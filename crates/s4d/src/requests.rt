@@ -19,6 +19,10 @@ pub fn parse_request(alloc: Global, verb: &str, words: &[&str]) -> Result<Reques
         ("acl-user", [object, user, at @ ..]) => get_acl_by_user(object, user, at),
         ("acl-index", [object, index, at @ ..]) => get_acl_by_index(object, index, at),
         ("setacl", [object, user, rights]) => set_acl(object, user, rights),
+        ("pcreate", [name, object]) => pcreate(name, object),
+        ("pdelete", [purse, name]) => pdelete(purse, name),
+        ("plist", [range, place @ ..]) => plist(range, place),
+        ("pmount", [purse, name, at @ ..]) => pmount(purse, name, at),
         _ => Err(ParseError::Bad),
     }
 }
@@ -101,5 +105,41 @@ fn set_acl(object: &str, user: &str, rights: &str) -> Result<Request, ParseError
         object: words::object(object)?,
         user: words::principal(user)?,
         rights: words::rights(rights)?,
+    })
+}
+
+fn pcreate(name: &str, object: &str) -> Result<Request, ParseError> {
+    Ok(Request::PCreate {
+        name: words::name(name)?,
+        object: words::object(object)?,
+    })
+}
+
+fn pdelete(purse: &str, name: &str) -> Result<Request, ParseError> {
+    Ok(Request::PDelete {
+        purse: words::purse(purse)?,
+        name: words::name(name)?,
+    })
+}
+
+/// A page of partitions. The place is where it begins, as `after 1 b`, and then when, as `at 9`;
+/// either may lack.
+fn plist(range: &str, place: &[&str]) -> Result<Request, ParseError> {
+    let (after, at) = match place {
+        ["after", number, name, at @ ..] => (Some(words::after(number, name)?), at),
+        at => (None, at),
+    };
+    Ok(Request::PList {
+        range: words::principal(range)?,
+        after,
+        at: words::at(at)?,
+    })
+}
+
+fn pmount(purse: &str, name: &str, at: &[&str]) -> Result<Request, ParseError> {
+    Ok(Request::PMount {
+        purse: words::purse(purse)?,
+        name: words::name(name)?,
+        at: words::at(at)?,
     })
 }

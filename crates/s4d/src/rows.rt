@@ -12,7 +12,7 @@ pub struct Row {
     pub error: &'static str,
 }
 
-pub const ROWS: [Row; 17] = [
+pub const ROWS: [Row; 21] = [
     EMPTY_SCRIPT,
     FIRST_REQUESTS,
     THREE_CALLS_AT_FIVE,
@@ -27,6 +27,10 @@ pub const ROWS: [Row; 17] = [
     FULL_ACL,
     RECOVERY_FLAG,
     RECOVERY_FLAG_REVOKED,
+    BOUND_OBJECT,
+    NAME_BOUND_AGAIN,
+    VISIBLE_NAMES_ALONE,
+    PARTS_FULL,
     FAULT_FIRST_LINE,
     FAULT_BAD_LINE,
     FAULT_MOMENT_GOES_BACK,
@@ -328,6 +332,529 @@ const RECOVERY_FLAG_REVOKED: Row = Row {
              data empty by 1 since 30\n\
              denied read\n\
              denied read\n",
+    error: "",
+};
+
+/// An object that has a bound name can't be deleted, and what the name was bound to is still told.
+/// docs/SCRIPTS.md has it as an example.
+const BOUND_OBJECT: Row = Row {
+    name: "bound_object",
+    script: "window 100\n\
+             1 7 create 0\n\
+             2 7 pcreate home 7.0.1\n\
+             2 7 pcreate home 7.0.1\n\
+             3 7 delete 7.0.1\n\
+             4 7 pdelete 7.0 home\n\
+             5 7 delete 7.0.1\n\
+             6 7 pmount 7.0 home at 3\n\
+             6 7 pmount 7.0 home at 4\n\
+             6 9 pmount 7.0 home\n",
+    output: "made 7.0.1\n\
+             done\n\
+             exists\n\
+             named\n\
+             done\n\
+             done\n\
+             mounted 7.0.1 by 0 since 1\n\
+             no-partition\n\
+             denied read\n",
+    error: "",
+};
+
+/// A name that is bound no longer can be bound again, to another object.
+const NAME_BOUND_AGAIN: Row = Row {
+    name: "name_bound_again",
+    script: "window 100\n\
+             1 7 create 0\n\
+             1 7 create 0\n\
+             2 7 pcreate a 7.0.1\n\
+             3 7 pdelete 7.0 a\n\
+             3 7 pcreate a 7.0.2\n\
+             4 7 pmount 7.0 a at 2\n\
+             4 7 pmount 7.0 a at 3\n\
+             4 9 pdelete 7.0 a\n",
+    output: "made 7.0.1\n\
+             made 7.0.2\n\
+             done\n\
+             done\n\
+             done\n\
+             mounted 7.0.1 by 0 since 1\n\
+             mounted 7.0.2 by 0 since 1\n\
+             denied control\n",
+    error: "",
+};
+
+/// A page has the names that the caller may mount, 64 at most; the others count nowhere.
+const VISIBLE_NAMES_ALONE: Row = Row {
+    name: "visible_names_alone",
+    script: "window 100\n\
+             1 9 create 0\n\
+             1 9 create 1\n\
+             1 9 create 0\n\
+             2 9 pcreate a00 9.0.1\n\
+             2 9 pcreate a01 9.0.1\n\
+             2 9 pcreate a02 9.0.1\n\
+             2 9 pcreate a03 9.0.1\n\
+             2 9 pcreate a04 9.0.1\n\
+             2 9 pcreate a05 9.0.1\n\
+             2 9 pcreate a06 9.0.1\n\
+             2 9 pcreate a07 9.0.1\n\
+             2 9 pcreate a08 9.0.1\n\
+             2 9 pcreate a09 9.0.1\n\
+             2 9 pcreate a10 9.0.1\n\
+             2 9 pcreate a11 9.0.1\n\
+             2 9 pcreate a12 9.0.1\n\
+             2 9 pcreate a13 9.0.1\n\
+             2 9 pcreate a14 9.0.1\n\
+             2 9 pcreate a15 9.0.1\n\
+             2 9 pcreate a16 9.0.1\n\
+             2 9 pcreate a17 9.0.1\n\
+             2 9 pcreate a18 9.0.1\n\
+             2 9 pcreate a19 9.0.1\n\
+             2 9 pcreate a20 9.0.1\n\
+             2 9 pcreate a21 9.0.1\n\
+             2 9 pcreate a22 9.0.1\n\
+             2 9 pcreate a23 9.0.1\n\
+             2 9 pcreate a24 9.0.1\n\
+             2 9 pcreate a25 9.0.1\n\
+             2 9 pcreate a26 9.0.1\n\
+             2 9 pcreate a27 9.0.1\n\
+             2 9 pcreate a28 9.0.1\n\
+             2 9 pcreate a29 9.0.1\n\
+             2 9 pcreate a30 9.0.1\n\
+             2 9 pcreate a31 9.0.1\n\
+             2 9 pcreate a32 9.0.1\n\
+             2 9 pcreate a33 9.0.1\n\
+             2 9 pcreate a34 9.0.1\n\
+             2 9 pcreate a35 9.0.1\n\
+             2 9 pcreate a36 9.0.1\n\
+             2 9 pcreate a37 9.0.1\n\
+             2 9 pcreate a38 9.0.1\n\
+             2 9 pcreate a39 9.0.1\n\
+             2 9 pcreate a40 9.0.1\n\
+             2 9 pcreate a41 9.0.1\n\
+             2 9 pcreate a42 9.0.1\n\
+             2 9 pcreate a43 9.0.1\n\
+             2 9 pcreate a44 9.0.1\n\
+             2 9 pcreate a45 9.0.1\n\
+             2 9 pcreate a46 9.0.1\n\
+             2 9 pcreate a47 9.0.1\n\
+             2 9 pcreate a48 9.0.1\n\
+             2 9 pcreate a49 9.0.1\n\
+             2 9 pcreate a50 9.0.1\n\
+             2 9 pcreate a51 9.0.1\n\
+             2 9 pcreate a52 9.0.1\n\
+             2 9 pcreate a53 9.0.1\n\
+             2 9 pcreate a54 9.0.1\n\
+             2 9 pcreate a55 9.0.1\n\
+             2 9 pcreate a56 9.0.1\n\
+             2 9 pcreate a57 9.0.1\n\
+             2 9 pcreate a58 9.0.1\n\
+             2 9 pcreate a59 9.0.1\n\
+             2 9 pcreate x 9.0.2\n\
+             2 9 pcreate y 9.0.2\n\
+             2 9 pcreate b0 9.1.1\n\
+             2 9 pcreate b1 9.1.1\n\
+             2 9 pcreate b2 9.1.1\n\
+             2 9 pcreate b3 9.1.1\n\
+             2 9 pcreate b4 9.1.1\n\
+             2 9 pcreate b5 9.1.1\n\
+             2 9 pcreate b6 9.1.1\n\
+             2 9 pcreate b7 9.1.1\n\
+             3 9 setacl 9.0.2 7 1\n\
+             4 7 plist 9\n\
+             4 9 plist 9\n\
+             4 9 plist 9 after 1 b1\n",
+    output: "made 9.0.1\n\
+             made 9.1.1\n\
+             made 9.0.2\n\
+             done\n\
+             done\n\
+             done\n\
+             done\n\
+             done\n\
+             done\n\
+             done\n\
+             done\n\
+             done\n\
+             done\n\
+             done\n\
+             done\n\
+             done\n\
+             done\n\
+             done\n\
+             done\n\
+             done\n\
+             done\n\
+             done\n\
+             done\n\
+             done\n\
+             done\n\
+             done\n\
+             done\n\
+             done\n\
+             done\n\
+             done\n\
+             done\n\
+             done\n\
+             done\n\
+             done\n\
+             done\n\
+             done\n\
+             done\n\
+             done\n\
+             done\n\
+             done\n\
+             done\n\
+             done\n\
+             done\n\
+             done\n\
+             done\n\
+             done\n\
+             done\n\
+             done\n\
+             done\n\
+             done\n\
+             done\n\
+             done\n\
+             done\n\
+             done\n\
+             done\n\
+             done\n\
+             done\n\
+             done\n\
+             done\n\
+             done\n\
+             done\n\
+             done\n\
+             done\n\
+             done\n\
+             done\n\
+             done\n\
+             done\n\
+             done\n\
+             done\n\
+             done\n\
+             done\n\
+             done\n\
+             done\n\
+             done\n\
+             names 2 end\n\
+             name x 9.0.2 by 1 since 3\n\
+             name y 9.0.2 by 1 since 3\n\
+             names 64 more\n\
+             name a00 9.0.1 by 0 since 1\n\
+             name a01 9.0.1 by 0 since 1\n\
+             name a02 9.0.1 by 0 since 1\n\
+             name a03 9.0.1 by 0 since 1\n\
+             name a04 9.0.1 by 0 since 1\n\
+             name a05 9.0.1 by 0 since 1\n\
+             name a06 9.0.1 by 0 since 1\n\
+             name a07 9.0.1 by 0 since 1\n\
+             name a08 9.0.1 by 0 since 1\n\
+             name a09 9.0.1 by 0 since 1\n\
+             name a10 9.0.1 by 0 since 1\n\
+             name a11 9.0.1 by 0 since 1\n\
+             name a12 9.0.1 by 0 since 1\n\
+             name a13 9.0.1 by 0 since 1\n\
+             name a14 9.0.1 by 0 since 1\n\
+             name a15 9.0.1 by 0 since 1\n\
+             name a16 9.0.1 by 0 since 1\n\
+             name a17 9.0.1 by 0 since 1\n\
+             name a18 9.0.1 by 0 since 1\n\
+             name a19 9.0.1 by 0 since 1\n\
+             name a20 9.0.1 by 0 since 1\n\
+             name a21 9.0.1 by 0 since 1\n\
+             name a22 9.0.1 by 0 since 1\n\
+             name a23 9.0.1 by 0 since 1\n\
+             name a24 9.0.1 by 0 since 1\n\
+             name a25 9.0.1 by 0 since 1\n\
+             name a26 9.0.1 by 0 since 1\n\
+             name a27 9.0.1 by 0 since 1\n\
+             name a28 9.0.1 by 0 since 1\n\
+             name a29 9.0.1 by 0 since 1\n\
+             name a30 9.0.1 by 0 since 1\n\
+             name a31 9.0.1 by 0 since 1\n\
+             name a32 9.0.1 by 0 since 1\n\
+             name a33 9.0.1 by 0 since 1\n\
+             name a34 9.0.1 by 0 since 1\n\
+             name a35 9.0.1 by 0 since 1\n\
+             name a36 9.0.1 by 0 since 1\n\
+             name a37 9.0.1 by 0 since 1\n\
+             name a38 9.0.1 by 0 since 1\n\
+             name a39 9.0.1 by 0 since 1\n\
+             name a40 9.0.1 by 0 since 1\n\
+             name a41 9.0.1 by 0 since 1\n\
+             name a42 9.0.1 by 0 since 1\n\
+             name a43 9.0.1 by 0 since 1\n\
+             name a44 9.0.1 by 0 since 1\n\
+             name a45 9.0.1 by 0 since 1\n\
+             name a46 9.0.1 by 0 since 1\n\
+             name a47 9.0.1 by 0 since 1\n\
+             name a48 9.0.1 by 0 since 1\n\
+             name a49 9.0.1 by 0 since 1\n\
+             name a50 9.0.1 by 0 since 1\n\
+             name a51 9.0.1 by 0 since 1\n\
+             name a52 9.0.1 by 0 since 1\n\
+             name a53 9.0.1 by 0 since 1\n\
+             name a54 9.0.1 by 0 since 1\n\
+             name a55 9.0.1 by 0 since 1\n\
+             name a56 9.0.1 by 0 since 1\n\
+             name a57 9.0.1 by 0 since 1\n\
+             name a58 9.0.1 by 0 since 1\n\
+             name a59 9.0.1 by 0 since 1\n\
+             name x 9.0.2 by 0 since 3\n\
+             name y 9.0.2 by 0 since 3\n\
+             name b0 9.1.1 by 0 since 1\n\
+             name b1 9.1.1 by 0 since 1\n\
+             names 6 end\n\
+             name b2 9.1.1 by 0 since 1\n\
+             name b3 9.1.1 by 0 since 1\n\
+             name b4 9.1.1 by 0 since 1\n\
+             name b5 9.1.1 by 0 since 1\n\
+             name b6 9.1.1 by 0 since 1\n\
+             name b7 9.1.1 by 0 since 1\n",
+    error: "",
+};
+
+/// 64 names are bound in a purse at most. That a name is bound already is told first.
+const PARTS_FULL: Row = Row {
+    name: "parts_full",
+    script: "window 100\n\
+             1 9 create 0\n\
+             1 9 create 1\n\
+             1 9 create 0\n\
+             2 9 pcreate a00 9.0.1\n\
+             2 9 pcreate a01 9.0.1\n\
+             2 9 pcreate a02 9.0.1\n\
+             2 9 pcreate a03 9.0.1\n\
+             2 9 pcreate a04 9.0.1\n\
+             2 9 pcreate a05 9.0.1\n\
+             2 9 pcreate a06 9.0.1\n\
+             2 9 pcreate a07 9.0.1\n\
+             2 9 pcreate a08 9.0.1\n\
+             2 9 pcreate a09 9.0.1\n\
+             2 9 pcreate a10 9.0.1\n\
+             2 9 pcreate a11 9.0.1\n\
+             2 9 pcreate a12 9.0.1\n\
+             2 9 pcreate a13 9.0.1\n\
+             2 9 pcreate a14 9.0.1\n\
+             2 9 pcreate a15 9.0.1\n\
+             2 9 pcreate a16 9.0.1\n\
+             2 9 pcreate a17 9.0.1\n\
+             2 9 pcreate a18 9.0.1\n\
+             2 9 pcreate a19 9.0.1\n\
+             2 9 pcreate a20 9.0.1\n\
+             2 9 pcreate a21 9.0.1\n\
+             2 9 pcreate a22 9.0.1\n\
+             2 9 pcreate a23 9.0.1\n\
+             2 9 pcreate a24 9.0.1\n\
+             2 9 pcreate a25 9.0.1\n\
+             2 9 pcreate a26 9.0.1\n\
+             2 9 pcreate a27 9.0.1\n\
+             2 9 pcreate a28 9.0.1\n\
+             2 9 pcreate a29 9.0.1\n\
+             2 9 pcreate a30 9.0.1\n\
+             2 9 pcreate a31 9.0.1\n\
+             2 9 pcreate a32 9.0.1\n\
+             2 9 pcreate a33 9.0.1\n\
+             2 9 pcreate a34 9.0.1\n\
+             2 9 pcreate a35 9.0.1\n\
+             2 9 pcreate a36 9.0.1\n\
+             2 9 pcreate a37 9.0.1\n\
+             2 9 pcreate a38 9.0.1\n\
+             2 9 pcreate a39 9.0.1\n\
+             2 9 pcreate a40 9.0.1\n\
+             2 9 pcreate a41 9.0.1\n\
+             2 9 pcreate a42 9.0.1\n\
+             2 9 pcreate a43 9.0.1\n\
+             2 9 pcreate a44 9.0.1\n\
+             2 9 pcreate a45 9.0.1\n\
+             2 9 pcreate a46 9.0.1\n\
+             2 9 pcreate a47 9.0.1\n\
+             2 9 pcreate a48 9.0.1\n\
+             2 9 pcreate a49 9.0.1\n\
+             2 9 pcreate a50 9.0.1\n\
+             2 9 pcreate a51 9.0.1\n\
+             2 9 pcreate a52 9.0.1\n\
+             2 9 pcreate a53 9.0.1\n\
+             2 9 pcreate a54 9.0.1\n\
+             2 9 pcreate a55 9.0.1\n\
+             2 9 pcreate a56 9.0.1\n\
+             2 9 pcreate a57 9.0.1\n\
+             2 9 pcreate a58 9.0.1\n\
+             2 9 pcreate a59 9.0.1\n\
+             2 9 pcreate x 9.0.2\n\
+             2 9 pcreate y 9.0.2\n\
+             2 9 pcreate b0 9.1.1\n\
+             2 9 pcreate b1 9.1.1\n\
+             2 9 pcreate b2 9.1.1\n\
+             2 9 pcreate b3 9.1.1\n\
+             2 9 pcreate b4 9.1.1\n\
+             2 9 pcreate b5 9.1.1\n\
+             2 9 pcreate b6 9.1.1\n\
+             2 9 pcreate b7 9.1.1\n\
+             3 9 setacl 9.0.2 7 1\n\
+             4 7 plist 9\n\
+             4 9 plist 9\n\
+             4 9 plist 9 after 1 b1\n\
+             5 9 pcreate z0 9.0.1\n\
+             5 9 pcreate z1 9.0.1\n\
+             5 9 pcreate z2 9.0.1\n\
+             5 9 pcreate x 9.0.2\n",
+    output: "made 9.0.1\n\
+             made 9.1.1\n\
+             made 9.0.2\n\
+             done\n\
+             done\n\
+             done\n\
+             done\n\
+             done\n\
+             done\n\
+             done\n\
+             done\n\
+             done\n\
+             done\n\
+             done\n\
+             done\n\
+             done\n\
+             done\n\
+             done\n\
+             done\n\
+             done\n\
+             done\n\
+             done\n\
+             done\n\
+             done\n\
+             done\n\
+             done\n\
+             done\n\
+             done\n\
+             done\n\
+             done\n\
+             done\n\
+             done\n\
+             done\n\
+             done\n\
+             done\n\
+             done\n\
+             done\n\
+             done\n\
+             done\n\
+             done\n\
+             done\n\
+             done\n\
+             done\n\
+             done\n\
+             done\n\
+             done\n\
+             done\n\
+             done\n\
+             done\n\
+             done\n\
+             done\n\
+             done\n\
+             done\n\
+             done\n\
+             done\n\
+             done\n\
+             done\n\
+             done\n\
+             done\n\
+             done\n\
+             done\n\
+             done\n\
+             done\n\
+             done\n\
+             done\n\
+             done\n\
+             done\n\
+             done\n\
+             done\n\
+             done\n\
+             done\n\
+             done\n\
+             done\n\
+             done\n\
+             names 2 end\n\
+             name x 9.0.2 by 1 since 3\n\
+             name y 9.0.2 by 1 since 3\n\
+             names 64 more\n\
+             name a00 9.0.1 by 0 since 1\n\
+             name a01 9.0.1 by 0 since 1\n\
+             name a02 9.0.1 by 0 since 1\n\
+             name a03 9.0.1 by 0 since 1\n\
+             name a04 9.0.1 by 0 since 1\n\
+             name a05 9.0.1 by 0 since 1\n\
+             name a06 9.0.1 by 0 since 1\n\
+             name a07 9.0.1 by 0 since 1\n\
+             name a08 9.0.1 by 0 since 1\n\
+             name a09 9.0.1 by 0 since 1\n\
+             name a10 9.0.1 by 0 since 1\n\
+             name a11 9.0.1 by 0 since 1\n\
+             name a12 9.0.1 by 0 since 1\n\
+             name a13 9.0.1 by 0 since 1\n\
+             name a14 9.0.1 by 0 since 1\n\
+             name a15 9.0.1 by 0 since 1\n\
+             name a16 9.0.1 by 0 since 1\n\
+             name a17 9.0.1 by 0 since 1\n\
+             name a18 9.0.1 by 0 since 1\n\
+             name a19 9.0.1 by 0 since 1\n\
+             name a20 9.0.1 by 0 since 1\n\
+             name a21 9.0.1 by 0 since 1\n\
+             name a22 9.0.1 by 0 since 1\n\
+             name a23 9.0.1 by 0 since 1\n\
+             name a24 9.0.1 by 0 since 1\n\
+             name a25 9.0.1 by 0 since 1\n\
+             name a26 9.0.1 by 0 since 1\n\
+             name a27 9.0.1 by 0 since 1\n\
+             name a28 9.0.1 by 0 since 1\n\
+             name a29 9.0.1 by 0 since 1\n\
+             name a30 9.0.1 by 0 since 1\n\
+             name a31 9.0.1 by 0 since 1\n\
+             name a32 9.0.1 by 0 since 1\n\
+             name a33 9.0.1 by 0 since 1\n\
+             name a34 9.0.1 by 0 since 1\n\
+             name a35 9.0.1 by 0 since 1\n\
+             name a36 9.0.1 by 0 since 1\n\
+             name a37 9.0.1 by 0 since 1\n\
+             name a38 9.0.1 by 0 since 1\n\
+             name a39 9.0.1 by 0 since 1\n\
+             name a40 9.0.1 by 0 since 1\n\
+             name a41 9.0.1 by 0 since 1\n\
+             name a42 9.0.1 by 0 since 1\n\
+             name a43 9.0.1 by 0 since 1\n\
+             name a44 9.0.1 by 0 since 1\n\
+             name a45 9.0.1 by 0 since 1\n\
+             name a46 9.0.1 by 0 since 1\n\
+             name a47 9.0.1 by 0 since 1\n\
+             name a48 9.0.1 by 0 since 1\n\
+             name a49 9.0.1 by 0 since 1\n\
+             name a50 9.0.1 by 0 since 1\n\
+             name a51 9.0.1 by 0 since 1\n\
+             name a52 9.0.1 by 0 since 1\n\
+             name a53 9.0.1 by 0 since 1\n\
+             name a54 9.0.1 by 0 since 1\n\
+             name a55 9.0.1 by 0 since 1\n\
+             name a56 9.0.1 by 0 since 1\n\
+             name a57 9.0.1 by 0 since 1\n\
+             name a58 9.0.1 by 0 since 1\n\
+             name a59 9.0.1 by 0 since 1\n\
+             name x 9.0.2 by 0 since 3\n\
+             name y 9.0.2 by 0 since 3\n\
+             name b0 9.1.1 by 0 since 1\n\
+             name b1 9.1.1 by 0 since 1\n\
+             names 6 end\n\
+             name b2 9.1.1 by 0 since 1\n\
+             name b3 9.1.1 by 0 since 1\n\
+             name b4 9.1.1 by 0 since 1\n\
+             name b5 9.1.1 by 0 since 1\n\
+             name b6 9.1.1 by 0 since 1\n\
+             name b7 9.1.1 by 0 since 1\n\
+             done\n\
+             done\n\
+             parts-full\n\
+             exists\n",
     error: "",
 };
 

@@ -14,8 +14,8 @@ use s4_types::{Moment, Reply, Version};
 use std::alloc::Global;
 use std::io::{Read, Write};
 
-/// Runs a script on a fresh drive, and writes a line for each reply. At a fault in a line, the
-/// replies of all lines before it are written.
+/// Runs a script on a fresh drive, and writes the replies. At a fault in a line, the replies of all
+/// lines before it are written.
 pub fn run_script<R: Read + Drop, W: Write>(
     alloc: Global,
     mut reader: R,

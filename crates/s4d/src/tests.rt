@@ -8,8 +8,8 @@ use crate::text::read_up_to;
 use s4_drive::{Drive, never_down};
 use s4_store::PlainStore;
 use s4_types::{
-    Bytes, Grant, Moment, ObjectId, Principal, Purse, PurseNo, Refusal, Reply, Right, Rights,
-    Serial, Step, Version,
+    Bytes, Grant, Moment, Name, NameLine, NameLines, ObjectId, Principal, Purse, PurseNo, Refusal,
+    Reply, Right, Rights, Serial, Step, Version,
 };
 use std::alloc::Global;
 use std::io;
@@ -84,7 +84,7 @@ fn row_of_serials_spent(rt: HostRuntime) -> Result<(), Fail> {
 }
 
 /// Scripts that aren't rows: what each writes to standard output and to standard error.
-const SCRIPTS: [(&[u8], &str, &str); 20] = [
+const SCRIPTS: [(&[u8], &str, &str); 25] = [
     // The last line may lack its line feed, and digits may be in either case.
     (b"window 0", "", ""),
     (b"window 18446744073709551615\n", "", ""),
@@ -145,6 +145,49 @@ const SCRIPTS: [(&[u8], &str, &str); 20] = [
         "denied read\ndenied read\ndenied control\nno-object\n",
         "",
     ),
+    // A name of 32 bytes. The administrator is shown it, and a stranger is shown no name.
+    (
+        b"window 9\n0 7 create 0\n0 7 pcreate abcdefghijklmnopqrstuvwxyz-01234 7.0.1\n\
+          1 7 pmount 7.0 abcdefghijklmnopqrstuvwxyz-01234\n1 0 plist 7\n1 9 plist 7\n1 7 plist 9\n",
+        "made 7.0.1\ndone\nmounted 7.0.1 by 0 since 0\n\
+         names 1 end\nname abcdefghijklmnopqrstuvwxyz-01234 7.0.1 by admin\n\
+         names 0 end\nnames 0 end\n",
+        "",
+    ),
+    // A page from behind a place on, now and at moments. Two names of one object.
+    (
+        b"window 9\n0 7 create 1\n1 7 pcreate a 7.1.1\n1 7 pcreate c 7.1.1\n2 7 pdelete 7.1 c\n\
+          3 7 plist 7\n3 7 plist 7 after 0 z\n3 7 plist 7 after 1 a\n3 7 plist 7 after 1 b at 1\n\
+          3 7 plist 7 at 2\n3 7 plist 7 after 15 9 at 1\n3 7 plist 7 at 0\n3 7 plist 7 after 1 b at 4\n",
+        "made 7.1.1\ndone\ndone\ndone\n\
+         names 1 end\nname a 7.1.1 by 0 since 0\nnames 1 end\nname a 7.1.1 by 0 since 0\n\
+         names 0 end\nnames 1 end\nname c 7.1.1 by 0 since 0\n\
+         names 1 end\nname a 7.1.1 by 0 since 0\nnames 0 end\nnames 0 end\nfuture\n",
+        "",
+    ),
+    // Who isn't told of a name is told no more of one that isn't bound.
+    (
+        b"window 9\n0 9 pmount 7.0 home\n0 9 pdelete 7.0 home\n0 7 pmount 7.0 home\n\
+          0 7 pdelete 7.0 home\n0 0 pmount 7.0 home at 0\n0 0 pdelete 7.0 home\n0 9 pmount 7.0 home at 1\n",
+        "denied read\ndenied control\nno-partition\nno-partition\n\
+         no-partition\nno-partition\nfuture\n",
+        "",
+    ),
+    (
+        b"window 9\n0 7 create 0\n0 9 pcreate a 7.0.1\n0 9 pcreate a 7.0.2\n0 7 pcreate a 7.0.2\n\
+          0 0 pcreate a 7.0.1\n0 9 pcreate a 7.0.1\n0 9 pmount 7.0 a\n0 9 pdelete 7.0 a\n\
+          0 9 delete 7.0.1\n0 0 delete 7.0.1\n0 0 pmount 7.0 a\n",
+        "made 7.0.1\ndenied control\ndenied control\nno-object\ndone\ndenied control\n\
+         denied read\ndenied control\ndenied delete\nnamed\nmounted 7.0.1 by admin\n",
+        "",
+    ),
+    // A creator without an entry may bind, and may not mount.
+    (
+        b"window 9\n0 7 create 0\n0 7 setacl 7.0.1 7 0\n1 7 pcreate a 7.0.1\n1 7 pmount 7.0 a\n\
+          1 7 plist 7\n1 7 pdelete 7.0 a\n",
+        "made 7.0.1\ndone\ndone\ndenied read\nnames 0 end\ndone\n",
+        "",
+    ),
     // What is wrong in a line.
     (b"\n", "", "s4d: line 1: bad line\n"),
     (b"window 9\r\n", "", "s4d: line 1: bad line\n"),
@@ -185,7 +228,7 @@ fn lines_of_scripts(rt: HostRuntime) -> Result<(), Fail> {
 }
 
 /// Lines after the first that spell nothing.
-const BAD_LINES: [&str; 62] = [
+const BAD_LINES: [&str; 92] = [
     "0",
     "0 7",
     "0 7 ",
@@ -246,6 +289,36 @@ const BAD_LINES: [&str; 62] = [
     "0 7 setacl 7.0.1 9 32",
     "0 7 setacl 7.0.1 4294967295 1",
     "0 7 setacl 7.0.1 9 1 at 0",
+    "0 7 pcreate home",
+    "0 7 pcreate home 7.0",
+    "0 7 pcreate 7.0.1 home",
+    "0 7 pcreate  7.0.1",
+    "0 7 pcreate Home 7.0.1",
+    "0 7 pcreate my_home 7.0.1",
+    "0 7 pcreate abcdefghijklmnopqrstuvwxyz-012345 7.0.1",
+    "0 7 pcreate home 7.0.1 at 0",
+    "0 7 pdelete 7.0",
+    "0 7 pdelete 7.0 ",
+    "0 7 pdelete 7.0.1 home",
+    "0 7 pdelete 7.16 home",
+    "0 7 pdelete home 7.0",
+    "0 7 pdelete 7.0 home at 0",
+    "0 7 plist",
+    "0 7 plist 4294967295",
+    "0 7 plist 9 1 b",
+    "0 7 plist 9 after 1",
+    "0 7 plist 9 after b 1",
+    "0 7 plist 9 after 16 b",
+    "0 7 plist 9 after 1 B",
+    "0 7 plist 9 at",
+    "0 7 plist 9 at 3 after 1 b",
+    "0 7 plist 9 after 1 b at",
+    "0 7 plist 9 after 1 b at 3 0",
+    "0 7 pmount 7.0",
+    "0 7 pmount 7 home",
+    "0 7 pmount 7.0 home at",
+    "0 7 pmount 7.0 home 0",
+    "0 7 pmount 7.0 HOME",
     "sweep 1",
     "used",
 ];
@@ -429,6 +502,50 @@ fn texts_of_replies(rt: HostRuntime) -> Result<(), Fail> {
     Ok(())
 }
 
+/// The names on a page, whether more of them follow, and the page.
+const PAGES: [(&[&str], bool, &str); 3] = [
+    (&[], false, "names 0 end"),
+    (&["x"], true, "names 1 more\nname x 9.0.2 by 1 since 3"),
+    (
+        &["a-0", "x"],
+        false,
+        "names 2 end\nname a-0 9.0.2 by 1 since 3\nname x 9.0.2 by 1 since 3",
+    ),
+];
+
+#[test]
+fn texts_of_pages(rt: HostRuntime) -> Result<(), Fail> {
+    let alloc = rt.alloc();
+    let purse = Purse {
+        creator: Principal::new(9).ok_or("a principal")?,
+        number: PurseNo::new(0).ok_or("a purse number")?,
+    };
+    let serial = Serial::new(2).ok_or("a serial")?;
+    let object = ObjectId { purse, serial };
+    let grant = Grant::Entry {
+        index: 1,
+        since: Moment::new(3),
+    };
+    let mounted = Reply::Mounted { grant, object };
+    let text = ReplyText(&mounted).to_string(alloc)?;
+    assert_eq!(rt; text.as_str(), "mounted 9.0.2 by 1 since 3");
+    for (names, more, wanted) in PAGES {
+        let mut lines = Vec::new(alloc);
+        for name in names {
+            let name = Name::new(name.as_bytes()).ok_or("a name")?;
+            lines.push(NameLine {
+                name,
+                object,
+                grant,
+            })?;
+        }
+        let lines = NameLines::new(lines);
+        let text = ReplyText(&Reply::Names { lines, more }).to_string(alloc)?;
+        assert_eq!(rt; text.as_str(), wanted);
+    }
+    Ok(())
+}
+
 #[test]
 fn texts_of_bytes(rt: HostRuntime) -> Result<(), Fail> {
     let alloc = rt.alloc();
@@ -473,6 +590,10 @@ fn texts_of_refusals(rt: HostRuntime) -> Result<(), Fail> {
         (Refusal::TooLong, "too-long"),
         (Refusal::AclFull, "acl-full"),
         (Refusal::NoEntry, "no-entry"),
+        (Refusal::NoPartition, "no-partition"),
+        (Refusal::Exists, "exists"),
+        (Refusal::PartsFull, "parts-full"),
+        (Refusal::Named, "named"),
         (Refusal::NamesSpent, "names-spent"),
         (Refusal::NoMemory, "no-memory"),
     ] {

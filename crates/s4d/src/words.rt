@@ -2,7 +2,7 @@
 
 use crate::fault::ParseError;
 use hex::FromHexError;
-use s4_types::{Bytes, Moment, ObjectId, Principal, Purse, PurseNo, Rights, Serial};
+use s4_types::{After, Bytes, Moment, Name, ObjectId, Principal, Purse, PurseNo, Rights, Serial};
 use std::alloc::Global;
 
 /// A decimal number without sign and without leading zeros, in the range of its type.
@@ -52,8 +52,21 @@ fn serial(word: &str) -> Result<Serial, ParseError> {
     Serial::new(number(word)?).ok_or(ParseError::Bad)
 }
 
+/// The name of a partition.
+pub fn name(word: &str) -> Result<Name, ParseError> {
+    Name::new(word.as_bytes()).ok_or(ParseError::Bad)
+}
+
+/// The place in a list of partitions that a purse number and a name tell.
+pub fn after(number: &str, word: &str) -> Result<After, ParseError> {
+    Ok(After {
+        number: purse_number(number)?,
+        name: name(word)?,
+    })
+}
+
 /// A purse, as `7.0`.
-fn purse(word: &str) -> Result<Purse, ParseError> {
+pub fn purse(word: &str) -> Result<Purse, ParseError> {
     let (creator, number) = word.split_once('.').ok_or(ParseError::Bad)?;
     Ok(Purse {
         creator: principal(creator)?,

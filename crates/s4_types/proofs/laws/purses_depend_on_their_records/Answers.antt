@@ -1,5 +1,5 @@
 use Rattle.s4_types.specs.Versions.{data_track, attribute_track, acl_track}
-use Rattle.s4_types.proofs.OfPurse.{versions-agree, lives_at-agree, drawn-agree}
+use Rattle.s4_types.proofs.OfPurse.{versions-agree, lives_at-agree, drawn-agree, bindings-agree, names_of-agree, bound_at-agree}
 use Rattle.s4_types.proofs.laws.purses_depend_on_their_records.Goals as goal
 
 pub returns : goal.returns
@@ -9,4 +9,7 @@ returns c = record {
   attribute_track = λ purse serial. versions-agree attribute_track (record { purse = purse; serial = serial });
   acl_track = λ purse serial. versions-agree acl_track (record { purse = purse; serial = serial });
   serials = drawn-agree;
+  bindings = bindings-agree;
+  names = names_of-agree;
+  bound = bound_at-agree;
 }

@@ -2,11 +2,10 @@ use Rattle.std.proofs.Common.{rules, ◌≡◌, Option, Some, None, false, refl,
 use Rattle.std.specs.Prelude.{is_some}
 use Rattle.std.specs.Ordering.{is_eq}
 use Rattle.std.specs.BTreeMap.{get}
-use Rattle.s4_types.specs.Names.{same_purse}
+use Rattle.s4_types.specs.Names.{same_purse, purse_cmp}
 use Rattle.s4_types.proofs.Booleans.{by_test}
 use Rattle.s4_types.proofs.SameNames.{purse_is}
-use Rattle.s4_names.specs.Drawn.{purse_cmp}
-use Rattle.s4_names.proofs.Keys.{at_purse}
+use Rattle.s4_types.proofs.SameNames.{at_purse}
 use Rattle.s4_names.proofs.names.Names.reserve.Goals as goal
 
 isnt_some : {A : Type 0} (o : Option A) → is_some o ≡ false → o ≡ None

@@ -1,0 +1,31 @@
+use Rattle.std.proofs.Common.{◌≡◌, ℕ, false, Option, Some, None, List, refl, sym, ◌∙◌, ap}
+use Rattle.std.specs.Prelude.{is_some}
+use Rattle.std.specs.Option.{option_map}
+use Rattle.std.specs.Map.{lookup, keys_of}
+use Rattle.std.specs.BTreeMap.{is_at}
+use Rattle.s4_types.specs.declared.object.Purse.{Purse}
+use Rattle.s4_types.specs.Name.{name_cmp}
+use Rattle.s4_parts.specs.declared.parts.Parts.{Parts}
+use Rattle.s4_parts.specs.declared.shelf.Shelf.{Shelf}
+use Rattle.s4_parts.specs.Table.{shelf_of, chain_on, names_on, serials_on}
+use Rattle.s4_parts.proofs.Shelving.{shelved}
+use Rattle.s4_parts.proofs.parts.Parts.shelve.Goals as goal
+
+isnt_some : {A : Type 0} (x : Option A) → is_some x ≡ false → x ≡ None
+isnt_some None e = refl
+isnt_some (Some y) e = cc
+
+pub returns-clause-chains : goal.returns-clause-chains
+returns-clause-chains c p n =
+    shelved c.args.self.now (record { alloc = c.args.self.now.alloc; shelves = c.insert.new.self }) c.args.purse.now c.new.result (isnt_some _ (sym c.contains_key.ensures ∙ c.if-contains_key.false)) c.in_ok-insert.ensures.updates.0
+    (λ x. chain_on x n) (ap (λ es. option_map (λ t. t.chain) (lookup (is_at (name_cmp n)) es)) c.new.ensures.tracks) p
+
+pub returns-clause-names : goal.returns-clause-names
+returns-clause-names c p =
+    shelved c.args.self.now (record { alloc = c.args.self.now.alloc; shelves = c.insert.new.self }) c.args.purse.now c.new.result (isnt_some _ (sym c.contains_key.ensures ∙ c.if-contains_key.false)) c.in_ok-insert.ensures.updates.0
+    names_on (ap keys_of c.new.ensures.tracks) p
+
+pub returns-clause-serials : goal.returns-clause-serials
+returns-clause-serials c p =
+    shelved c.args.self.now (record { alloc = c.args.self.now.alloc; shelves = c.insert.new.self }) c.args.purse.now c.new.result (isnt_some _ (sym c.contains_key.ensures ∙ c.if-contains_key.false)) c.in_ok-insert.ensures.updates.0
+    serials_on c.new.ensures.bound p

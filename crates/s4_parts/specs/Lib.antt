@@ -1,0 +1,4 @@
+pub mod Table
+pub mod Shelf
+pub mod Page
+pub mod Laws

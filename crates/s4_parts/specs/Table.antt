@@ -1,0 +1,114 @@
+-- The table of partitions, as its callers see it: the names of each purse, and the bindings of each name.
+use Rattle.std.specs.Prelude.{◌≡◌, ◌≢◌, ℕ, Bool, true, false, ◌+◌, ◌<◌, ◌&&◌, ◌||◌, is_some, Option, Some, None, List, [], ◌∷◌, ◌++◌, length, filter, count_by, if◌then◌else◌}
+use Rattle.std.specs.List.{list_any}
+use Rattle.std.specs.List.Sorted.{IsStrictlySortedBy}
+use Rattle.std.specs.Option.{option_map}
+use Rattle.std.specs.Vec.{vec_len, vec_capacity}
+use Rattle.std.specs.BTreeMap.{get, keys}
+use Rattle.std.specs.FinMap as finmap
+use Rattle.s4_types.specs.declared.object.Purse.{Purse}
+use Rattle.s4_types.specs.declared.object.ObjectId.{ObjectId}
+use Rattle.s4_types.specs.declared.version.Version.{Version}
+use Rattle.s4_types.specs.declared.version.Item.{Item}
+use Rattle.s4_types.specs.declared.version.Item.TheVariants.{Bind}
+use Rattle.s4_types.specs.Names.{same_purse, purse_cmp}
+use Rattle.s4_types.specs.Name.{same_name, name_cmp}
+use Rattle.s4_store.specs.Chains.{Chains, items_of, IsOpen, StillOpen}
+use Rattle.s4_tracks.specs.Chain.{current_of}
+use Rattle.s4_parts.specs.declared.shelf.Shelf.{Shelf}
+use Rattle.s4_parts.specs.declared.parts.Parts.{Parts}
+
+-- WHAT A SHELF HOLDS
+
+-- the chain that a name has on a shelf
+abbrev pub chain_on : Option Shelf → List ℕ → Option ℕ
+chain_on None name = None
+chain_on (Some shelf) name = option_map (λ t. t.chain) (get name_cmp shelf.tracks name)
+
+-- the names that have a chain on a shelf
+abbrev pub names_on : Option Shelf → List (List ℕ)
+names_on None = []
+names_on (Some shelf) = keys shelf.tracks
+
+-- for each name that is bound now the serial of its object
+abbrev pub serials_on : Option Shelf → List ℕ
+serials_on None = []
+serials_on (Some shelf) = shelf.bound.items
+
+-- WHAT THE TABLE HOLDS
+
+abbrev pub shelf_of : Parts → Purse → Option Shelf
+shelf_of parts purse = get purse_cmp parts.shelves purse
+
+-- the chain that a name in the purse has
+abbrev pub chain_at : Parts → Purse → List ℕ → Option ℕ
+chain_at parts purse name = chain_on (shelf_of parts purse) name
+
+abbrev pub items_on : Chains Version → Option ℕ → List Version
+items_on chains None = []
+items_on chains (Some c) = items_of chains c
+
+-- all bindings of a name in the purse, the oldest first
+abbrev pub bindings_in : Chains Version → Parts → Purse → List ℕ → List Version
+bindings_in chains parts purse name = items_on chains (chain_at parts purse name)
+
+abbrev pub is_any : List Version → Bool
+is_any [] = false
+is_any (v ∷ vs) = true
+
+-- the names in the purse that have bindings, in their order
+abbrev pub names_in : Chains Version → Parts → Purse → List (List ℕ)
+names_in chains parts purse = filter (λ name. is_any (bindings_in chains parts purse name)) (names_on (shelf_of parts purse))
+
+-- WHAT A NAME IS BOUND TO
+
+abbrev pub object_of_item : Option Item → Option ObjectId
+object_of_item (Some (Bind object)) = Some object
+object_of_item _ = None
+
+-- the object that a binding is to
+abbrev pub object_of : Option Version → Option ObjectId
+object_of None = None
+object_of (Some v) = object_of_item v.item
+
+-- of bindings, the serial of the object that is bound now
+abbrev pub serial_now : List Version → Option ℕ
+serial_now bindings = option_map (λ o. o.serial) (object_of (current_of bindings))
+
+-- whether there is a serial, and it passes the test
+abbrev pub passes : (ℕ → Bool) → Option ℕ → Bool
+passes test None = false
+passes test (Some serial) = test serial
+
+-- a binding that begins at the moment
+abbrev pub binding : ℕ → List ℕ → ObjectId → Version
+binding m name object = record { begin = m; end = None; item = Some (Bind object); cost = 64 + length name }
+
+-- WHAT HOLDS OF A TABLE OVER A STORE
+
+-- each name has an open chain of its own, the names are in order, and what is bound now is known
+pub record HoldsFor (chains : Chains Version) (chain : Purse → List ℕ → Option ℕ) (names : Purse → List (List ℕ)) (serials : Purse → List ℕ) : Type 0 where
+  pub opened : (p : Purse) (n : List ℕ) (c : ℕ) → chain p n ≡ Some c → IsOpen chains c
+  pub apart : (p q : Purse) (n m : List ℕ) (c : ℕ) → chain p n ≡ Some c → chain q m ≡ Some c → (p ≡ q) × (n ≡ m)
+  pub named : (p : Purse) (n : List ℕ) → is_some (chain p n) ≡ list_any (same_name n) (names p)
+  pub sorted : (p : Purse) → IsStrictlySortedBy name_cmp (names p)
+  pub known : (p : Purse) (test : ℕ → Bool) → count_by test (serials p) ≡ count_by (λ n. passes test (serial_now (items_on chains (chain p n)))) (names p)
+
+abbrev pub Holds : Chains Version → Parts → Type 0
+Holds chains parts = HoldsFor chains (chain_at parts) (λ p. names_on (shelf_of parts p)) (λ p. serials_on (shelf_of parts p))
+
+-- a name in the purse has a chain, and there is room to know what it is bound to
+pub record HasRoom (parts : Parts) (p : Purse) (name : List ℕ) : Type 0 where
+  pub chain : is_some (chain_at parts p name) ≡ true
+  pub shelf : Shelf
+  pub found : shelf_of parts p ≡ Some shelf
+  pub serials : vec_len shelf.bound < vec_capacity shelf.bound
+
+-- no name has the chain
+abbrev pub IsForeign : Parts → ℕ → Type 0
+IsForeign parts c = (p : Purse) (n : List ℕ) → chain_at parts p n ≢ Some c
+
+-- the chains of others, which were open, are as before
+pub record KeepsOthers (old new : Chains Version) (parts : Parts) : Type 0 where
+  pub still : StillOpen old new
+  pub items : (c : ℕ) → IsOpen old c → IsForeign parts c → items_of new c ≡ items_of old c

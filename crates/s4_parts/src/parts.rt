@@ -1,0 +1,207 @@
+//! The table of partitions.
+
+ghost use Rattle.std.specs.Prelude.{◌≡◌, ◌<◌, ◌+◌, ◌==◌, ◌&&◌, ℕ, true, IfSome, slice_get, Some, None, List, [], ◌∷◌, ◌++◌, OnOk, is_some, count_by, if◌then◌else◌};
+ghost use Rattle.std.specs.List.{list_any};
+ghost use Rattle.s4_types.specs.declared.object.Purse.{Purse};
+ghost use Rattle.s4_types.specs.declared.version.Version.{Version};
+ghost use Rattle.s4_types.specs.Bindings.{is_serial, with_name};
+ghost use Rattle.s4_types.specs.Name.{same_name};
+ghost use Rattle.s4_types.specs.Names.{same_purse};
+ghost use Rattle.s4_store.specs.Chains.{Chains, items_of, IsOpen, StillOpen};
+ghost use Rattle.s4_tracks.specs.Chain.{current_of, version_in, with_end};
+ghost use Rattle.s4_parts.specs.Table.{bindings_in, binding, chain_at, names_in, names_on, object_of, serial_now, serials_on, shelf_of, HasRoom, Holds, KeepsOthers};
+
+use crate::shelf::Shelf;
+use s4_store::Store;
+use s4_tracks::Track;
+use s4_types::{Item, Moment, Name, NoMemory, ObjectId, Purse, Serial, Version};
+use std::alloc::Global;
+use std::collections::BTreeMap;
+
+/// The names of each purse with their bindings (docs/MODEL.md, "Partitions"). The bindings lie on
+/// chains of a store, which the calls are lent: each name has a chain of its own.
+#[derive(Drop)]
+pub struct Parts {
+    pub(crate) alloc: Global,
+    pub(crate) shelves: BTreeMap<Purse, Shelf>,
+}
+
+impl Parts {
+    /// A table without names. Takes no memory.
+    pub fn new(alloc: Global) -> Parts
+        ensures names { (chains : Chains Version) (p : Purse) → names_in chains result p ≡ [] }
+        ensures bindings { (chains : Chains Version) (p : Purse) (n : List ℕ) → bindings_in chains result p n ≡ [] }
+        ensures holds { (chains : Chains Version) → Holds chains result }
+    {
+        Parts {
+            alloc,
+            shelves: BTreeMap::new(alloc),
+        }
+    }
+
+    /// Makes room for the next binding of a name in the purse. Room in the store is reserved apart.
+    pub fn reserve<S: Store<Version>>(
+        &mut self,
+        store: &mut S,
+        purse: &Purse,
+        name: &Name,
+    ) -> Result<(), NoMemory>
+        requires { Holds (S.chains store.old) self.old }
+        ensures holds { Holds (S.chains store.new) self.new }
+        ensures names { (p : Purse) → names_in (S.chains store.new) self.new p ≡ names_in (S.chains store.old) self.old p }
+        ensures bindings { (p : Purse) (n : List ℕ) → bindings_in (S.chains store.new) self.new p n ≡ bindings_in (S.chains store.old) self.old p n }
+        ensures room { OnOk result (HasRoom self.new purse.now name.now) }
+        ensures others { (c : ℕ) → IsOpen (S.chains store.old) c → items_of (S.chains store.new) c ≡ items_of (S.chains store.old) c }
+        ensures still { StillOpen (S.chains store.old) (S.chains store.new) }
+        ensures own { (p : Purse) (n : List ℕ) (c : ℕ) → chain_at self.new p n ≡ Some c → IsOpen (S.chains store.old) c → chain_at self.old p n ≡ Some c }
+        ensures store_room { S.room store.new ≡ S.room store.old }
+    {
+        self.shelve(purse)?;
+        let shelf = self.shelves.get_mut(purse).unwrap();
+        shelf.reserve(store, name)
+    }
+
+    // Gives the purse a shelf, if it has none.
+    fn shelve(&mut self, purse: &Purse) -> Result<(), NoMemory>
+        ensures chains { (p : Purse) (n : List ℕ) → chain_at self.new p n ≡ chain_at self.old p n }
+        ensures names { (p : Purse) → names_on (shelf_of self.new p) ≡ names_on (shelf_of self.old p) }
+        ensures serials { (p : Purse) → serials_on (shelf_of self.new p) ≡ serials_on (shelf_of self.old p) }
+        ensures there { OnOk result (is_some (shelf_of self.new purse.now) ≡ true) }
+    {
+        if self.shelves.contains_key(purse) {
+            return Ok(());
+        }
+        self.shelves.insert(*purse, Shelf::new(self.alloc))?;
+        Ok(())
+    }
+
+    /// Binds a name to an object, in the object's purse, from the moment on, in room that was
+    /// reserved here and in the store. Takes no memory.
+    pub fn bind<S: Store<Version>>(
+        &mut self,
+        store: &mut S,
+        moment: Moment,
+        name: &Name,
+        object: &ObjectId,
+    )
+        requires holds { Holds (S.chains store.old) self.old }
+        requires reserved { HasRoom self.old object.now.purse name.now }
+        requires unbound { current_of (bindings_in (S.chains store.old) self.old object.now.purse name.now) ≡ None }
+        requires room { 0 < S.room store.old }
+        ensures holds { Holds (S.chains store.new) self.new }
+        ensures names { (p : Purse) → names_in (S.chains store.new) self.new p
+            ≡ (if same_purse object.now.purse p then with_name name.now (names_in (S.chains store.old) self.old p) else names_in (S.chains store.old) self.old p) }
+        ensures bindings { (p : Purse) (n : List ℕ) → bindings_in (S.chains store.new) self.new p n
+            ≡ (if same_purse object.now.purse p && same_name name.now n then bindings_in (S.chains store.old) self.old p n ++ binding moment name.now object.now ∷ [] else bindings_in (S.chains store.old) self.old p n) }
+        ensures others { KeepsOthers (S.chains store.old) (S.chains store.new) self.old }
+        ensures own { (p : Purse) (n : List ℕ) → chain_at self.new p n ≡ chain_at self.old p n }
+        ensures store_room { S.room store.new + 1 ≡ S.room store.old }
+    {
+        let shelf = self.shelves.get_mut(&object.purse).unwrap();
+        let track = shelf.track(name).unwrap();
+        shelf.bound.push_reserved(object.serial);
+        let begun = Version {
+            begin: moment,
+            end: None,
+            item: Some(Item::Bind(*object)),
+            cost: 64 + name.as_slice().len() as u32,
+        };
+        store.push(track.chain, begun);
+    }
+
+    /// Ends the binding of a name that is bound. Takes no memory.
+    pub fn unbind<S: Store<Version>>(
+        &mut self,
+        store: &mut S,
+        moment: Moment,
+        purse: &Purse,
+        name: &Name,
+    )
+        requires holds { Holds (S.chains store.old) self.old }
+        requires bound { is_some (serial_now (bindings_in (S.chains store.old) self.old purse.now name.now)) ≡ true }
+        ensures holds { Holds (S.chains store.new) self.new }
+        ensures names { (p : Purse) → names_in (S.chains store.new) self.new p ≡ names_in (S.chains store.old) self.old p }
+        ensures bindings { (p : Purse) (n : List ℕ) → bindings_in (S.chains store.new) self.new p n
+            ≡ (if same_purse purse.now p && same_name name.now n then with_end moment (bindings_in (S.chains store.old) self.old p n) else bindings_in (S.chains store.old) self.old p n) }
+        ensures others { KeepsOthers (S.chains store.old) (S.chains store.new) self.old }
+        ensures own { (p : Purse) (n : List ℕ) → chain_at self.new p n ≡ chain_at self.old p n }
+        ensures store_room { S.room store.new ≡ S.room store.old }
+    {
+        let shelf = self.shelves.get_mut(purse).unwrap();
+        let track = shelf.track(name).unwrap();
+        let object = bound_object(store, track, None).unwrap();
+        let place = place_of(&shelf.bound, object.serial).unwrap();
+        shelf.bound.remove(place);
+        track.end(store, moment);
+    }
+
+    /// The object that a name in the purse is bound to, now or at a moment.
+    pub fn mount<S: Store<Version>>(
+        &self,
+        store: &S,
+        purse: &Purse,
+        name: &Name,
+        at: Option<Moment>,
+    ) -> Option<ObjectId>
+        requires { Holds (S.chains store.now) self.now }
+        ensures { result ≡ object_of (version_in at (bindings_in (S.chains store.now) self.now purse.now name.now)) }
+    {
+        let track = self.shelves.get(purse)?.track(name)?;
+        bound_object(store, track, at)
+    }
+
+    /// How many names are bound in the purse.
+    pub fn bound_names(&self, purse: &Purse) -> usize
+        ensures { (chains : Chains Version) → Holds chains self.now
+            → result ≡ count_by (λ name. is_some (serial_now (bindings_in chains self.now purse.now name))) (names_in chains self.now purse.now) }
+    {
+        match self.shelves.get(purse) {
+            Some(shelf) => shelf.bound.len(),
+            None => 0,
+        }
+    }
+
+    /// Whether the object has a name that is bound in its purse.
+    pub fn named(&self, object: &ObjectId) -> bool
+        ensures { (chains : Chains Version) → Holds chains self.now
+            → result ≡ list_any (λ name. is_serial object.now.serial (serial_now (bindings_in chains self.now object.now.purse name))) (names_in chains self.now object.now.purse) }
+    {
+        match self.shelves.get(&object.purse) {
+            Some(shelf) => shelf.bound.contains(&object.serial),
+            None => false,
+        }
+    }
+}
+
+// The object of the binding on a track, now or at a moment.
+pub(crate) fn bound_object<S: Store<Version>>(
+    store: &S,
+    track: Track,
+    at: Option<Moment>,
+) -> Option<ObjectId>
+    requires { IsOpen (S.chains store.now) track.chain }
+    ensures { result ≡ object_of (version_in at (items_of (S.chains store.now) track.chain)) }
+{
+    match track.version(store, at) {
+        Some(
+            Version {
+                item: Some(Item::Bind(object)),
+                ..
+            },
+        ) => Some(*object),
+        _ => None,
+    }
+}
+
+// Where a serial stands among others.
+fn place_of(serials: &[Serial], serial: Serial) -> Option<usize>
+    ensures there { is_some result ≡ list_any (λ y. y == serial) serials.now }
+    ensures place { IfSome result (λ i. slice_get serials.now i ≡ Some serial) }
+{
+    for place in 0..serials.len() {
+        if serials[place] == serial {
+            return Some(place);
+        }
+    }
+    None
+}

@@ -1,0 +1,64 @@
+//! The names of one purse.
+
+ghost use Rattle.std.specs.Prelude.{◌≡◌, ℕ, ◌<◌, true, is_some, Some, List, [], OnOk, vec_len, vec_capacity};
+ghost use Rattle.std.specs.Option.{option_map};
+ghost use Rattle.s4_store.specs.Chains.{IsOpen};
+ghost use Rattle.s4_parts.specs.Table.{chain_on};
+ghost use Rattle.s4_parts.specs.Shelf.{Grows};
+
+use s4_store::Store;
+use s4_tracks::Track;
+use s4_types::{Name, NoMemory, Serial, Version};
+use std::alloc::{AllocError, Global};
+use std::collections::BTreeMap;
+
+/// The names of a purse, each with its chain, and for each name that is bound now the serial of its
+/// object.
+#[derive(Drop)]
+pub struct Shelf {
+    pub tracks: BTreeMap<Name, Track>,
+    pub bound: Vec<Serial>,
+}
+
+impl Shelf {
+    /// A shelf without names.
+    pub fn new(alloc: Global) -> Shelf
+        ensures tracks { result.tracks.entries ≡ [] }
+        ensures bound { result.bound.items ≡ [] }
+    {
+        Shelf {
+            tracks: BTreeMap::new(alloc),
+            bound: Vec::new(alloc),
+        }
+    }
+
+    /// The track of a name.
+    pub fn track(&self, name: &Name) -> Option<Track>
+        ensures { option_map (λ t. t.chain) result ≡ chain_on (Some self.now) name.now }
+    {
+        self.tracks.get(name).copied()
+    }
+
+    /// Gives a name a chain, if it has none, and makes room for one more that is bound.
+    pub fn reserve<S: Store<Version>>(&mut self, store: &mut S, name: &Name) -> Result<(), NoMemory>
+        requires { (c : ℕ) (n : List ℕ) → chain_on (Some self.old) n ≡ Some c → IsOpen (S.chains store.old) c }
+        ensures grows { Grows (S.chains store.old) (S.chains store.new) self.old self.new name.now }
+        ensures chain { OnOk result (is_some (chain_on (Some self.new) name.now) ≡ true) }
+        ensures serials { OnOk result (vec_len self.new.bound < vec_capacity self.new.bound) }
+        ensures room { S.room store.new ≡ S.room store.old }
+    {
+        self.bound.reserve(1)?;
+        if self.tracks.contains_key(name) {
+            return Ok(());
+        }
+        let key = name.clone()?;
+        let chain = store.open()?;
+        match self.tracks.insert(key, Track { chain }) {
+            Ok(_) => Ok(()),
+            Err(_) => {
+                store.close(chain);
+                Err(AllocError)
+            }
+        }
+    }
+}
