@@ -209,10 +209,10 @@ module _ {chains : Chains Version} {found : ObjectId → Option Kept} {serials :
         laid-on p m values = laid_by (λ serial. 64 + length m) (λ serial. item.Bind (object_in p serial)) values
 
     -- it wasn't bound, so what is held of it isn't current
-    pub unbound_before : current_of (bindings_in chains table o.purse name) ≡ None
-    unbound_before =
-        ap current_of (s.partitions.bindings o.purse name) ∙ current-bound o.purse name (last_of h) r.moment (Rattle.s4_types.specs.Bindings.bindings o.purse name h) n.later (s.sound.bindings o.purse name)
-        ∙ none (in_force_by r.moment (Rattle.s4_types.specs.Bindings.bindings o.purse name h)) (was_unbound base h r.moment r.caller name o bound-accepted)
+    pub unbound_before : object_of (current_of (bindings_in chains table o.purse name)) ≡ None
+    unbound_before = ap object_of
+        (ap current_of (s.partitions.bindings o.purse name) ∙ current-bound o.purse name (last_of h) r.moment (Rattle.s4_types.specs.Bindings.bindings o.purse name h) n.later (s.sound.bindings o.purse name)
+        ∙ none (in_force_by r.moment (Rattle.s4_types.specs.Bindings.bindings o.purse name h)) (was_unbound base h r.moment r.caller name o bound-accepted))
       where
         none : (x : Option (Value ℕ)) → is_some (option_map (λ v. v.value) x) ≡ false → option_map (as_version o.purse name) x ≡ None
         none None e = refl

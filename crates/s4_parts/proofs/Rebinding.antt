@@ -138,11 +138,11 @@ known-now {chains} parts s p n serial there now =
     any-count (λ y. y == serial) (serials_on (shelf_of parts p)) ∙ ap (Rattle.std.specs.Prelude.nat_lt 0) (s.known p (λ y. y == serial)) ∙ sym (any-count test (names_on (shelf_of parts p)))
     ∙ any-at test n (names_on (shelf_of parts p)) (ap (passes (λ y. y == serial)) now ∙ Rattle.std.proofs.lemmas.Bool.eq-eqb serial serial refl) (sym (s.named p n) ∙ there)
 
-pub bound-counted : (test : ℕ → Bool) (items : List Version) (m : ℕ) (name : List ℕ) (o : ObjectId) (serials serials' : List ℕ) → current_of items ≡ None → serials' ≡ serials ++ o.serial ∷ []
+pub bound-counted : (test : ℕ → Bool) (items : List Version) (m : ℕ) (name : List ℕ) (o : ObjectId) (serials serials' : List ℕ) → object_of (current_of items) ≡ None → serials' ≡ serials ++ o.serial ∷ []
     → count_by test serials' + tally (passes test (serial_now items)) ≡ count_by test serials + tally (passes test (serial_now (items ++ binding m name o ∷ [])))
 bound-counted test items m name o serials serials' none is =
     let more : count_by test serials' ≡ count_by test serials + tally (test o.serial) = ap (count_by test) is ∙ count-more test serials o.serial in
-    let before : tally (passes test (serial_now items)) ≡ 0 = ap (λ v. tally (passes test (option_map (λ x. x.serial) (object_of v)))) none in
+    let before : tally (passes test (serial_now items)) ≡ 0 = ap (λ v. tally (passes test (option_map (λ x. x.serial) v))) none in
     let now : tally (passes test (serial_now (items ++ binding m name o ∷ []))) ≡ tally (test o.serial) = ap (λ x. tally (passes test x)) (bound-now items m name o) in
     omega arith
 

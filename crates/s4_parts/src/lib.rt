@@ -8,3 +8,6 @@ mod shelf;
 
 pub use page::{Page, Visible};
 pub use parts::Parts;
+
+#[cfg(test)]
+mod tests;

@@ -86,7 +86,7 @@ impl Parts {
     )
         requires holds { Holds (S.chains store.old) self.old }
         requires reserved { HasRoom self.old object.now.purse name.now }
-        requires unbound { current_of (bindings_in (S.chains store.old) self.old object.now.purse name.now) ≡ None }
+        requires unbound { object_of (current_of (bindings_in (S.chains store.old) self.old object.now.purse name.now)) ≡ None }
         requires room { 0 < S.room store.old }
         ensures holds { Holds (S.chains store.new) self.new }
         ensures names { (p : Purse) → names_in (S.chains store.new) self.new p

@@ -21,7 +21,7 @@ returns-clause-holds g c =
     ∙ ap (λ n. finmap.insert (g.S.Store.chains c.args.store.now) c.unwrap-track.result.chain (items_of (g.S.Store.chains c.args.store.now) c.unwrap-track.result.chain ++ record { begin = c.args.moment; end = None; item = Some (Bind c.args.object.now); cost = 64 + length n } ∷ [])) c.as_slice.ensures.value in
     rebound-holds (g.S.Store.chains c.args.store.now) c.args.self.now (record { alloc = c.args.self.now.alloc; shelves = c.get_mut.follows.lender w }) c.requires.holds (c.args.object.now.purse) c.args.name.now c.unwrap-shelf.result.now w
     found ((c.get_mut.follows.holds w).3 (ap is_some found)).0 refl c.unwrap-track.result.chain track (λ (vs : List Version). vs ++ binding c.args.moment c.args.name.now c.args.object.now ∷ []) (g.S.Store.chains c.push.new.self) changed
-    (λ test. bound-counted test (items_of (g.S.Store.chains c.args.store.now) c.unwrap-track.result.chain) c.args.moment c.args.name.now c.args.object.now c.unwrap-shelf.result.now.bound.items c.push_reserved.new.self.items (sym (ap current_of (ap (items_on (g.S.Store.chains c.args.store.now)) (ap (λ x. chain_on x c.args.name.now) found ∙ track))) ∙ c.requires.unbound) c.push_reserved.ensures.items)
+    (λ test. bound-counted test (items_of (g.S.Store.chains c.args.store.now) c.unwrap-track.result.chain) c.args.moment c.args.name.now c.args.object.now c.unwrap-shelf.result.now.bound.items c.push_reserved.new.self.items (sym (ap (λ vs. object_of (current_of vs)) (ap (items_on (g.S.Store.chains c.args.store.now)) (ap (λ x. chain_on x c.args.name.now) found ∙ track))) ∙ c.requires.unbound) c.push_reserved.ensures.items)
 
 pub returns-clause-names : goal.returns-clause-names
 returns-clause-names g c =
