@@ -2,8 +2,8 @@
 use Rattle.std.specs.Prelude.{ℕ}
 use Rattle.s4d.specs.declared.fault.Fault.{Fault}
 use Rattle.s4d.specs.declared.fault.Fault.TheVariants as fault
-use Rattle.s4d.specs.declared.fault.ParseError.{ParseError}
-use Rattle.s4d.specs.declared.fault.ParseError.TheVariants as parse_error
+use Rattle.s4_script.specs.declared.error.ParseError.{ParseError}
+use Rattle.s4_script.specs.declared.error.ParseError.TheVariants as parse_error
 
 -- what the program exits with: 2 where the command line spells no command, or else 1
 abbrev pub exit_status : Fault → ℕ

@@ -5,8 +5,8 @@ ghost use Rattle.std.specs.IoError.{error_kind};
 ghost use Rattle.s4d.specs.Faults.{exit_status, fault_of_line};
 ghost use Rattle.s4d.specs.Texts.{fault_text};
 ghost use Rattle.s4d.specs.declared.fault.Fault.TheVariants as fault;
-ghost use Rattle.s4d.specs.declared.fault.ParseError.TheVariants as parse_error;
 
+use s4_script::ParseError;
 use std::alloc::{AllocError, AllocFailed};
 use std::io::ErrorKind;
 use std::{fmt, io};
@@ -31,6 +31,16 @@ impl Fault {
         match self {
             Fault::CommandLine(_) => 2,
             _ => 1,
+        }
+    }
+
+    /// The fault of the line with that number, which isn't taken.
+    pub fn parsing(error: ParseError, number: usize) -> Fault
+        ensures { result ≡ fault_of_line error number }
+    {
+        match error {
+            ParseError::Bad => Fault::BadLine(number),
+            ParseError::NoMemory => Fault::NoMemory,
         }
     }
 
@@ -97,33 +107,5 @@ impl fmt::Display for FaultText<'_> {
 
     fn fmt<W: fmt::Write>(&self, f: &mut fmt::Formatter<W>) -> fmt::Result {
         write!(f, "s4d: {}", self.0)
-    }
-}
-
-/// Why a line or a word of it isn't taken.
-#[derive(Clone, Copy, Debug, PartialEq, Eq)]
-pub enum ParseError {
-    /// It spells nothing.
-    Bad,
-    NoMemory,
-}
-
-impl ParseError {
-    /// The fault of the line with that number.
-    pub fn at(self, number: usize) -> Fault
-        ensures { result ≡ fault_of_line self number }
-    {
-        match self {
-            ParseError::Bad => Fault::BadLine(number),
-            ParseError::NoMemory => Fault::NoMemory,
-        }
-    }
-}
-
-impl From<AllocError> for ParseError {
-    fn from(_: AllocError) -> ParseError
-        ensures { result ≡ parse_error.NoMemory }
-    {
-        ParseError::NoMemory
     }
 }

@@ -3,16 +3,12 @@
 
 mod command;
 mod fault;
-mod line;
-mod replies;
-mod requests;
 #[cfg(test)]
 mod rows;
 mod script;
 #[cfg(test)]
 mod tests;
 mod text;
-mod words;
 
 use command::Command;
 use fault::{Fault, FaultText};

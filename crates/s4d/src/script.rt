@@ -5,10 +5,9 @@ ghost use Rattle.s4_types.specs.Play.{last_of};
 ghost use Rattle.s4_drive.specs.Step.{Steps};
 
 use crate::fault::Fault;
-use crate::line::{Line, parse_line, parse_window};
-use crate::replies::ReplyText;
 use crate::text;
 use s4_drive::Drive;
+use s4_script::{Line, ReplyText, parse_line, parse_window};
 use s4_store::PlainStore;
 use s4_types::{Moment, Reply, Version};
 use std::alloc::Global;
@@ -36,11 +35,11 @@ fn run_lines<W: Write>(alloc: Global, text: &[u8], writer: &mut W) -> Result<(),
         let line = line.strip_suffix(b"\n").unwrap_or(line);
         match &mut run {
             None => {
-                let window = parse_window(alloc, line).map_err(|error| error.at(number))?;
+                let window = parse_window(alloc, line).map_err(|why| Fault::parsing(why, number))?;
                 run = Some(Run::open(alloc, window));
             }
             Some(run) => {
-                let line = parse_line(alloc, line).map_err(|error| error.at(number))?;
+                let line = parse_line(alloc, line).map_err(|why| Fault::parsing(why, number))?;
                 let reply = run.reply(&line).ok_or(Fault::MomentGoesBack(number))?;
                 writeln!(writer, "{}", ReplyText(&reply)).map_err(Fault::writing)?;
             }

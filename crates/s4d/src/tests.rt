@@ -1,16 +1,12 @@
 use crate::command;
-use crate::fault::{Fault, FaultText, ParseError};
-use crate::line::{parse_line, parse_window};
-use crate::replies::ReplyText;
+use crate::fault::{Fault, FaultText};
 use crate::rows::{FAULT_BAD_LINE, FIRST_REQUESTS, ROWS, serials_spent};
 use crate::script::run_script;
 use crate::text::read_up_to;
 use s4_drive::{Drive, never_down};
+use s4_script::{ReplyText, parse_line, parse_window};
 use s4_store::PlainStore;
-use s4_types::{
-    Bytes, Grant, Moment, Name, NameLine, NameLines, ObjectId, Principal, Purse, PurseNo, Refusal,
-    Reply, Right, Rights, Serial, Step, Version,
-};
+use s4_types::{Step, Version};
 use std::alloc::Global;
 use std::io;
 use std::io::{ErrorKind, Read, Write};
@@ -227,111 +223,6 @@ fn lines_of_scripts(rt: HostRuntime) -> Result<(), Fail> {
     Ok(())
 }
 
-/// Lines after the first that spell nothing.
-const BAD_LINES: [&str; 92] = [
-    "0",
-    "0 7",
-    "0 7 ",
-    " 0 7 create 0",
-    "0  7 create 0",
-    "0 7 create 0 ",
-    "0 7 create 0\r",
-    "18446744073709551616 7 create 0",
-    "0 4294967295 create 0",
-    "0 7 Create 0",
-    "0 7 create",
-    "0 7 create 0 0",
-    "0 7 create 00",
-    "0 7 create +1",
-    "0 7 create 16",
-    "0 7 delete",
-    "0 7 delete 7.0",
-    "0 7 delete 7.0.0",
-    "0 7 delete 7.0.65536",
-    "0 7 delete 7.16.1",
-    "0 7 delete 4294967295.0.1",
-    "0 7 delete 7.0.1.1",
-    "0 7 delete 7.0.1 at 0",
-    "0 7 read 7.0.1 0",
-    "0 7 read 7.0.1 0 4294967296",
-    "0 7 read 7.0.1 4294967296 1",
-    "0 7 read 7.0.1 0 1 0",
-    "0 7 read 7.0.1 0 1 at",
-    "0 7 read 7.0.1 0 1 At 0",
-    "0 7 read 7.0.1 0 1 at 18446744073709551616",
-    "0 7 read 7.0.1 0 1 at 0 0",
-    "0 7 read 7.0.1 0 at 0",
-    "0 7 write 7.0.1 0",
-    "0 7 write 7.0.1 0 ",
-    "0 7 write 7.0.1 0 abc",
-    "0 7 write 7.0.1 0 EMPTY",
-    "0 7 write 7.0.1 0 61 at 0",
-    "0 7 append 7.0.1",
-    "0 7 append 7.0.1 6g",
-    "0 7 append 7.0.1 0 61",
-    "0 7 truncate 7.0.1",
-    "0 7 truncate 7.0.1 4294967296",
-    "0 7 truncate 7.0.1 1 at 0",
-    "0 7 getattr",
-    "0 7 getattr 7.0.1 0",
-    "0 7 getattr 7.0.1 at",
-    "0 7 getattr 7.0.1 at -1",
-    "0 7 setattr 7.0.1",
-    "0 7 setattr 7.0.1 6",
-    "0 7 setattr 7.0.1 61 at 0",
-    "0 7 acl-user 7.0.1",
-    "0 7 acl-user 7.0.1 4294967295",
-    "0 7 acl-user 7.0.1 9 at",
-    "0 7 acl-index 7.0.1",
-    "0 7 acl-index 7.0.1 256",
-    "0 7 acl-index 7.0.1 0 0",
-    "0 7 setacl 7.0.1 9",
-    "0 7 setacl 7.0.1 9 32",
-    "0 7 setacl 7.0.1 4294967295 1",
-    "0 7 setacl 7.0.1 9 1 at 0",
-    "0 7 pcreate home",
-    "0 7 pcreate home 7.0",
-    "0 7 pcreate 7.0.1 home",
-    "0 7 pcreate  7.0.1",
-    "0 7 pcreate Home 7.0.1",
-    "0 7 pcreate my_home 7.0.1",
-    "0 7 pcreate abcdefghijklmnopqrstuvwxyz-012345 7.0.1",
-    "0 7 pcreate home 7.0.1 at 0",
-    "0 7 pdelete 7.0",
-    "0 7 pdelete 7.0 ",
-    "0 7 pdelete 7.0.1 home",
-    "0 7 pdelete 7.16 home",
-    "0 7 pdelete home 7.0",
-    "0 7 pdelete 7.0 home at 0",
-    "0 7 plist",
-    "0 7 plist 4294967295",
-    "0 7 plist 9 1 b",
-    "0 7 plist 9 after 1",
-    "0 7 plist 9 after b 1",
-    "0 7 plist 9 after 16 b",
-    "0 7 plist 9 after 1 B",
-    "0 7 plist 9 at",
-    "0 7 plist 9 at 3 after 1 b",
-    "0 7 plist 9 after 1 b at",
-    "0 7 plist 9 after 1 b at 3 0",
-    "0 7 pmount 7.0",
-    "0 7 pmount 7 home",
-    "0 7 pmount 7.0 home at",
-    "0 7 pmount 7.0 home 0",
-    "0 7 pmount 7.0 HOME",
-    "sweep 1",
-    "used",
-];
-
-#[test]
-fn bad_lines(rt: HostRuntime) {
-    let alloc = rt.alloc();
-    for line in BAD_LINES {
-        let parsed = parse_line(alloc, line.as_bytes());
-        assert_eq!(rt; parsed, Err(ParseError::Bad), "at {line}");
-    }
-}
-
 #[test]
 fn long_bytes(rt: HostRuntime) -> Result<(), Fail> {
     let alloc = rt.alloc();
@@ -474,131 +365,6 @@ fn bound_of_texts(rt: HostRuntime) -> Result<(), Fail> {
     for (limit, is_whole) in [(3, true), (2, false)] {
         let mut reader = b"abc".as_slice();
         assert_eq!(rt; read_up_to(alloc, &mut reader, limit).is_ok(), is_whole);
-    }
-    Ok(())
-}
-
-#[test]
-fn texts_of_replies(rt: HostRuntime) -> Result<(), Fail> {
-    let alloc = rt.alloc();
-    let purse = Purse {
-        creator: Principal::new(7).ok_or("a principal")?,
-        number: PurseNo::new(15).ok_or("a purse number")?,
-    };
-    let serial = Serial::new(65535).ok_or("a serial")?;
-    let made = Reply::Made(ObjectId { purse, serial });
-    let text = ReplyText(&made).to_string(alloc)?;
-    assert_eq!(rt; text.as_str(), "made 7.15.65535");
-    let text = ReplyText(&Reply::Done).to_string(alloc)?;
-    assert_eq!(rt; text.as_str(), "done");
-    let entry = Reply::Entry {
-        grant: Grant::Admin,
-        index: 15,
-        user: Principal::new(4294967294).ok_or("a principal")?,
-        rights: Rights::new(31).ok_or("rights")?,
-    };
-    let text = ReplyText(&entry).to_string(alloc)?;
-    assert_eq!(rt; text.as_str(), "entry 15 4294967294 31 by admin");
-    Ok(())
-}
-
-/// The names on a page, whether more of them follow, and the page.
-const PAGES: [(&[&str], bool, &str); 3] = [
-    (&[], false, "names 0 end"),
-    (&["x"], true, "names 1 more\nname x 9.0.2 by 1 since 3"),
-    (
-        &["a-0", "x"],
-        false,
-        "names 2 end\nname a-0 9.0.2 by 1 since 3\nname x 9.0.2 by 1 since 3",
-    ),
-];
-
-#[test]
-fn texts_of_pages(rt: HostRuntime) -> Result<(), Fail> {
-    let alloc = rt.alloc();
-    let purse = Purse {
-        creator: Principal::new(9).ok_or("a principal")?,
-        number: PurseNo::new(0).ok_or("a purse number")?,
-    };
-    let serial = Serial::new(2).ok_or("a serial")?;
-    let object = ObjectId { purse, serial };
-    let grant = Grant::Entry {
-        index: 1,
-        since: Moment::new(3),
-    };
-    let mounted = Reply::Mounted { grant, object };
-    let text = ReplyText(&mounted).to_string(alloc)?;
-    assert_eq!(rt; text.as_str(), "mounted 9.0.2 by 1 since 3");
-    for (names, more, wanted) in PAGES {
-        let mut lines = Vec::new(alloc);
-        for name in names {
-            let name = Name::new(name.as_bytes()).ok_or("a name")?;
-            lines.push(NameLine {
-                name,
-                object,
-                grant,
-            })?;
-        }
-        let lines = NameLines::new(lines);
-        let text = ReplyText(&Reply::Names { lines, more }).to_string(alloc)?;
-        assert_eq!(rt; text.as_str(), wanted);
-    }
-    Ok(())
-}
-
-#[test]
-fn texts_of_bytes(rt: HostRuntime) -> Result<(), Fail> {
-    let alloc = rt.alloc();
-    let entry = Grant::Entry {
-        index: 15,
-        since: Moment::new(18446744073709551615),
-    };
-    let cases: [(Grant, &[u8], &str); 3] = [
-        (Grant::Admin, b"\x00\xff", "00ff by admin"),
-        (Grant::Admin, b"", "empty by admin"),
-        (entry, b"\xab", "ab by 15 since 18446744073709551615"),
-    ];
-    for (grant, bytes, wanted) in cases {
-        let data = Reply::Data {
-            grant,
-            bytes: Bytes::new(bytes.to_vec(alloc)?),
-        };
-        let text = ReplyText(&data).to_string(alloc)?;
-        assert_eq!(rt; text.strip_prefix("data "), Some(wanted));
-        let attr = Reply::Attr {
-            grant,
-            bytes: Bytes::new(bytes.to_vec(alloc)?),
-        };
-        let text = ReplyText(&attr).to_string(alloc)?;
-        assert_eq!(rt; text.strip_prefix("attr "), Some(wanted));
-    }
-    Ok(())
-}
-
-#[test]
-fn texts_of_refusals(rt: HostRuntime) -> Result<(), Fail> {
-    let alloc = rt.alloc();
-    for (refusal, wanted) in [
-        (Refusal::Denied(Right::Read), "denied read"),
-        (Refusal::Denied(Right::Write), "denied write"),
-        (Refusal::Denied(Right::Delete), "denied delete"),
-        (Refusal::Denied(Right::Control), "denied control"),
-        (Refusal::Denied(Right::Recover), "denied recover"),
-        (Refusal::Denied(Right::Admin), "denied admin"),
-        (Refusal::NoObject, "no-object"),
-        (Refusal::Future, "future"),
-        (Refusal::TooLong, "too-long"),
-        (Refusal::AclFull, "acl-full"),
-        (Refusal::NoEntry, "no-entry"),
-        (Refusal::NoPartition, "no-partition"),
-        (Refusal::Exists, "exists"),
-        (Refusal::PartsFull, "parts-full"),
-        (Refusal::Named, "named"),
-        (Refusal::NamesSpent, "names-spent"),
-        (Refusal::NoMemory, "no-memory"),
-    ] {
-        let text = ReplyText(&Reply::Refused(refusal)).to_string(alloc)?;
-        assert_eq!(rt; text.as_str(), wanted);
     }
     Ok(())
 }

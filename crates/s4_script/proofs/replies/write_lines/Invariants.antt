@@ -1,7 +1,7 @@
 use Rattle.std.proofs.Common.{take}
 use Rattle.std.specs.Fmt.{HasWritten, IsPlainFormatter}
-use Rattle.s4d.specs.Texts.{lines_text}
-use Rattle.s4d.proofs.replies.write_lines.Given as goal
+use Rattle.s4_script.specs.Texts.{lines_text}
+use Rattle.s4_script.proofs.replies.write_lines.Given as goal
 
 -- the lines so far are written
 abbrev pub invariant-loop-line : goal.invariant-loop-line

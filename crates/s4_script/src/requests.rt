@@ -1,6 +1,6 @@
 //! The verbs of a script.
 
-use crate::fault::ParseError;
+use crate::error::ParseError;
 use crate::words;
 use s4_types::Request;
 use std::alloc::Global;

@@ -1,6 +1,6 @@
 //! The lines of a script.
 
-use crate::fault::ParseError;
+use crate::error::ParseError;
 use crate::{requests, words};
 use s4_types::{Caller, Moment, Request};
 use std::alloc::Global;

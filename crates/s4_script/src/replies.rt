@@ -3,7 +3,7 @@
 ghost use Rattle.std.specs.Prelude.{◌≡◌, Some};
 ghost use Rattle.std.specs.Fmt.{DisplaysOnOk};
 ghost use Rattle.hex.specs.Hex.{encode_lower};
-ghost use Rattle.s4d.specs.Texts.{bytes_text, grant_text, line_text, lines_text, names_text, object_text, refusal_text, reply_text, right_text};
+ghost use Rattle.s4_script.specs.Texts.{bytes_text, grant_text, line_text, lines_text, names_text, object_text, refusal_text, reply_text, right_text};
 
 use s4_types::{Grant, Name, NameLine, ObjectId, Refusal, Reply, Right};
 use std::fmt;

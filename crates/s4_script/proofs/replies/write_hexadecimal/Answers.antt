@@ -1,7 +1,7 @@
 use Rattle.std.proofs.Common.{arith, rules, sym}
 use Rattle.std.proofs.Output.{has_written_append, has_written_of_eq, writes_in_calls_nil}
-use Rattle.s4d.proofs.Hexadecimal.{encode_lower_nil, encode_lower_more}
-use Rattle.s4d.proofs.replies.write_hexadecimal.Goals as goal
+use Rattle.s4_script.proofs.Hexadecimal.{encode_lower_nil, encode_lower_more}
+use Rattle.s4_script.proofs.replies.write_hexadecimal.Goals as goal
 
 pub loop-byte-init : goal.loop-byte-init
 loop-byte-init g c = λ plain.

@@ -1,6 +1,6 @@
 //! The words of a line, by what they spell.
 
-use crate::fault::ParseError;
+use crate::error::ParseError;
 use hex::FromHexError;
 use s4_types::{After, Bytes, Moment, Name, ObjectId, Principal, Purse, PurseNo, Rights, Serial};
 use std::alloc::Global;

@@ -1,0 +1,87 @@
+-- What a reply's line says, and the text of a line that isn't taken.
+use Rattle.std.specs.Prelude.{ℕ, Bool, true, false, List, [], ◌∷◌, ◌++◌, length, flat_map, codes, decimal}
+use Rattle.hex.specs.Hex.{encode_lower}
+use Rattle.s4_types.specs.declared.object.ObjectId.{ObjectId}
+use Rattle.s4_types.specs.declared.reply.Grant.{Grant}
+use Rattle.s4_types.specs.declared.reply.Grant.TheVariants as grant
+use Rattle.s4_types.specs.declared.reply.NameLine.{NameLine}
+use Rattle.s4_types.specs.declared.reply.Refusal.{Refusal}
+use Rattle.s4_types.specs.declared.reply.Refusal.TheVariants as refusal
+use Rattle.s4_types.specs.declared.reply.Reply.{Reply}
+use Rattle.s4_types.specs.declared.reply.Reply.TheVariants as reply
+use Rattle.s4_types.specs.declared.rights.Right.{Right}
+use Rattle.s4_types.specs.declared.rights.Right.TheVariants as right
+use Rattle.s4_script.specs.declared.error.ParseError.{ParseError}
+use Rattle.s4_script.specs.declared.error.ParseError.TheVariants as parse_error
+
+-- an object by its creator, the number of its purse and its serial, as `7.0.1`
+abbrev pub object_text : ObjectId → List ℕ
+object_text object = decimal object.purse.creator ++ codes "." ++ decimal object.purse.number ++ codes "." ++ decimal object.serial
+
+-- bytes as two hexadecimal digits each, in lower case, or the word `empty` where there are none
+abbrev pub bytes_text : List ℕ → List ℕ
+bytes_text [] = codes "empty"
+bytes_text (byte ∷ bytes) = encode_lower (byte ∷ bytes)
+
+-- why a read was granted: the index of the entry, and since when its list is in force; no read is granted to the owner as such
+abbrev pub grant_text : Grant → List ℕ
+grant_text grant.Admin = codes "by admin"
+grant_text grant.Owner = codes "by owner"
+grant_text (grant.Entry index since) = codes "by " ++ decimal index ++ codes " since " ++ decimal since
+
+-- the name of a right
+abbrev pub right_text : Right → List ℕ
+right_text right.Read = codes "read"
+right_text right.Write = codes "write"
+right_text right.Delete = codes "delete"
+right_text right.Control = codes "control"
+right_text right.Recover = codes "recover"
+right_text right.Admin = codes "admin"
+
+-- why a request was refused, and which right was wanted where one was
+abbrev pub refusal_text : Refusal → List ℕ
+refusal_text (refusal.Denied wanted) = codes "denied " ++ right_text wanted
+refusal_text refusal.NoObject = codes "no-object"
+refusal_text refusal.Future = codes "future"
+refusal_text refusal.TooLong = codes "too-long"
+refusal_text refusal.AclFull = codes "acl-full"
+refusal_text refusal.NoEntry = codes "no-entry"
+refusal_text refusal.NoPartition = codes "no-partition"
+refusal_text refusal.Exists = codes "exists"
+refusal_text refusal.PartsFull = codes "parts-full"
+refusal_text refusal.Named = codes "named"
+refusal_text refusal.NamesSpent = codes "names-spent"
+refusal_text refusal.NoMemory = codes "no-memory"
+
+-- a partition as its line: its name, its object, and why it is shown
+abbrev pub line_text : NameLine → List ℕ
+line_text line = codes "name " ++ line.name ++ codes " " ++ object_text line.object ++ codes " " ++ grant_text line.grant
+
+-- a line feed, and then a partition's line, for each of them
+abbrev pub lines_text : List NameLine → List ℕ
+lines_text lines = flat_map (λ line. 10 ∷ line_text line) lines
+
+-- whether more partitions follow a page
+abbrev pub end_text : Bool → List ℕ
+end_text true = codes "more"
+end_text false = codes "end"
+
+-- a page of partitions: how many there are on it, whether more follow, and then the line of each
+abbrev pub names_text : List NameLine → Bool → List ℕ
+names_text lines more = codes "names " ++ decimal (length lines) ++ codes " " ++ end_text more ++ lines_text lines
+
+-- a reply as its line, without the end of the line; a page of partitions is more lines, parted by line feeds
+abbrev pub reply_text : Reply → List ℕ
+reply_text reply.Done = codes "done"
+reply_text (reply.Made object) = codes "made " ++ object_text object
+reply_text (reply.Data granted bytes) = codes "data " ++ bytes_text bytes ++ codes " " ++ grant_text granted
+reply_text (reply.Attr granted bytes) = codes "attr " ++ bytes_text bytes ++ codes " " ++ grant_text granted
+reply_text (reply.Entry granted index user rights) = codes "entry " ++ decimal index ++ codes " " ++ decimal user ++ codes " " ++ decimal rights ++ codes " " ++ grant_text granted
+reply_text (reply.Mounted granted object) = codes "mounted " ++ object_text object ++ codes " " ++ grant_text granted
+reply_text (reply.Names lines more) = names_text lines more
+reply_text (reply.Refused why) = refusal_text why
+
+-- why a line isn't taken
+abbrev pub parse_error_text : ParseError → List ℕ
+parse_error_text parse_error.Bad = codes "bad line"
+parse_error_text parse_error.NoMemory = codes "no memory"
