@@ -11,10 +11,10 @@ use Rattle.s4_types.specs.declared.acl.AclEntry.{AclEntry}
 use Rattle.s4_types.specs.declared.rights.Right.{Right}
 use Rattle.s4_types.specs.declared.rights.Right.TheVariants as right
 use Rattle.s4_types.specs.declared.request.Request.{Request}
-use Rattle.s4_types.specs.declared.request.Request.TheVariants.{Create, Delete, Read, Write, Append, Truncate, GetAttr, SetAttr, GetAclByUser, GetAclByIndex, SetAcl, PCreate, PDelete, PList, PMount}
+use Rattle.s4_types.specs.declared.request.Request.TheVariants.{Create, Delete, Read, Write, Append, Truncate, GetAttr, SetAttr, GetAclByUser, GetAclByIndex, SetAcl, PCreate, PDelete, PList, PMount, SetWindow}
 use Rattle.s4_types.specs.declared.reply.Grant.{Grant}
 use Rattle.s4_types.specs.declared.reply.Refusal.{Refusal}
-use Rattle.s4_types.specs.declared.reply.Refusal.TheVariants.{TooLong, AclFull, NoEntry, NamesSpent, Exists, PartsFull, Named}
+use Rattle.s4_types.specs.declared.reply.Refusal.TheVariants.{Denied, TooLong, AclFull, NoEntry, NamesSpent, Exists, PartsFull, Named}
 use Rattle.s4_types.specs.declared.reply.Reply.{Reply}
 use Rattle.s4_types.specs.declared.reply.Reply.TheVariants.{Done, Made, Data, Attr, Entry, Mounted, Names, Refused}
 use Rattle.s4_types.specs.declared.record.Record.{Record}
@@ -25,6 +25,7 @@ use Rattle.s4_types.specs.Acl.{names, without_entry, replaced, acl_with}
 use Rattle.s4_types.specs.Judgement.{Found, entry_of, judge, judge_now, held_of}
 use Rattle.s4_types.specs.Outcome.{◌>>=◌, ◌>>◌, refuse_if, reply_of}
 use Rattle.s4_types.specs.Base.{Base}
+use Rattle.s4_types.specs.Horizon.{horizon_at}
 use Rattle.s4_types.specs.Answer.{answer, outcome, drawn, timely, moment_of, data_of, attributes_of, acl_of, entry_by_user, entry_by_index, settable, found_bound, lines_in, page_of, purse_numbers}
 use Rattle.s4_types.specs.Bindings.{bound_at, bound_count, has_name}
 use Rattle.s4_types.proofs.SameNames.{object_is}
@@ -75,7 +76,7 @@ pub makes_nothing-outcome : (base : Base) (h : List Record) (t : ℕ) (caller : 
 makes_nothing-outcome base h t caller (Create number) e = cc
 makes_nothing-outcome base h t caller (Delete p) e = nothing-then (judge h t caller p right.Delete None) _ (nothing-then (refuse_if (has_name p t h) Named) (Ok Done) refl)
 makes_nothing-outcome base h t caller (Read p offset length at) e =
-    nothing-then (timely t at) _ (nothing-bind (judge h t caller p right.Read at) (λ g. Ok (Data g (take length (drop offset (data_of p (moment_of t at) h))))) (λ g. refl))
+    nothing-then (timely (horizon_at base h t) t at) _ (nothing-bind (judge h t caller p right.Read at) (λ g. Ok (Data g (take length (drop offset (data_of p (moment_of t at) h))))) (λ g. refl))
 makes_nothing-outcome base h t caller (Write p offset bytes) e =
     nothing-then (refuse_if (nat_lt 4096 (offset + length bytes)) TooLong) _ (nothing-then (judge h t caller p right.Write None) (Ok Done) refl)
 makes_nothing-outcome base h t caller (Append p bytes) e =
@@ -84,13 +85,13 @@ makes_nothing-outcome base h t caller (Append p bytes) e =
 makes_nothing-outcome base h t caller (Truncate p length) e =
     nothing-then (refuse_if (nat_lt 4096 length) TooLong) _ (nothing-then (judge h t caller p right.Write None) (Ok Done) refl)
 makes_nothing-outcome base h t caller (GetAttr p at) e =
-    nothing-then (timely t at) _ (nothing-bind (judge h t caller p right.Read at) (λ g. Ok (Attr g (attributes_of p (moment_of t at) h))) (λ g. refl))
+    nothing-then (timely (horizon_at base h t) t at) _ (nothing-bind (judge h t caller p right.Read at) (λ g. Ok (Attr g (attributes_of p (moment_of t at) h))) (λ g. refl))
 makes_nothing-outcome base h t caller (SetAttr p bytes) e =
     nothing-then (refuse_if (nat_lt 256 (length bytes)) TooLong) _ (nothing-then (judge h t caller p right.Write None) (Ok Done) refl)
 makes_nothing-outcome base h t caller (GetAclByUser p user at) e =
-    nothing-then (timely t at) _ (nothing-bind (judge h t caller p right.Read at) (λ g. entry_by_user g user (entry_of user (acl_of p (moment_of t at) h))) (λ g. nothing-user g user (entry_of user (acl_of p (moment_of t at) h))))
+    nothing-then (timely (horizon_at base h t) t at) _ (nothing-bind (judge h t caller p right.Read at) (λ g. entry_by_user g user (entry_of user (acl_of p (moment_of t at) h))) (λ g. nothing-user g user (entry_of user (acl_of p (moment_of t at) h))))
 makes_nothing-outcome base h t caller (GetAclByIndex p index at) e =
-    nothing-then (timely t at) _ (nothing-bind (judge h t caller p right.Read at) (λ g. entry_by_index g index (slice_get (acl_of p (moment_of t at) h) index)) (λ g. nothing-index g index (slice_get (acl_of p (moment_of t at) h) index)))
+    nothing-then (timely (horizon_at base h t) t at) _ (nothing-bind (judge h t caller p right.Read at) (λ g. entry_by_index g index (slice_get (acl_of p (moment_of t at) h) index)) (λ g. nothing-index g index (slice_get (acl_of p (moment_of t at) h) index)))
 makes_nothing-outcome base h t caller (SetAcl p user rights) e =
     nothing-then (judge h t caller p right.Control None) _ (nothing-then (settable user rights (acl_of p t h)) (Ok Done) refl)
 makes_nothing-outcome base h t caller (PCreate name p) e =
@@ -100,10 +101,11 @@ makes_nothing-outcome base h t caller (PDelete purse name) e =
     nothing-bind (found_bound caller purse right.Control (bound_at purse name t h)) (λ serial. judge h t caller (object_in purse serial) right.Control None >> Ok Done)
     (λ serial. nothing-then (judge h t caller (object_in purse serial) right.Control None) (Ok Done) refl)
 makes_nothing-outcome base h t caller (PList range after at) e =
-    nothing-then (timely t at) (Ok (page_of (flat_map (lines_in h t caller range after at) purse_numbers))) refl
+    nothing-then (timely (horizon_at base h t) t at) (Ok (page_of (flat_map (lines_in h t caller range after at) purse_numbers))) refl
 makes_nothing-outcome base h t caller (PMount purse name at) e =
-    nothing-then (timely t at) _ (nothing-bind (found_bound caller purse right.Read (bound_at purse name (moment_of t at) h)) (λ serial. judge h t caller (object_in purse serial) right.Read at >>= λ g. Ok (Mounted g (object_in purse serial)))
+    nothing-then (timely (horizon_at base h t) t at) _ (nothing-bind (found_bound caller purse right.Read (bound_at purse name (moment_of t at) h)) (λ serial. judge h t caller (object_in purse serial) right.Read at >>= λ g. Ok (Mounted g (object_in purse serial)))
     (λ serial. nothing-bind (judge h t caller (object_in purse serial) right.Read at) (λ g. Ok (Mounted g (object_in purse serial))) (λ g. refl)))
+makes_nothing-outcome base h t caller (SetWindow ticks) e = nothing-then (refuse_if (not (caller.who == 0)) (Denied right.Admin)) (Ok Done) refl
 
 clash : {A : Type 0} (b : Bool) → b ≡ false → b ≡ true → A
 clash true e f = absurd (no e)
@@ -141,6 +143,7 @@ made_is base h t caller (PCreate name p) o e = clash _ (nothing-made o _ (makes_
 made_is base h t caller (PDelete purse name) o e = clash _ (nothing-made o _ (makes_nothing-outcome base h t caller (PDelete purse name) refl)) e
 made_is base h t caller (PList range after at) o e = clash _ (nothing-made o _ (makes_nothing-outcome base h t caller (PList range after at) refl)) e
 made_is base h t caller (PMount purse name at) o e = clash _ (nothing-made o _ (makes_nothing-outcome base h t caller (PMount purse name at) refl)) e
+made_is base h t caller (SetWindow ticks) o e = clash _ (nothing-made o _ (makes_nothing-outcome base h t caller (SetWindow ticks) refl)) e
 
 create-deletes : (request : Request) (o : ObjectId) → is_create request ≡ true → is_deleted o request ≡ false
 create-deletes (Create number) o e = refl
@@ -158,6 +161,7 @@ create-deletes (PCreate name p) o e = cc
 create-deletes (PDelete purse name) o e = cc
 create-deletes (PList range after at) o e = cc
 create-deletes (PMount purse name at) o e = cc
+create-deletes (SetWindow ticks) o e = cc
 
 pub create_deletes_none : (request : Request) (o : ObjectId) → is_create request ≡ true → is_deleted o request ≡ false
 create_deletes_none = create-deletes
@@ -192,6 +196,7 @@ changed-lives base h t caller (PCreate name p) o e f = cc
 changed-lives base h t caller (PDelete purse name) o e f = cc
 changed-lives base h t caller (PList range after at) o e f = cc
 changed-lives base h t caller (PMount purse name at) o e f = cc
+changed-lives base h t caller (SetWindow ticks) o e f = cc
 changed-lives base h t caller (Delete p) o e f =
     let is : p ≡ o = cc in
     subst (λ q. lives_at t q h ≡ true) is (granted-lives p t h caller right.Delete (passes_judgement (judge h t caller p right.Delete None) (refuse_if (has_name p t h) Named >> Ok Done) e).0)
@@ -239,6 +244,7 @@ deleted-changed (PCreate name p) o e = cc
 deleted-changed (PDelete purse name) o e = cc
 deleted-changed (PList range after at) o e = cc
 deleted-changed (PMount purse name at) o e = cc
+deleted-changed (SetWindow ticks) o e = cc
 
 pub data-changed : (request : Request) (o : ObjectId) (old new : List ℕ) → data_effect o request old ≡ Some new → changed_by request ≡ Some o
 data-changed (Write p offset bytes) o old new e = same-changed p o (some-when (same_object p o) (written offset bytes old) new e).0
@@ -256,6 +262,7 @@ data-changed (PCreate name p) o old new e = cc
 data-changed (PDelete purse name) o old new e = cc
 data-changed (PList range after at) o old new e = cc
 data-changed (PMount purse name at) o old new e = cc
+data-changed (SetWindow ticks) o old new e = cc
 
 pub attributes-changed : (request : Request) (o : ObjectId) (old new : List ℕ) → attribute_effect o request old ≡ Some new → changed_by request ≡ Some o
 attributes-changed (SetAttr p bytes) o old new e = same-changed p o (some-when (same_object p o) bytes new e).0
@@ -273,6 +280,7 @@ attributes-changed (PCreate name p) o old new e = cc
 attributes-changed (PDelete purse name) o old new e = cc
 attributes-changed (PList range after at) o old new e = cc
 attributes-changed (PMount purse name at) o old new e = cc
+attributes-changed (SetWindow ticks) o old new e = cc
 
 pub acl-changed : (request : Request) (o : ObjectId) (old new : List AclEntry) → acl_effect o request old ≡ Some new → changed_by request ≡ Some o
 acl-changed (SetAcl p user rights) o old new e = same-changed p o (some-when (same_object p o) (acl_with user rights old) new e).0
@@ -290,6 +298,7 @@ acl-changed (PCreate name p) o old new e = cc
 acl-changed (PDelete purse name) o old new e = cc
 acl-changed (PList range after at) o old new e = cc
 acl-changed (PMount purse name at) o old new e = cc
+acl-changed (SetWindow ticks) o old new e = cc
 
 -- LENGTHS
 
@@ -332,6 +341,7 @@ data-fit base h t caller (PCreate name p) o e old new f is fits = cc
 data-fit base h t caller (PDelete purse name) o e old new f is fits = cc
 data-fit base h t caller (PList range after at) o e old new f is fits = cc
 data-fit base h t caller (PMount purse name at) o e old new f is fits = cc
+data-fit base h t caller (SetWindow ticks) o e old new f is fits = cc
 
 pub attributes-fit : (base : Base) (h : List Record) (t : ℕ) (caller : Caller) (request : Request) (o : ObjectId) → is_refused (answer base h t caller request) ≡ false
     → (old new : List ℕ) → attribute_effect o request old ≡ Some new → AttributesFit new
@@ -353,6 +363,7 @@ attributes-fit base h t caller (PCreate name p) o e old new f = cc
 attributes-fit base h t caller (PDelete purse name) o e old new f = cc
 attributes-fit base h t caller (PList range after at) o e old new f = cc
 attributes-fit base h t caller (PMount purse name at) o e old new f = cc
+attributes-fit base h t caller (SetWindow ticks) o e old new f = cc
 
 -- the entries that a SetAcl leaves, where it may be carried out
 entries-fit : (user rights : ℕ) (acl : List AclEntry) → is_ok (settable user rights acl) ≡ true → AclFits acl → AclFits (acl_with user rights acl)
@@ -391,6 +402,7 @@ acl-fit base h t caller (PCreate name p) o e old new f is fits = cc
 acl-fit base h t caller (PDelete purse name) o e old new f is fits = cc
 acl-fit base h t caller (PList range after at) o e old new f is fits = cc
 acl-fit base h t caller (PMount purse name at) o e old new f is fits = cc
+acl-fit base h t caller (SetWindow ticks) o e old new f is fits = cc
 
 -- TELLING
 
@@ -425,6 +437,7 @@ only_done-outcome base h t caller (PCreate name p) o e = cc
 only_done-outcome base h t caller (PDelete purse name) o e = cc
 only_done-outcome base h t caller (PList range after at) o e = cc
 only_done-outcome base h t caller (PMount purse name at) o e = cc
+only_done-outcome base h t caller (SetWindow ticks) o e = cc
 only_done-outcome base h t caller (Delete p) o e = done-then (judge h t caller p right.Delete None) _ (done-then (refuse_if (has_name p t h) Named) (Ok Done) refl)
 only_done-outcome base h t caller (Write p offset bytes) o e =
     done-then (refuse_if (nat_lt 4096 (offset + length bytes)) TooLong) _ (done-then (judge h t caller p right.Write None) (Ok Done) refl)

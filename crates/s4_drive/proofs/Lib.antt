@@ -1,4 +1,5 @@
 pub mod Living
+pub mod Told
 pub mod Naming
 pub mod Following
 pub mod Granting

@@ -8,6 +8,8 @@ use Rattle.s4_types.specs.declared.record.Record.{Record}
 use Rattle.s4_types.specs.declared.version.Version.{Version}
 use Rattle.s4_types.specs.declared.version.Item.{Item}
 use Rattle.s4_types.specs.Names.{same_object}
+use Rattle.s4_types.specs.Base.{opened}
+use Rattle.s4_types.specs.Horizon.{Guarded, guarded_at}
 use Rattle.s4_types.specs.Versions.{Value, makes}
 use Rattle.s4_types.specs.Bindings.{bindings_after, names_after, names_of}
 use Rattle.s4_types.specs.Answer.{drawn, draws}
@@ -48,6 +50,11 @@ Stands chains parts h = StandsFor (chains parts.store) (get object_cmp parts.obj
 -- what is kept stands for the history beside it
 abbrev pub IsKept : {S : Type 0} → (S → Chains Version) → Parts S → Type 0
 IsKept chains parts = Stands chains parts parts.history.items
+
+-- what a drive holds stands for its history: the objects and the names, and the window
+pub record IsHeld {S : Type 0} (chains : S → Chains Version) (parts : Parts S) (window : Guarded) : Type 0 where
+  pub kept : IsKept chains parts
+  pub window_is : window ≡ guarded_at (opened parts.window) parts.history.items
 
 -- the record makes no object, and draws no serial
 pub record MakesNone (r : Record) : Type 0 where

@@ -10,7 +10,6 @@ ghost use Rattle.s4_drive.specs.Sound.{IsSound, IsNext};
 ghost use Rattle.s4_drive.specs.Stands.{IsKept, Stands};
 
 use crate::change::put;
-use crate::moments::timely;
 use crate::objects::Which;
 use crate::parts::Parts;
 use s4_acl::{by_index, entry_of, set};
@@ -33,7 +32,6 @@ pub fn by_user_outcome<S: Store<Version>>(
     requires later { last_of parts.now.history.items ≤ moment }
     ensures { result ≡ entry_read_by_user parts.now.history.items moment caller object.now user at.now }
 {
-    timely(moment, *at)?;
     let grant = parts.judge(caller, object, Right::Read, *at)?;
     match entry_of(&parts.acl(object, *at), user) {
         Some((index, rights)) => Ok(Reply::Entry {
@@ -59,7 +57,6 @@ pub fn by_index_outcome<S: Store<Version>>(
     requires later { last_of parts.now.history.items ≤ moment }
     ensures { result ≡ entry_read_by_index parts.now.history.items moment caller object.now index at.now }
 {
-    timely(moment, *at)?;
     let grant = parts.judge(caller, object, Right::Read, *at)?;
     match by_index(&parts.acl(object, *at), index) {
         Some(entry) => Ok(Reply::Entry {

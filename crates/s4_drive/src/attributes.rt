@@ -11,7 +11,6 @@ ghost use Rattle.s4_drive.specs.Stands.{IsKept, Stands};
 ghost use Rattle.s4_drive.specs.Step.{IsOutcome};
 
 use crate::change::put;
-use crate::moments::timely;
 use crate::objects::Which;
 use crate::parts::Parts;
 use crate::read::copied;
@@ -35,7 +34,6 @@ pub fn get_outcome<S: Store<Version>>(
     requires later { last_of parts.now.history.items ≤ moment }
     ensures { IsOutcome result (attributes_read parts.now.history.items moment caller object.now at.now) }
 {
-    timely(moment, *at)?;
     let grant = parts.judge(caller, object, Right::Read, *at)?;
     let bytes = copied(alloc, parts.attributes(object, *at))?;
     Ok(Reply::Attr { grant, bytes })

@@ -17,6 +17,7 @@ mod read;
 mod step;
 mod truncate;
 mod values;
+mod window;
 mod write;
 
 pub use drive::Drive;

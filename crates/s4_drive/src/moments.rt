@@ -25,12 +25,13 @@ pub fn never_down(from: Moment, steps: &[Step]) -> bool
     true
 }
 
-/// Refuses a moment that is to come.
-pub fn timely(moment: Moment, at: Option<Moment>) -> Result<(), Refusal>
-    ensures { result ≡ timely_at moment at }
+/// Refuses a moment that is to come, and one below the horizon.
+pub fn timely(horizon: Moment, moment: Moment, at: Option<Moment>) -> Result<(), Refusal>
+    ensures { result ≡ timely_at horizon moment at }
 {
     match at {
         Some(at) if at > moment => Err(Refusal::Future),
+        Some(at) if at < horizon => Err(Refusal::TooOld { horizon }),
         _ => Ok(()),
     }
 }

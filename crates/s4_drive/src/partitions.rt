@@ -13,7 +13,6 @@ ghost use Rattle.s4_drive.specs.Sound.{IsSound, IsNext};
 ghost use Rattle.s4_drive.specs.Stands.{IsKept, Stands};
 ghost use Rattle.s4_drive.specs.Step.{IsOutcome};
 
-use crate::moments::timely;
 use crate::parts::Parts;
 use s4_parts::Visible;
 use s4_store::Store;
@@ -115,7 +114,6 @@ pub fn list_outcome<S: Store<Version>>(
     requires later { last_of parts.now.history.items ≤ moment }
     ensures { IsOutcome result (names_listed parts.now.history.items moment caller range after.now at.now) }
 {
-    timely(moment, *at)?;
     let mountable = Mountable {
         parts,
         moment,
@@ -147,7 +145,6 @@ pub fn mount_outcome<S: Store<Version>>(
     requires later { last_of parts.now.history.items ≤ moment }
     ensures { result ≡ name_mounted parts.now.history.items moment caller purse.now name.now at.now }
 {
-    timely(moment, *at)?;
     let Some(object) = parts.bound(purse, name, *at) else {
         return Err(unbound(caller, purse, Right::Read));
     };

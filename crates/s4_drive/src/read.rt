@@ -6,7 +6,6 @@ ghost use Rattle.s4_types.specs.Play.{last_of};
 ghost use Rattle.s4_drive.specs.Stands.{IsKept};
 ghost use Rattle.s4_drive.specs.Step.{IsOutcome};
 
-use crate::moments::timely;
 use crate::parts::Parts;
 use s4_store::Store;
 use s4_types::{Bytes, Caller, Moment, ObjectId, Refusal, Reply, Right, Version};
@@ -42,7 +41,6 @@ pub fn outcome<S: Store<Version>>(
     requires later { last_of parts.now.history.items ≤ moment }
     ensures { IsOutcome result (data_read parts.now.history.items moment caller object.now range.offset range.length range.at) }
 {
-    timely(moment, range.at)?;
     let grant = parts.judge(caller, object, Right::Read, range.at)?;
     let data = bytes_in_range(parts.data(object, range.at), range.offset, range.length);
     let bytes = copied(alloc, data)?;

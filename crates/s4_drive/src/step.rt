@@ -1,41 +1,64 @@
 //! One request: its answer, and what it changes. The answer comes first, and changes nothing.
 
 ghost use Rattle.std.specs.Prelude.{◌≡◌, ◌≤◌, false, IfOk, OnOk, OnErr, ◌++◌, ◌∷◌, []};
-ghost use Rattle.s4_types.specs.Answer.{answer as answer_of, outcome as outcome_of};
+ghost use Rattle.s4_types.specs.Answer.{answer as answer_of, outcome as outcome_of, outcome_by_kind as outcome_by_kind_of};
 ghost use Rattle.s4_types.specs.Base.{opened};
-ghost use Rattle.s4_types.specs.Play.{last_of, is_no_memory};
+ghost use Rattle.s4_types.specs.Horizon.{guarded_at};
+ghost use Rattle.s4_types.specs.Play.{last_of};
 ghost use Rattle.s4_drive.specs.Sound.{IsSound, IsNext};
 ghost use Rattle.s4_drive.specs.Stands.{IsKept, Stands};
 ghost use Rattle.s4_drive.specs.Step.{IsOutcome};
 
+use crate::moments::timely;
 use crate::parts::Parts;
 use crate::read::Range;
-use crate::{acl, append, attributes, create, delete, partitions, read, truncate, write};
+use crate::{acl, append, attributes, create, delete, partitions, read, truncate, window, write};
 use s4_store::Store;
 use s4_types::{Caller, Moment, NoMemory, Purse, Record, Refusal, Reply, Request, Version};
+use s4_window::Window;
 use std::alloc::{AllocError, Global};
 
 /// The reply that the history so far gives.
 pub fn answer<S: Store<Version>>(
     alloc: Global,
     parts: &Parts<S>,
+    window: &Window,
     moment: Moment,
     caller: Caller,
     request: &Request,
 ) -> Result<Reply, NoMemory>
     requires kept { IsKept S.chains parts.now }
+    requires window { window.now ≡ guarded_at (opened parts.now.window) parts.now.history.items }
     requires later { last_of parts.now.history.items ≤ moment }
     ensures { IfOk result (λ reply. reply ≡ answer_of (opened parts.now.window) parts.now.history.items moment caller request.now) }
 {
-    match outcome(alloc, parts, moment, caller, request) {
+    match outcome(alloc, parts, window, moment, caller, request) {
         Ok(reply) => Ok(reply),
         Err(Refusal::NoMemory) => Err(AllocError),
         Err(refusal) => Ok(Reply::Refused(refusal)),
     }
 }
 
-// What comes of the request, by its kind.
+// What comes of the request: a moment that it names is looked at first.
 fn outcome<S: Store<Version>>(
+    alloc: Global,
+    parts: &Parts<S>,
+    window: &Window,
+    moment: Moment,
+    caller: Caller,
+    request: &Request,
+) -> Result<Reply, Refusal>
+    requires kept { IsKept S.chains parts.now }
+    requires window { window.now ≡ guarded_at (opened parts.now.window) parts.now.history.items }
+    requires later { last_of parts.now.history.items ≤ moment }
+    ensures { IsOutcome result (outcome_of (opened parts.now.window) parts.now.history.items moment caller request.now) }
+{
+    timely(window.horizon(moment), moment, request.at())?;
+    outcome_by_kind(alloc, parts, moment, caller, request)
+}
+
+// What comes of the request, by its kind.
+fn outcome_by_kind<S: Store<Version>>(
     alloc: Global,
     parts: &Parts<S>,
     moment: Moment,
@@ -44,7 +67,7 @@ fn outcome<S: Store<Version>>(
 ) -> Result<Reply, Refusal>
     requires kept { IsKept S.chains parts.now }
     requires later { last_of parts.now.history.items ≤ moment }
-    ensures { IsOutcome result (outcome_of (opened parts.now.window) parts.now.history.items moment caller request.now) }
+    ensures { IsOutcome result (outcome_by_kind_of parts.now.history.items moment caller request.now) }
 {
     match request {
         Request::Create { number } => {
@@ -102,10 +125,11 @@ fn outcome<S: Store<Version>>(
         Request::PMount { purse, name, at } => {
             partitions::mount_outcome(parts, moment, caller, purse, name, at)
         }
+        Request::SetWindow { .. } => window::outcome(caller),
     }
 }
 
-/// Brings what is kept to where the record leaves it. Every growth comes before any change that a
+/// Brings what is kept of objects and names to where the record leaves it. Every growth comes before any change that a
 /// call tells; chains that were opened in vain are closed again.
 pub fn apply<S: Store<Version>>(
     alloc: Global,
@@ -134,7 +158,8 @@ pub fn apply<S: Store<Version>>(
         | Request::GetAclByUser { .. }
         | Request::GetAclByIndex { .. }
         | Request::PList { .. }
-        | Request::PMount { .. } => Ok(()),
+        | Request::PMount { .. }
+        | Request::SetWindow { .. } => Ok(()),
         Request::Write {
             object,
             offset,

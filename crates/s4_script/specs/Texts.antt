@@ -38,11 +38,12 @@ right_text right.Control = codes "control"
 right_text right.Recover = codes "recover"
 right_text right.Admin = codes "admin"
 
--- why a request was refused, and which right was wanted where one was
+-- why a request was refused: which right was wanted, and from which moment on there is an answer
 abbrev pub refusal_text : Refusal → List ℕ
 refusal_text (refusal.Denied wanted) = codes "denied " ++ right_text wanted
 refusal_text refusal.NoObject = codes "no-object"
 refusal_text refusal.Future = codes "future"
+refusal_text (refusal.TooOld horizon) = codes "too-old " ++ decimal horizon
 refusal_text refusal.TooLong = codes "too-long"
 refusal_text refusal.AclFull = codes "acl-full"
 refusal_text refusal.NoEntry = codes "no-entry"

@@ -177,6 +177,10 @@ impl fmt::Display for RefusalText {
             Refusal::Denied(right) => write!(f, "denied {}", RightText(right)),
             Refusal::NoObject => write!(f, "no-object"),
             Refusal::Future => write!(f, "future"),
+            Refusal::TooOld { horizon } => {
+                let horizon = horizon.tick();
+                write!(f, "too-old {horizon}")
+            }
             Refusal::TooLong => write!(f, "too-long"),
             Refusal::AclFull => write!(f, "acl-full"),
             Refusal::NoEntry => write!(f, "no-entry"),

@@ -23,6 +23,7 @@ pub fn parse_request(alloc: Global, verb: &str, words: &[&str]) -> Result<Reques
         ("pdelete", [purse, name]) => pdelete(purse, name),
         ("plist", [range, place @ ..]) => plist(range, place),
         ("pmount", [purse, name, at @ ..]) => pmount(purse, name, at),
+        ("setwindow", [ticks]) => set_window(ticks),
         _ => Err(ParseError::Bad),
     }
 }
@@ -141,5 +142,11 @@ fn pmount(purse: &str, name: &str, at: &[&str]) -> Result<Request, ParseError> {
         purse: words::purse(purse)?,
         name: words::name(name)?,
         at: words::at(at)?,
+    })
+}
+
+fn set_window(ticks: &str) -> Result<Request, ParseError> {
+    Ok(Request::SetWindow {
+        ticks: words::number(ticks)?,
     })
 }

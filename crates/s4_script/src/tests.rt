@@ -26,7 +26,7 @@ fn good_lines(rt: HostRuntime) -> Result<(), Fail> {
 }
 
 /// Lines after the first that spell nothing.
-const BAD_LINES: [&str; 92] = [
+const BAD_LINES: [&str; 97] = [
     "0",
     "0 7",
     "0 7 ",
@@ -117,6 +117,11 @@ const BAD_LINES: [&str; 92] = [
     "0 7 pmount 7.0 home at",
     "0 7 pmount 7.0 home 0",
     "0 7 pmount 7.0 HOME",
+    "0 0 setwindow",
+    "0 0 setwindow -1",
+    "0 0 setwindow 18446744073709551616",
+    "0 0 setwindow 7.0 1",
+    "0 0 setwindow 1 at 0",
     "sweep 1",
     "used",
 ];
@@ -143,6 +148,11 @@ fn texts_of_replies(rt: HostRuntime) -> Result<(), Fail> {
     assert_eq!(rt; text.as_str(), "made 7.15.65535");
     let text = ReplyText(&Reply::Done).to_string(alloc)?;
     assert_eq!(rt; text.as_str(), "done");
+    let refused = Reply::Refused(Refusal::TooOld {
+        horizon: Moment::new(u64::MAX),
+    });
+    let text = ReplyText(&refused).to_string(alloc)?;
+    assert_eq!(rt; text.as_str(), "too-old 18446744073709551615");
     let entry = Reply::Entry {
         grant: Grant::Admin,
         index: 15,

@@ -5,12 +5,12 @@ use Rattle.s4_types.specs.declared.object.Purse.{Purse}
 use Rattle.s4_types.specs.declared.object.ObjectId.{ObjectId}
 use Rattle.s4_types.specs.declared.rights.Right.TheVariants as right
 use Rattle.s4_types.specs.declared.request.Request.{Request}
-use Rattle.s4_types.specs.declared.request.Request.TheVariants.{Create, Delete, Read, Write, Append, Truncate, GetAttr, GetAclByUser, GetAclByIndex, SetAcl, PCreate, PDelete, PList, PMount}
+use Rattle.s4_types.specs.declared.request.Request.TheVariants.{Create, Delete, Read, Write, Append, Truncate, GetAttr, GetAclByUser, GetAclByIndex, SetAcl, PCreate, PDelete, PList, PMount, SetWindow}
 use Rattle.s4_types.specs.declared.request.After.{After}
 use Rattle.s4_types.specs.declared.reply.Grant.{Grant}
 use Rattle.s4_types.specs.declared.reply.Grant.TheVariants as grant
 use Rattle.s4_types.specs.declared.reply.NameLine.{NameLine}
-use Rattle.s4_types.specs.declared.reply.Refusal.TheVariants.{Denied, NoObject, Future, TooLong, AclFull, NoEntry, NoPartition, Exists, Named}
+use Rattle.s4_types.specs.declared.reply.Refusal.TheVariants.{Denied, NoObject, Future, TooOld, TooLong, AclFull, NoEntry, NoPartition, Exists, Named}
 use Rattle.s4_types.specs.declared.reply.Reply.TheVariants.{Done, Made, Data, Attr, Entry, Mounted, Names, Refused}
 use Rattle.s4_types.specs.declared.record.Step.{Step}
 use Rattle.s4_types.specs.declared.record.Step.TheVariants as step
@@ -404,3 +404,54 @@ binding begin end serial = record { begin = begin; end = end; value = serial }
 pub bound_again : bindings (purse 7 0) home (play (opened 100) name_bound_again_steps) ≡
     binding 2 None 2 ∷ binding 2 (Some 2) 1 ∷ []
 bound_again = refl
+
+-- a larger window brings nothing back: the horizon stays where it was
+abbrev larger_window_steps : List Step
+larger_window_steps =
+    ask 10 7 (Create 0)
+    ∷ ask 100 0 (SetWindow 1000)
+    ∷ ask 101 7 (Read (object 7 0 1) 0 1 (Some 49))
+    ∷ ask 101 7 (Read (object 7 0 1) 0 1 (Some 50))
+    ∷ []
+
+pub larger_window_brings_nothing_back : replies (play (opened 50) larger_window_steps) ≡
+    Made (object 7 0 1)
+    ∷ Done
+    ∷ Refused (TooOld 50)
+    ∷ Data (grant.Entry 0 10) []
+    ∷ []
+larger_window_brings_nothing_back = refl
+
+-- a smaller window acts at once
+abbrev smaller_window_steps : List Step
+smaller_window_steps =
+    ask 10 7 (Create 0)
+    ∷ ask 100 0 (SetWindow 10)
+    ∷ ask 100 7 (Read (object 7 0 1) 0 1 (Some 89))
+    ∷ ask 100 7 (Read (object 7 0 1) 0 1 (Some 90))
+    ∷ []
+
+pub smaller_window_acts_at_once : replies (play (opened 50) smaller_window_steps) ≡
+    Made (object 7 0 1)
+    ∷ Done
+    ∷ Refused (TooOld 90)
+    ∷ Data (grant.Entry 0 10) []
+    ∷ []
+smaller_window_acts_at_once = refl
+
+-- only the administrator sets the window, and a refused request sets none
+abbrev window_of_another_steps : List Step
+window_of_another_steps =
+    ask 10 7 (Create 0)
+    ∷ ask 100 7 (SetWindow 10)
+    ∷ ask 100 7 (Read (object 7 0 1) 0 1 (Some 49))
+    ∷ ask 100 7 (Read (object 7 0 1) 0 1 (Some 50))
+    ∷ []
+
+pub window_of_another : replies (play (opened 50) window_of_another_steps) ≡
+    Made (object 7 0 1)
+    ∷ Refused (Denied right.Admin)
+    ∷ Refused (TooOld 50)
+    ∷ Data (grant.Entry 0 10) []
+    ∷ []
+window_of_another = refl

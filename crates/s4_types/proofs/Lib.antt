@@ -5,4 +5,5 @@ pub mod Outcomes
 pub mod Examples
 pub mod OfPurse
 pub mod Applying
+pub mod Windows
 pub mod Entries

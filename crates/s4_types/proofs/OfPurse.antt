@@ -14,7 +14,7 @@ use Rattle.s4_types.specs.Versions.{Track, Value, in_force_by, versions, version
 use Rattle.s4_types.proofs.Booleans.{by_test}
 
 -- records that a step passes over may be left out
-fold-filter : {A X : Type 0} (p : X → Bool) (step : A → X → A) → ((a : A) (x : X) → p x ≡ false → step a x ≡ a) → (a : A) (xs : List X) → fold step a (filter p xs) ≡ fold step a xs
+pub fold-filter : {A X : Type 0} (p : X → Bool) (step : A → X → A) → ((a : A) (x : X) → p x ≡ false → step a x ≡ a) → (a : A) (xs : List X) → fold step a (filter p xs) ≡ fold step a xs
 fold-filter p step idle a [] = refl
 fold-filter p step idle a (x ∷ xs) = by_test (p x)
     (λ e. ap (λ b. fold step a (cond b (x ∷ filter p xs) (filter p xs))) e ∙ fold-filter p step idle (step a x) xs)

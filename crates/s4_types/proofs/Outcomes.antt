@@ -9,21 +9,22 @@ use Rattle.s4_types.specs.declared.rights.Right.TheVariants as right
 use Rattle.s4_types.specs.Names.{object_in}
 use Rattle.s4_types.specs.declared.rights.Right.{Right}
 use Rattle.s4_types.specs.declared.request.Request.{Request}
-use Rattle.s4_types.specs.declared.request.Request.TheVariants.{Create, Delete, Read, Write, Append, Truncate, GetAttr, SetAttr, GetAclByUser, GetAclByIndex, SetAcl, PCreate, PDelete, PList, PMount}
+use Rattle.s4_types.specs.declared.request.Request.TheVariants.{Create, Delete, Read, Write, Append, Truncate, GetAttr, SetAttr, GetAclByUser, GetAclByIndex, SetAcl, PCreate, PDelete, PList, PMount, SetWindow}
 use Rattle.s4_types.specs.declared.reply.Grant.{Grant}
 use Rattle.s4_types.specs.declared.reply.Grant.TheVariants as grant
 use Rattle.s4_types.specs.declared.reply.Refusal.{Refusal}
-use Rattle.s4_types.specs.declared.reply.Refusal.TheVariants.{Denied, NoObject, Future, TooLong, AclFull, NoEntry, NamesSpent, NoPartition, Exists, PartsFull, Named, NoMemory}
+use Rattle.s4_types.specs.declared.reply.Refusal.TheVariants.{Denied, NoObject, Future, TooOld, TooLong, AclFull, NoEntry, NamesSpent, NoPartition, Exists, PartsFull, Named, NoMemory}
 use Rattle.s4_types.specs.declared.reply.Reply.{Reply}
 use Rattle.s4_types.specs.declared.reply.Reply.TheVariants.{Done, Made, Data, Attr, Entry, Mounted, Names, Refused}
 use Rattle.s4_types.specs.declared.record.Record.{Record}
 use Rattle.s4_types.specs.Rights.{has}
-use Rattle.s4_types.specs.Kinds.{is_refused}
+use Rattle.s4_types.specs.Kinds.{is_refused, at_of}
 use Rattle.s4_types.specs.Judgement.{Held, Found, judge, judge_now, judge_past, judge_by_entry, judge_past_by_entry, needs_control, entry_of, held_at, may_know}
 use Rattle.s4_types.specs.Outcome.{◌>>=◌, ◌>>◌, refuse_if, reply_of}
 use Rattle.s4_types.specs.Base.{Base}
+use Rattle.s4_types.specs.Horizon.{horizon_at}
 use Rattle.s4_types.specs.Acl.{names}
-use Rattle.s4_types.specs.Answer.{answer, outcome, drawn, timely, moment_of, data_of, attributes_of, acl_of, entry_by_user, entry_by_index, settable, found_bound, lines_in, purse_numbers, page_of}
+use Rattle.s4_types.specs.Answer.{answer, outcome, outcome_by_kind, drawn, timely, moment_of, data_of, attributes_of, acl_of, entry_by_user, entry_by_index, settable, found_bound, lines_in, purse_numbers, page_of}
 use Rattle.s4_types.specs.Bindings.{bound_at, bound_count, has_name}
 use Rattle.s4_types.specs.Play.{is_no_memory}
 
@@ -79,13 +80,14 @@ plain-judge_past : (caller : Caller) (o : ObjectId) (held : Option Held) → is_
 plain-judge_past caller o None = plain-absent right.Read (may_know caller o.purse.creator)
 plain-judge_past caller o (Some held) = plain-either (caller.who == 0) (Ok grant.Admin) (judge_past_by_entry held (entry_of caller.who held.acl)) refl (plain-past held (entry_of caller.who held.acl))
 
-plain-timely : (t : ℕ) (at : Option ℕ) → is_plain (timely t at) ≡ true
-plain-timely t None = refl
-plain-timely t (Some m) = plain-refuse (nat_lt t m)
+plain-timely : (horizon t : ℕ) (at : Option ℕ) → is_plain (timely horizon t at) ≡ true
+plain-timely horizon t None = refl
+plain-timely horizon t (Some m) = of (nat_lt t m) (nat_lt m horizon)
   where
-    plain-refuse : (b : Bool) → is_plain (refuse_if b Future) ≡ true
-    plain-refuse true = refl
-    plain-refuse false = refl
+    of : (a b : Bool) → is_plain (refuse_if a Future >> refuse_if b (TooOld horizon)) ≡ true
+    of true b = refl
+    of false true = refl
+    of false false = refl
 
 plain-judge_now : (caller : Caller) (o : ObjectId) (needed : Right) (held : Option Held) → is_plain (judge_now caller o needed held) ≡ true
 plain-judge_now caller o needed None = plain-absent needed (may_know caller o.purse.creator)
@@ -141,61 +143,60 @@ plain-found caller purse needed None = of (may_know caller purse.creator)
     of true = refl
     of false = refl
 
-pub told-outcome : (base : Base) (h : List Record) (t : ℕ) (caller : Caller) (request : Request) → is_told (outcome base h t caller request) ≡ true
-told-outcome base h t caller (Create number) =
+told-by-kind : (h : List Record) (t : ℕ) (caller : Caller) (request : Request) → is_told (outcome_by_kind h t caller request) ≡ true
+told-by-kind h t caller (Create number) =
     let purse : Purse = record { creator = caller.who; number = number } in
     told-test (nat_le 65535 (drawn purse h)) NamesSpent (Ok (Made (object_in purse (drawn purse h + 1)))) refl refl
-told-outcome base h t caller (Delete o) =
+told-by-kind h t caller (Delete o) =
     told-then (judge h t caller o right.Delete None) (refuse_if (has_name o t h) Named >> Ok Done) (plain-judge h t caller o right.Delete None)
     (told-test (has_name o t h) Named (Ok Done) refl refl)
-told-outcome base h t caller (Read o offset length at) =
-    told-then (timely t at) (judge h t caller o right.Read at >>= λ g. Ok (Data g (take length (drop offset (data_of o (moment_of t at) h))))) (plain-timely t at)
-    (told-bind (judge h t caller o right.Read at) (λ g. Ok (Data g (take length (drop offset (data_of o (moment_of t at) h))))) (plain-judge h t caller o right.Read at) (λ g. refl))
-told-outcome base h t caller (Write o offset bytes) =
+told-by-kind h t caller (Read o offset length at) =
+    told-bind (judge h t caller o right.Read at) (λ g. Ok (Data g (take length (drop offset (data_of o (moment_of t at) h))))) (plain-judge h t caller o right.Read at) (λ g. refl)
+told-by-kind h t caller (Write o offset bytes) =
     told-test (nat_lt 4096 (offset + length bytes)) TooLong (judge h t caller o right.Write None >> Ok Done) refl
     (told-then (judge h t caller o right.Write None) (Ok Done) (plain-judge h t caller o right.Write None) refl)
-told-outcome base h t caller (Append o bytes) =
+told-by-kind h t caller (Append o bytes) =
     told-test (nat_lt 4096 (length bytes)) TooLong (judge h t caller o right.Write None >> (refuse_if (nat_lt 4096 (length (data_of o t h) + length bytes)) TooLong >> Ok Done)) refl
     (told-then (judge h t caller o right.Write None) (refuse_if (nat_lt 4096 (length (data_of o t h) + length bytes)) TooLong >> Ok Done) (plain-judge h t caller o right.Write None)
     (told-test (nat_lt 4096 (length (data_of o t h) + length bytes)) TooLong (Ok Done) refl refl))
-told-outcome base h t caller (Truncate o length) =
+told-by-kind h t caller (Truncate o length) =
     told-test (nat_lt 4096 length) TooLong (judge h t caller o right.Write None >> Ok Done) refl
     (told-then (judge h t caller o right.Write None) (Ok Done) (plain-judge h t caller o right.Write None) refl)
-told-outcome base h t caller (GetAttr o at) =
-    told-then (timely t at) (judge h t caller o right.Read at >>= λ g. Ok (Attr g (attributes_of o (moment_of t at) h))) (plain-timely t at)
-    (told-bind (judge h t caller o right.Read at) (λ g. Ok (Attr g (attributes_of o (moment_of t at) h))) (plain-judge h t caller o right.Read at) (λ g. refl))
-told-outcome base h t caller (SetAttr o bytes) =
+told-by-kind h t caller (GetAttr o at) =
+    told-bind (judge h t caller o right.Read at) (λ g. Ok (Attr g (attributes_of o (moment_of t at) h))) (plain-judge h t caller o right.Read at) (λ g. refl)
+told-by-kind h t caller (SetAttr o bytes) =
     told-test (nat_lt 256 (length bytes)) TooLong (judge h t caller o right.Write None >> Ok Done) refl
     (told-then (judge h t caller o right.Write None) (Ok Done) (plain-judge h t caller o right.Write None) refl)
-told-outcome base h t caller (GetAclByUser o user at) =
+told-by-kind h t caller (GetAclByUser o user at) =
     let next : Grant → Result Reply Refusal = λ g. entry_by_user g user (entry_of user (acl_of o (moment_of t at) h)) in
-    told-then (timely t at) (judge h t caller o right.Read at >>= next) (plain-timely t at)
-    (told-bind (judge h t caller o right.Read at) next (plain-judge h t caller o right.Read at) (λ g. told-user g user (entry_of user (acl_of o (moment_of t at) h))))
-told-outcome base h t caller (GetAclByIndex o index at) =
+    told-bind (judge h t caller o right.Read at) next (plain-judge h t caller o right.Read at) (λ g. told-user g user (entry_of user (acl_of o (moment_of t at) h)))
+told-by-kind h t caller (GetAclByIndex o index at) =
     let next : Grant → Result Reply Refusal = λ g. entry_by_index g index (slice_get (acl_of o (moment_of t at) h) index) in
-    told-then (timely t at) (judge h t caller o right.Read at >>= next) (plain-timely t at)
-    (told-bind (judge h t caller o right.Read at) next (plain-judge h t caller o right.Read at) (λ g. told-index g index (slice_get (acl_of o (moment_of t at) h) index)))
-told-outcome base h t caller (SetAcl o user rights) =
+    told-bind (judge h t caller o right.Read at) next (plain-judge h t caller o right.Read at) (λ g. told-index g index (slice_get (acl_of o (moment_of t at) h) index))
+told-by-kind h t caller (SetAcl o user rights) =
     told-then (judge h t caller o right.Control None) (settable user rights (acl_of o t h) >> Ok Done) (plain-judge h t caller o right.Control None)
     (told-then (settable user rights (acl_of o t h)) (Ok Done) (plain-settable user rights (acl_of o t h)) refl)
-told-outcome base h t caller (PCreate name o) =
+told-by-kind h t caller (PCreate name o) =
     let taken : Bool = is_some (bound_at o.purse name t h) in
     let full : Bool = nat_le 64 (bound_count o.purse t h) in
     told-then (judge h t caller o right.Control None) (refuse_if taken Exists >> (refuse_if full PartsFull >> Ok Done)) (plain-judge h t caller o right.Control None)
     (told-test taken Exists (refuse_if full PartsFull >> Ok Done) refl (told-test full PartsFull (Ok Done) refl refl))
-told-outcome base h t caller (PDelete purse name) =
+told-by-kind h t caller (PDelete purse name) =
     let next : ℕ → Result Reply Refusal = λ serial. judge h t caller (object_in purse serial) right.Control None >> Ok Done in
     told-bind (found_bound caller purse right.Control (bound_at purse name t h)) next (plain-found caller purse right.Control (bound_at purse name t h))
     (λ serial. told-then (judge h t caller (object_in purse serial) right.Control None) (Ok Done) (plain-judge h t caller (object_in purse serial) right.Control None) refl)
-told-outcome base h t caller (PList range after at) =
-    told-then (timely t at) (Ok (page_of (flat_map (lines_in h t caller range after at) purse_numbers))) (plain-timely t at) refl
-told-outcome base h t caller (PMount purse name at) =
+told-by-kind h t caller (PList range after at) = refl
+told-by-kind h t caller (PMount purse name at) =
     let found : Result ℕ Refusal = found_bound caller purse right.Read (bound_at purse name (moment_of t at) h) in
     let last : ℕ → Grant → Result Reply Refusal = λ serial grant. Ok (Mounted grant (object_in purse serial)) in
     let next : ℕ → Result Reply Refusal = λ serial. judge h t caller (object_in purse serial) right.Read at >>= last serial in
-    told-then (timely t at) (found >>= next) (plain-timely t at)
-    (told-bind found next (plain-found caller purse right.Read (bound_at purse name (moment_of t at) h))
-    (λ serial. told-bind (judge h t caller (object_in purse serial) right.Read at) (last serial) (plain-judge h t caller (object_in purse serial) right.Read at) (λ g. refl)))
+    told-bind found next (plain-found caller purse right.Read (bound_at purse name (moment_of t at) h))
+    (λ serial. told-bind (judge h t caller (object_in purse serial) right.Read at) (last serial) (plain-judge h t caller (object_in purse serial) right.Read at) (λ g. refl))
+told-by-kind h t caller (SetWindow ticks) = told-test (not (caller.who == 0)) (Denied right.Admin) (Ok Done) refl refl
+
+pub told-outcome : (base : Base) (h : List Record) (t : ℕ) (caller : Caller) (request : Request) → is_told (outcome base h t caller request) ≡ true
+told-outcome base h t caller request =
+    told-then (timely (horizon_at base h t) t (at_of request)) (outcome_by_kind h t caller request) (plain-timely (horizon_at base h t) t (at_of request)) (told-by-kind h t caller request)
 
 replied : (r : Result Reply Refusal) → is_told r ≡ true → is_no_memory (reply_of r) ≡ false
 replied (Ok Done) e = refl
@@ -210,6 +211,7 @@ replied (Err NoMemory) e = cc
 replied (Err (Denied right)) e = refl
 replied (Err NoObject) e = refl
 replied (Err Future) e = refl
+replied (Err (TooOld horizon)) e = refl
 replied (Err TooLong) e = refl
 replied (Err AclFull) e = refl
 replied (Err NoEntry) e = refl

@@ -1,5 +1,5 @@
 -- What the drive answers a request, from the list of all earlier records.
-use Rattle.std.specs.Prelude.{ℕ, Bool, true, ◌∷◌, is_some, filter, filter_map, flat_map, ◌+◌, ◌==◌, ◌&&◌, ◌||◌, nat_lt, nat_le, Option, Some, None, Result, Ok, Err, List, [], length, take, drop, slice_get, count_by, if◌then◌else◌}
+use Rattle.std.specs.Prelude.{ℕ, Bool, true, not, ◌∷◌, is_some, filter, filter_map, flat_map, ◌+◌, ◌==◌, ◌&&◌, ◌||◌, nat_lt, nat_le, Option, Some, None, Result, Ok, Err, List, [], length, take, drop, slice_get, count_by, if◌then◌else◌}
 use Rattle.s4_types.specs.declared.principal.Caller.{Caller}
 use Rattle.s4_types.specs.declared.object.Purse.{Purse}
 use Rattle.s4_types.specs.declared.object.ObjectId.{ObjectId}
@@ -8,17 +8,17 @@ use Rattle.s4_types.specs.declared.rights.Right.{Right}
 use Rattle.s4_types.specs.declared.rights.Right.TheVariants as right
 use Rattle.std.specs.Ordering.{is_lt}
 use Rattle.s4_types.specs.declared.request.Request.{Request}
-use Rattle.s4_types.specs.declared.request.Request.TheVariants.{Create, Delete, Read, Write, Append, Truncate, GetAttr, SetAttr, GetAclByUser, GetAclByIndex, SetAcl, PCreate, PDelete, PList, PMount}
+use Rattle.s4_types.specs.declared.request.Request.TheVariants.{Create, Delete, Read, Write, Append, Truncate, GetAttr, SetAttr, GetAclByUser, GetAclByIndex, SetAcl, PCreate, PDelete, PList, PMount, SetWindow}
 use Rattle.s4_types.specs.declared.reply.Grant.{Grant}
 use Rattle.s4_types.specs.declared.reply.NameLine.{NameLine}
 use Rattle.s4_types.specs.declared.request.After.{After}
 use Rattle.s4_types.specs.declared.reply.Refusal.{Refusal}
-use Rattle.s4_types.specs.declared.reply.Refusal.TheVariants.{Future, TooLong, AclFull, NoEntry, NamesSpent, NoPartition, Exists, PartsFull, Named}
+use Rattle.s4_types.specs.declared.reply.Refusal.TheVariants.{Denied, Future, TooOld, TooLong, AclFull, NoEntry, NamesSpent, NoPartition, Exists, PartsFull, Named}
 use Rattle.s4_types.specs.declared.reply.Reply.{Reply}
 use Rattle.s4_types.specs.declared.reply.Reply.TheVariants.{Done, Made, Data, Attr, Entry, Mounted, Names}
 use Rattle.s4_types.specs.declared.record.Record.{Record}
 use Rattle.s4_types.specs.Names.{object_in}
-use Rattle.s4_types.specs.Kinds.{is_create, concerns}
+use Rattle.s4_types.specs.Kinds.{is_create, concerns, at_of}
 use Rattle.s4_types.specs.Versions.{Value, value_at, data_track, attribute_track, acl_track}
 use Rattle.s4_types.specs.Acl.{names}
 use Rattle.s4_types.specs.Name.{name_cmp}
@@ -26,13 +26,16 @@ use Rattle.s4_types.specs.Bindings.{bound_at, bound_count, has_name, names_of}
 use Rattle.s4_types.specs.Judgement.{Found, entry_of, denied_absent, judge}
 use Rattle.s4_types.specs.Outcome.{◌>>=◌, ◌>>◌, refuse_if, reply_of}
 use Rattle.s4_types.specs.Base.{Base}
+use Rattle.s4_types.specs.Horizon.{horizon_at}
 
 -- TESTS
 
--- a moment that the request names may not be to come
-abbrev pub timely : ℕ → Option ℕ → Result (Unit {0}) Refusal
-timely t None = Ok tt
-timely t (Some m) = refuse_if (nat_lt t m) Future
+-- a moment that the request names may be neither to come nor below the horizon
+abbrev pub timely : ℕ → ℕ → Option ℕ → Result (Unit {0}) Refusal
+timely horizon t None = Ok tt
+timely horizon t (Some m) = do
+  refuse_if (nat_lt t m) Future
+  refuse_if (nat_lt m horizon) (TooOld horizon)
 
 -- the moment that a request speaks of
 abbrev pub moment_of : ℕ → Option ℕ → ℕ
@@ -75,13 +78,11 @@ created h purse = do
 
 abbrev pub data_read : List Record → ℕ → Caller → ObjectId → ℕ → ℕ → Option ℕ → Result Reply Refusal
 data_read h t caller o offset length at = do
-  timely t at
   grant ← judge h t caller o right.Read at
   Ok (Data grant (take length (drop offset (data_of o (moment_of t at) h))))
 
 abbrev pub attributes_read : List Record → ℕ → Caller → ObjectId → Option ℕ → Result Reply Refusal
 attributes_read h t caller o at = do
-  timely t at
   grant ← judge h t caller o right.Read at
   Ok (Attr grant (attributes_of o (moment_of t at) h))
 
@@ -91,7 +92,6 @@ entry_by_user grant user (Some found) = Ok (Entry grant found.index user found.r
 
 abbrev pub entry_read_by_user : List Record → ℕ → Caller → ObjectId → ℕ → Option ℕ → Result Reply Refusal
 entry_read_by_user h t caller o user at = do
-  timely t at
   grant ← judge h t caller o right.Read at
   entry_by_user grant user (entry_of user (acl_of o (moment_of t at) h))
 
@@ -101,7 +101,6 @@ entry_by_index grant index (Some entry) = Ok (Entry grant index entry.who entry.
 
 abbrev pub entry_read_by_index : List Record → ℕ → Caller → ObjectId → ℕ → Option ℕ → Result Reply Refusal
 entry_read_by_index h t caller o index at = do
-  timely t at
   grant ← judge h t caller o right.Read at
   entry_by_index grant index (slice_get (acl_of o (moment_of t at) h) index)
 
@@ -172,7 +171,6 @@ name_unbound h t caller purse name = do
 
 abbrev pub name_mounted : List Record → ℕ → Caller → Purse → List ℕ → Option ℕ → Result Reply Refusal
 name_mounted h t caller purse name at = do
-  timely t at
   serial ← found_bound caller purse right.Read (bound_at purse name (moment_of t at) h)
   grant ← judge h t caller (object_in purse serial) right.Read at
   Ok (Mounted grant (object_in purse serial))
@@ -209,29 +207,43 @@ abbrev pub page_of : List NameLine → Reply
 page_of lines = Names (take 64 lines) (nat_lt 64 (length lines))
 
 abbrev pub names_listed : List Record → ℕ → Caller → ℕ → Option After → Option ℕ → Result Reply Refusal
-names_listed h t caller range after at = do
-  timely t at
-  Ok (page_of (flat_map (lines_in h t caller range after at) purse_numbers))
+names_listed h t caller range after at =
+    Ok (page_of (flat_map (lines_in h t caller range after at) purse_numbers))
+
+-- THE ADMINISTRATOR'S REQUESTS
+
+-- whoever else asks is told the right that he lacks
+abbrev pub window_set : Caller → Result Reply Refusal
+window_set caller = do
+  refuse_if (not (caller.who == 0)) (Denied right.Admin)
+  Ok Done
 
 -- ALL REQUESTS
 
--- each request's tests in a row, and what it is told where none fails
+-- by the request's kind: its tests in a row, and what it is told where none fails
+abbrev pub outcome_by_kind : List Record → ℕ → Caller → Request → Result Reply Refusal
+outcome_by_kind h t caller (Create number) = created h (record { creator = caller.who; number = number })
+outcome_by_kind h t caller (Delete o) = deleted h t caller o
+outcome_by_kind h t caller (Read o offset length at) = data_read h t caller o offset length at
+outcome_by_kind h t caller (Write o offset bytes) = data_written h t caller o offset bytes
+outcome_by_kind h t caller (Append o bytes) = data_appended h t caller o bytes
+outcome_by_kind h t caller (Truncate o length) = data_truncated h t caller o length
+outcome_by_kind h t caller (GetAttr o at) = attributes_read h t caller o at
+outcome_by_kind h t caller (SetAttr o bytes) = attributes_set h t caller o bytes
+outcome_by_kind h t caller (GetAclByUser o user at) = entry_read_by_user h t caller o user at
+outcome_by_kind h t caller (GetAclByIndex o index at) = entry_read_by_index h t caller o index at
+outcome_by_kind h t caller (SetAcl o user rights) = acl_set h t caller o user rights
+outcome_by_kind h t caller (PCreate name o) = name_bound h t caller name o
+outcome_by_kind h t caller (PDelete purse name) = name_unbound h t caller purse name
+outcome_by_kind h t caller (PList range after at) = names_listed h t caller range after at
+outcome_by_kind h t caller (PMount purse name at) = name_mounted h t caller purse name at
+outcome_by_kind h t caller (SetWindow ticks) = window_set caller
+
+-- a moment that the request names is looked at first; no request that names one has a limit on its size
 abbrev pub outcome : Base → List Record → ℕ → Caller → Request → Result Reply Refusal
-outcome base h t caller (Create number) = created h (record { creator = caller.who; number = number })
-outcome base h t caller (Delete o) = deleted h t caller o
-outcome base h t caller (Read o offset length at) = data_read h t caller o offset length at
-outcome base h t caller (Write o offset bytes) = data_written h t caller o offset bytes
-outcome base h t caller (Append o bytes) = data_appended h t caller o bytes
-outcome base h t caller (Truncate o length) = data_truncated h t caller o length
-outcome base h t caller (GetAttr o at) = attributes_read h t caller o at
-outcome base h t caller (SetAttr o bytes) = attributes_set h t caller o bytes
-outcome base h t caller (GetAclByUser o user at) = entry_read_by_user h t caller o user at
-outcome base h t caller (GetAclByIndex o index at) = entry_read_by_index h t caller o index at
-outcome base h t caller (SetAcl o user rights) = acl_set h t caller o user rights
-outcome base h t caller (PCreate name o) = name_bound h t caller name o
-outcome base h t caller (PDelete purse name) = name_unbound h t caller purse name
-outcome base h t caller (PList range after at) = names_listed h t caller range after at
-outcome base h t caller (PMount purse name at) = name_mounted h t caller purse name at
+outcome base h t caller request = do
+  timely (horizon_at base h t) t (at_of request)
+  outcome_by_kind h t caller request
 
 -- the reply to a request at the moment t, after the records h that came since the base
 abbrev pub answer : Base → List Record → ℕ → Caller → Request → Reply

@@ -1,9 +1,9 @@
 -- What a request is about, and which records stand for a change.
-use Rattle.std.specs.Prelude.{ℕ, Bool, true, false, not, ◌&&◌, Option, Some, None}
+use Rattle.std.specs.Prelude.{ℕ, Bool, true, false, not, ◌&&◌, ◌==◌, Option, Some, None}
 use Rattle.s4_types.specs.declared.principal.Caller.{Caller}
 use Rattle.s4_types.specs.declared.object.Purse.{Purse}
 use Rattle.s4_types.specs.declared.request.Request.{Request}
-use Rattle.s4_types.specs.declared.request.Request.TheVariants.{Create, Delete, Read, Write, Append, Truncate, GetAttr, SetAttr, GetAclByUser, GetAclByIndex, SetAcl, PCreate, PDelete, PList, PMount}
+use Rattle.s4_types.specs.declared.request.Request.TheVariants.{Create, Delete, Read, Write, Append, Truncate, GetAttr, SetAttr, GetAclByUser, GetAclByIndex, SetAcl, PCreate, PDelete, PList, PMount, SetWindow}
 use Rattle.s4_types.specs.declared.reply.Reply.{Reply}
 use Rattle.s4_types.specs.declared.reply.Reply.TheVariants.{Refused}
 use Rattle.s4_types.specs.declared.record.Record.{Record}
@@ -41,6 +41,22 @@ purse_of caller (PCreate name o) = Some o.purse
 purse_of caller (PDelete purse name) = Some purse
 purse_of caller (PList range after at) = None
 purse_of caller (PMount purse name at) = Some purse
+purse_of caller (SetWindow ticks) = None
+
+-- whether the request is about all purses: the administrator's alone may be
+abbrev pub is_wide : Caller → Request → Bool
+is_wide caller (SetWindow ticks) = caller.who == 0
+is_wide caller _ = false
+
+-- the moment that the request names, if it names one
+abbrev pub at_of : Request → Option ℕ
+at_of (Read o offset length at) = at
+at_of (GetAttr o at) = at
+at_of (GetAclByUser o user at) = at
+at_of (GetAclByIndex o index at) = at
+at_of (PList range after at) = at
+at_of (PMount purse name at) = at
+at_of _ = None
 
 -- the principal in whose range a request without a purse lies: the one that it names, or else the caller
 abbrev pub principal_of : Caller → Request → ℕ
@@ -72,6 +88,10 @@ is_that purse None = false
 abbrev pub is_about : Purse → Caller → Request → Bool
 is_about purse caller request = is_that purse (purse_of caller request)
 
--- whether the record changed what the purse holds. Nothing else in a history matters to the purse.
+-- whether the record changed what the purse holds. Nothing else in a history matters to the purse's objects and names.
 abbrev pub concerns : Purse → Record → Bool
 concerns purse r = is_accepted r && is_about purse r.caller r.request
+
+-- whether the record changed what holds for all purses
+abbrev pub concerns_all : Record → Bool
+concerns_all r = is_wide r.caller r.request && is_accepted r

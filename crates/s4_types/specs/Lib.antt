@@ -9,6 +9,7 @@ pub mod Versions
 pub mod Judgement
 pub mod Outcome
 pub mod Base
+pub mod Horizon
 pub mod Answer
 pub mod Play
 pub mod Applied

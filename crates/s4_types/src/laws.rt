@@ -1,13 +1,16 @@
 //! What holds of every history, whatever it holds.
 
-ghost use Rattle.std.specs.Prelude.{◌≡◌, ℕ, true, List};
+ghost use Rattle.std.specs.Prelude.{◌≡◌, ◌≤◌, ℕ, true, List, [], ◌∷◌, ◌++◌, filter};
 ghost use Rattle.std.specs.Option.{option_map};
 ghost use Rattle.s4_types.specs.declared.object.Purse.{Purse};
 ghost use Rattle.s4_types.specs.declared.object.ObjectId.{ObjectId};
 ghost use Rattle.s4_types.specs.declared.record.Record.{Record};
 ghost use Rattle.s4_types.specs.Applied.{applied, InOrder, AgreeOn};
 ghost use Rattle.s4_types.specs.Answer.{drawn};
+ghost use Rattle.s4_types.specs.Base.{Base};
 ghost use Rattle.s4_types.specs.Bindings.{bindings, bound_at, names_of};
+ghost use Rattle.s4_types.specs.Horizon.{horizon_at};
+ghost use Rattle.s4_types.specs.Kinds.{concerns_all};
 ghost use Rattle.s4_types.specs.Versions.{lives_at, versions, value_at, data_track, attribute_track, acl_track};
 
 /// Where an object lives, the value in force at a moment is what the accepted changes up to that moment leave, applied in
@@ -38,4 +41,15 @@ pub fn purses_depend_on_their_records()
     ensures names { (purse : Purse) (h k : List Record) → AgreeOn purse h k → names_of purse h ≡ names_of purse k }
     ensures bound { (purse : Purse) (name : List ℕ) (m : ℕ) (h k : List Record) → AgreeOn purse h k
         → bound_at purse name m h ≡ bound_at purse name m k }
+{}
+
+/// The horizon depends on the records that concern all purses, and on no others (docs/MODEL.md,
+/// "The horizon").
+pub fn horizons_depend_on_wide_changes()
+    ensures { (base : Base) (t : ℕ) (h k : List Record) → filter concerns_all h ≡ filter concerns_all k → horizon_at base h t ≡ horizon_at base k t }
+{}
+
+/// Whatever record comes next, the horizon never goes back (docs/MODEL.md, "The horizon").
+pub fn horizons_never_go_back()
+    ensures { (base : Base) (h : List Record) (r : Record) (t u : ℕ) → t ≤ r.moment → r.moment ≤ u → horizon_at base h t ≤ horizon_at base (h ++ r ∷ []) u }
 {}

@@ -12,7 +12,7 @@ pub struct Row {
     pub error: &'static str,
 }
 
-pub const ROWS: [Row; 21] = [
+pub const ROWS: [Row; 23] = [
     EMPTY_SCRIPT,
     FIRST_REQUESTS,
     THREE_CALLS_AT_FIVE,
@@ -31,6 +31,8 @@ pub const ROWS: [Row; 21] = [
     NAME_BOUND_AGAIN,
     VISIBLE_NAMES_ALONE,
     PARTS_FULL,
+    LARGER_WINDOW_BRINGS_NOTHING_BACK,
+    SMALLER_WINDOW_ACTS_AT_ONCE,
     FAULT_FIRST_LINE,
     FAULT_BAD_LINE,
     FAULT_MOMENT_GOES_BACK,
@@ -855,6 +857,36 @@ const PARTS_FULL: Row = Row {
              done\n\
              parts-full\n\
              exists\n",
+    error: "",
+};
+
+/// A larger window brings nothing back: the horizon stays where it was.
+const LARGER_WINDOW_BRINGS_NOTHING_BACK: Row = Row {
+    name: "larger_window_brings_nothing_back",
+    script: "window 50\n\
+             10 7 create 0\n\
+             100 0 setwindow 1000\n\
+             101 7 read 7.0.1 0 1 at 49\n\
+             101 7 read 7.0.1 0 1 at 50\n",
+    output: "made 7.0.1\n\
+             done\n\
+             too-old 50\n\
+             data empty by 0 since 10\n",
+    error: "",
+};
+
+/// A smaller window acts at once.
+const SMALLER_WINDOW_ACTS_AT_ONCE: Row = Row {
+    name: "smaller_window_acts_at_once",
+    script: "window 50\n\
+             10 7 create 0\n\
+             100 0 setwindow 10\n\
+             100 7 read 7.0.1 0 1 at 89\n\
+             100 7 read 7.0.1 0 1 at 90\n",
+    output: "made 7.0.1\n\
+             done\n\
+             too-old 90\n\
+             data empty by 0 since 10\n",
     error: "",
 };
 

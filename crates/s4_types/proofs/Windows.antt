@@ -1,0 +1,51 @@
+-- Which records the horizon depends on, and that it never goes back.
+use Rattle.std.proofs.Common.{◌≡◌, ℕ, ◌≤◌, ◌-◌, Bool, true, false, cond, List, [], ◌∷◌, ◌++◌, refl, sym, ◌∙◌, ap, subst, fold, filter, arith}
+use Rattle.std.specs.Prelude.{max}
+use Rattle.std.proofs.lemmas.List.Sums.{fold-append}
+use Rattle.s4_types.specs.declared.request.Request.{Request}
+use Rattle.s4_types.specs.declared.request.Request.TheVariants.{Create, Delete, Read, Write, Append, Truncate, GetAttr, SetAttr, GetAclByUser, GetAclByIndex, SetAcl, PCreate, PDelete, PList, PMount, SetWindow}
+use Rattle.s4_types.specs.declared.record.Record.{Record}
+use Rattle.s4_types.specs.Base.{Base}
+use Rattle.s4_types.specs.Kinds.{concerns_all}
+use Rattle.s4_types.specs.Horizon.{Guarded, horizon_of, windowed, windowed_by, guarded_after, guarded_at, horizon_at}
+use Rattle.s4_types.proofs.Booleans.{by_test}
+use Rattle.s4_types.proofs.OfPurse.{fold-filter}
+
+guarded-filter : (base : Base) (h : List Record) → guarded_at base (filter concerns_all h) ≡ guarded_at base h
+guarded-filter base h = fold-filter concerns_all guarded_after (λ guarded r e. ap (λ b. cond b (windowed_by r.moment r.request guarded) guarded) e) (record { window = base.window; floor = 0 }) h
+
+pub horizon_at-agree : (base : Base) (t : ℕ) (h k : List Record) → filter concerns_all h ≡ filter concerns_all k → horizon_at base h t ≡ horizon_at base k t
+horizon_at-agree base t h k e = ap (λ g. horizon_of g t) (sym (guarded-filter base h) ∙ ap (guarded_at base) e ∙ guarded-filter base k)
+
+-- the record after the others
+pub guarded-snoc : (base : Base) (h : List Record) (r : Record) → guarded_at base (h ++ r ∷ []) ≡ guarded_after (guarded_at base h) r
+guarded-snoc base h r = fold-append guarded_after (record { window = base.window; floor = 0 }) h (r ∷ [])
+
+later-still : (g : Guarded) (t u : ℕ) → t ≤ u → horizon_of g t ≤ horizon_of g u
+later-still g t u e = omega (arith, e)
+
+pub windowed-later : (g : Guarded) (m ticks t u : ℕ) → t ≤ m → m ≤ u → horizon_of g t ≤ horizon_of (windowed m ticks g) u
+windowed-later g m ticks t u e f = omega (arith, e, f)
+
+by-later : (g : Guarded) (m : ℕ) (request : Request) (t u : ℕ) → t ≤ m → m ≤ u → horizon_of g t ≤ horizon_of (windowed_by m request g) u
+by-later g m (SetWindow ticks) t u e f = windowed-later g m ticks t u e f
+by-later g m (Create number) t u e f = later-still g t u (omega (arith, e, f))
+by-later g m (Delete o) t u e f = later-still g t u (omega (arith, e, f))
+by-later g m (Read o offset length at) t u e f = later-still g t u (omega (arith, e, f))
+by-later g m (Write o offset bytes) t u e f = later-still g t u (omega (arith, e, f))
+by-later g m (Append o bytes) t u e f = later-still g t u (omega (arith, e, f))
+by-later g m (Truncate o length) t u e f = later-still g t u (omega (arith, e, f))
+by-later g m (GetAttr o at) t u e f = later-still g t u (omega (arith, e, f))
+by-later g m (SetAttr o bytes) t u e f = later-still g t u (omega (arith, e, f))
+by-later g m (GetAclByUser o user at) t u e f = later-still g t u (omega (arith, e, f))
+by-later g m (GetAclByIndex o index at) t u e f = later-still g t u (omega (arith, e, f))
+by-later g m (SetAcl o user rights) t u e f = later-still g t u (omega (arith, e, f))
+by-later g m (PCreate name o) t u e f = later-still g t u (omega (arith, e, f))
+by-later g m (PDelete purse name) t u e f = later-still g t u (omega (arith, e, f))
+by-later g m (PList range after at) t u e f = later-still g t u (omega (arith, e, f))
+by-later g m (PMount purse name at) t u e f = later-still g t u (omega (arith, e, f))
+
+pub horizon_at-later : (base : Base) (h : List Record) (r : Record) (t u : ℕ) → t ≤ r.moment → r.moment ≤ u → horizon_at base h t ≤ horizon_at base (h ++ r ∷ []) u
+horizon_at-later base h r t u e f = subst (λ g. horizon_of (guarded_at base h) t ≤ horizon_of g u) (sym (guarded-snoc base h r)) (by_test (concerns_all r)
+    (λ c. subst (λ b. horizon_of (guarded_at base h) t ≤ horizon_of (cond b (windowed_by r.moment r.request (guarded_at base h)) (guarded_at base h)) u) (sym c) (by-later (guarded_at base h) r.moment r.request t u e f))
+    (λ c. subst (λ b. horizon_of (guarded_at base h) t ≤ horizon_of (cond b (windowed_by r.moment r.request (guarded_at base h)) (guarded_at base h)) u) (sym c) (later-still (guarded_at base h) t u (omega (arith, e, f)))))

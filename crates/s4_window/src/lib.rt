@@ -1,0 +1,9 @@
+//! The detection window, and how far back it lets the drive tell.
+#![tactic(auto)]
+
+mod window;
+
+pub use window::Window;
+
+#[cfg(test)]
+mod tests;
