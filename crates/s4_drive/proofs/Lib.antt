@@ -1,13 +1,2 @@
-pub mod Living
 pub mod Told
-pub mod Naming
-pub mod Following
-pub mod Granting
-pub mod Reading
-pub mod Sounding
-pub mod Opening
-pub mod Standing
-pub mod Effects
-pub mod Binding
-pub mod Mounting
 pub mod Runs

@@ -1,8 +1,1 @@
-pub mod Keys
-pub mod Held
-pub mod Laid
-pub mod Sound
-pub mod Chains
-pub mod Shown
-pub mod Stands
 pub mod Step

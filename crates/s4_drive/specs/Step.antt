@@ -1,27 +1,22 @@
 -- What one call of the drive does.
-use Rattle.std.specs.Prelude.{◌≡◌, ℕ, MatchBool, Result, Err, List, [], ◌∷◌, ◌++◌}
+use Rattle.std.specs.Prelude.{◌≡◌, ℕ, MatchBool, Result, Err, [], ◌∷◌, ◌++◌}
 use Rattle.s4_types.specs.declared.principal.Caller.{Caller}
 use Rattle.s4_types.specs.declared.request.Request.{Request}
 use Rattle.s4_types.specs.declared.reply.Refusal.{Refusal}
 use Rattle.s4_types.specs.declared.reply.Refusal.TheVariants.{NoMemory}
 use Rattle.s4_types.specs.declared.reply.Reply.{Reply}
-use Rattle.s4_types.specs.declared.record.Record.{Record}
 use Rattle.s4_types.specs.Base.{opened}
 use Rattle.s4_types.specs.Answer.{answer}
 use Rattle.s4_types.specs.Play.{record_of, is_no_memory}
-
--- a drive, as its callers see it: the window at its opening, and all records
-pub record State : Type 0 where
-  pub window : ℕ
-  pub history : List Record
+use Rattle.s4_state.specs.Log.{Log}
 
 -- the reply is the definition's answer, and its record is added
-pub record Answers (old new : State) (t : ℕ) (caller : Caller) (request : Request) (reply : Reply) : Type 0 where
+pub record Answers (old new : Log) (t : ℕ) (caller : Caller) (request : Request) (reply : Reply) : Type 0 where
   pub answer_is : reply ≡ answer (opened old.window) old.history t caller request
   pub grows : new ≡ record old { history = old.history ++ record_of (opened old.window) old.history t caller request ∷ [] }
 
 -- a step answers, or it meets want of memory, and nothing changes
-abbrev pub Steps : State → State → ℕ → Caller → Request → Reply → Type 0
+abbrev pub Steps : Log → Log → ℕ → Caller → Request → Reply → Type 0
 Steps old new t caller request reply = MatchBool (is_no_memory reply) (new ≡ old) (Answers old new t caller request reply)
 
 -- what comes of a request is the definition's outcome, or want of memory

@@ -1,67 +1,18 @@
 //! Create: a new object in the caller's purse.
 
-ghost use Rattle.std.specs.Prelude.{◌≡◌, false, OnOk, OnErr, ◌++◌, ◌∷◌, []};
-ghost use Rattle.s4_types.specs.declared.request.Request.TheVariants as request;
+ghost use Rattle.std.specs.Prelude.{◌≡◌};
 ghost use Rattle.s4_types.specs.Answer.{created};
-ghost use Rattle.s4_types.specs.Base.{opened};
-ghost use Rattle.s4_types.specs.Kinds.{is_refused};
-ghost use Rattle.s4_drive.specs.Sound.{IsSound, IsNext};
-ghost use Rattle.s4_drive.specs.Stands.{IsKept, Stands};
 
-use crate::begin::{begin, close, open};
-use crate::objects::keep;
-use crate::parts::Parts;
+use s4_state::State;
 use s4_store::Store;
-use s4_types::{NoMemory, Purse, PurseNo, Record, Refusal, Reply, Version};
-use std::alloc::Global;
+use s4_types::{Purse, Refusal, Reply, Version};
 
 /// The outcome of a Create in that purse.
-pub fn outcome<S: Store<Version>>(parts: &Parts<S>, purse: &Purse) -> Result<Reply, Refusal>
-    requires { IsKept S.chains parts.now }
-    ensures { result ≡ created parts.now.history.items purse.now }
+pub fn outcome<S: Store<Version>>(state: &State<S>, purse: &Purse) -> Result<Reply, Refusal>
+    ensures { result ≡ created state.now.history purse.now }
 {
-    match parts.next_object(purse) {
+    match state.next_object(purse) {
         Some(object) => Ok(Reply::Made(object)),
         None => Err(Refusal::NamesSpent),
-    }
-}
-
-/// Makes the object that the record tells of.
-pub fn apply<S: Store<Version>>(
-    alloc: Global,
-    parts: &mut Parts<S>,
-    added: &Record,
-    number: PurseNo,
-) -> Result<(), NoMemory>
-    requires kept { IsKept S.chains parts.old }
-    requires asked { added.now.request ≡ request.Create number }
-    requires next { IsNext (opened parts.old.window) parts.old.history.items added.now }
-    requires granted { is_refused added.now.reply ≡ false }
-    requires sound { IsSound (parts.old.history.items ++ added.now ∷ []) }
-    ensures ok { OnOk result (Stands S.chains parts.new (parts.old.history.items ++ added.now ∷ [])) }
-    ensures err { OnErr result (IsKept S.chains parts.new) }
-    ensures history { parts.new.history ≡ parts.old.history }
-    ensures window { parts.new.window ≡ parts.old.window }
-{
-    let purse = Purse {
-        creator: added.caller.who,
-        number,
-    };
-    let object = parts.next_object(&purse).unwrap();
-    parts.names.reserve(&purse)?;
-    parts.store.reserve(3)?;
-    let kept = open(&mut parts.store)?;
-    match keep(&mut parts.objects, &object, &kept) {
-        Ok(()) => {
-            let creator = object.purse.creator;
-            begin(alloc, &mut parts.store, &kept, added.moment, creator);
-            let drawn: Result<_, _> = parts.names.draw(&purse);
-            drawn.unwrap();
-            Ok(())
-        }
-        Err(refused) => {
-            close(&mut parts.store, &kept);
-            Err(refused)
-        }
     }
 }

@@ -1,50 +1,26 @@
 //! Delete: an object ends.
 
-ghost use Rattle.std.specs.Prelude.{◌≡◌, ◌≤◌, false, OnOk, OnErr, ◌++◌, ◌∷◌, []};
-ghost use Rattle.s4_types.specs.declared.request.Request.TheVariants as request;
+ghost use Rattle.std.specs.Prelude.{◌≡◌, ◌≤◌};
 ghost use Rattle.s4_types.specs.Answer.{deleted};
-ghost use Rattle.s4_types.specs.Base.{opened};
-ghost use Rattle.s4_types.specs.Kinds.{is_refused};
 ghost use Rattle.s4_types.specs.Play.{last_of};
-ghost use Rattle.s4_drive.specs.Sound.{IsSound, IsNext};
-ghost use Rattle.s4_drive.specs.Stands.{IsKept, Stands};
 
-use crate::parts::Parts;
+use s4_state::State;
 use s4_store::Store;
-use s4_types::{Caller, Moment, ObjectId, Record, Refusal, Reply, Right, Version};
+use s4_types::{Caller, Moment, ObjectId, Refusal, Reply, Right, Version};
 
 /// The outcome of a Delete.
 pub fn outcome<S: Store<Version>>(
-    parts: &Parts<S>,
+    state: &State<S>,
     moment: Moment,
     caller: Caller,
     object: &ObjectId,
 ) -> Result<Reply, Refusal>
-    requires kept { IsKept S.chains parts.now }
-    requires later { last_of parts.now.history.items ≤ moment }
-    ensures { result ≡ deleted parts.now.history.items moment caller object.now }
+    requires later { last_of state.now.history ≤ moment }
+    ensures { result ≡ deleted state.now.history moment caller object.now }
 {
-    parts.judge(caller, object, Right::Delete, None)?;
-    if parts.has_name(object) {
+    state.judge(caller, object, Right::Delete, None)?;
+    if state.has_name(object) {
         return Err(Refusal::Named);
     }
     Ok(Reply::Done)
-}
-
-/// Carries out the Delete that the record tells of: all current values of the object end. Takes no
-/// memory.
-pub fn apply<S: Store<Version>>(parts: &mut Parts<S>, added: &Record, object: &ObjectId)
-    requires kept { IsKept S.chains parts.old }
-    requires asked { added.now.request ≡ request.Delete object.now }
-    requires next { IsNext (opened parts.old.window) parts.old.history.items added.now }
-    requires granted { is_refused added.now.reply ≡ false }
-    requires sound { IsSound (parts.old.history.items ++ added.now ∷ []) }
-    ensures stands { Stands S.chains parts.new (parts.old.history.items ++ added.now ∷ []) }
-    ensures history { parts.new.history ≡ parts.old.history }
-    ensures window { parts.new.window ≡ parts.old.window }
-{
-    let kept = parts.kept(object).unwrap();
-    kept.data.end(&mut parts.store, added.moment);
-    kept.attributes.end(&mut parts.store, added.moment);
-    kept.acl.end(&mut parts.store, added.moment);
 }

@@ -4,19 +4,14 @@
 mod acl;
 mod append;
 mod attributes;
-mod begin;
-mod change;
 mod create;
 mod delete;
 mod drive;
 mod moments;
-mod objects;
 mod partitions;
-mod parts;
 mod read;
 mod step;
 mod truncate;
-mod values;
 mod window;
 mod write;
 

@@ -3,10 +3,9 @@
 ghost use Rattle.std.specs.Prelude.{◌≡◌, ◌≤◌, take, drop, IfOk, IfErr};
 ghost use Rattle.s4_types.specs.Answer.{data_read};
 ghost use Rattle.s4_types.specs.Play.{last_of};
-ghost use Rattle.s4_drive.specs.Stands.{IsKept};
 ghost use Rattle.s4_drive.specs.Step.{IsOutcome};
 
-use crate::parts::Parts;
+use s4_state::State;
 use s4_store::Store;
 use s4_types::{Bytes, Caller, Moment, ObjectId, Refusal, Reply, Right, Version};
 use std::alloc::Global;
@@ -31,18 +30,17 @@ pub struct Range {
 /// The outcome of a Read.
 pub fn outcome<S: Store<Version>>(
     alloc: Global,
-    parts: &Parts<S>,
+    state: &State<S>,
     moment: Moment,
     caller: Caller,
     object: &ObjectId,
     range: Range,
 ) -> Result<Reply, Refusal>
-    requires kept { IsKept S.chains parts.now }
-    requires later { last_of parts.now.history.items ≤ moment }
-    ensures { IsOutcome result (data_read parts.now.history.items moment caller object.now range.offset range.length range.at) }
+    requires later { last_of state.now.history ≤ moment }
+    ensures { IsOutcome result (data_read state.now.history moment caller object.now range.offset range.length range.at) }
 {
-    let grant = parts.judge(caller, object, Right::Read, range.at)?;
-    let data = bytes_in_range(parts.data(object, range.at), range.offset, range.length);
+    let grant = state.judge(caller, object, Right::Read, range.at)?;
+    let data = bytes_in_range(state.data(object, range.at), range.offset, range.length);
     let bytes = copied(alloc, data)?;
     Ok(Reply::Data { grant, bytes })
 }

@@ -1,82 +1,29 @@
 //! Write: bytes over an object's data, from an offset on.
 
-ghost use Rattle.std.specs.Prelude.{◌≡◌, ◌+◌, ◌≤◌, false, IfOk, OnOk, OnErr, length, ◌++◌, ◌∷◌, []};
-ghost use Rattle.s4_types.specs.declared.request.Request.TheVariants as request;
+ghost use Rattle.std.specs.Prelude.{◌≡◌, ◌≤◌};
 ghost use Rattle.s4_types.specs.Answer.{data_written};
-ghost use Rattle.s4_types.specs.Versions.{written as written_of};
-ghost use Rattle.s4_types.specs.Base.{opened};
-ghost use Rattle.s4_types.specs.Kinds.{is_refused};
 ghost use Rattle.s4_types.specs.Play.{last_of};
-ghost use Rattle.s4_drive.specs.Sound.{IsSound, IsNext};
-ghost use Rattle.s4_drive.specs.Stands.{IsKept, Stands};
 
-use crate::change::put;
-use crate::objects::Which;
-use crate::parts::Parts;
+use s4_state::State;
 use s4_store::Store;
-use s4_types::{
-    Bytes, Caller, Item, Moment, NoMemory, ObjectId, Record, Refusal, Reply, Request, Right,
-    Version,
-};
-use std::alloc::Global;
+use s4_types::{Bytes, Caller, Moment, ObjectId, Refusal, Reply, Request, Right, Version};
 
 /// The outcome of a Write.
 pub fn outcome<S: Store<Version>>(
-    parts: &Parts<S>,
+    state: &State<S>,
     moment: Moment,
     caller: Caller,
     object: &ObjectId,
     offset: u32,
     bytes: &Bytes,
 ) -> Result<Reply, Refusal>
-    requires kept { IsKept S.chains parts.now }
-    requires later { last_of parts.now.history.items ≤ moment }
-    ensures { result ≡ data_written parts.now.history.items moment caller object.now offset bytes.now }
+    requires later { last_of state.now.history ≤ moment }
+    ensures { result ≡ data_written state.now.history moment caller object.now offset bytes.now }
 {
     let limit = Request::DATA_LIMIT as usize;
     if bytes.len() > limit.saturating_sub(offset as usize) || offset as usize > limit {
         return Err(Refusal::TooLong);
     }
-    parts.judge(caller, object, Right::Write, None)?;
+    state.judge(caller, object, Right::Write, None)?;
     Ok(Reply::Done)
-}
-
-/// The bytes that a write leaves: a gap before them is zeros.
-pub fn written(alloc: Global, old: &[u8], offset: usize, bytes: &[u8]) -> Result<Vec<u8>, NoMemory>
-    requires { offset + length bytes.now ≤ 4096 }
-    ensures { IfOk result (λ new. new.items ≡ written_of offset bytes.now old.now) }
-{
-    let mut new = Vec::new(alloc);
-    let front = offset.min(old.len());
-    new.extend_from_slice(&old[..front])?;
-    new.resize(offset, 0)?;
-    new.extend_from_slice(bytes)?;
-    let end = (offset + bytes.len()).min(old.len());
-    new.extend_from_slice(&old[end..])?;
-    Ok(new)
-}
-
-/// Carries out the Write that the record tells of.
-pub fn apply<S: Store<Version>>(
-    alloc: Global,
-    parts: &mut Parts<S>,
-    added: &Record,
-    object: &ObjectId,
-    offset: u32,
-    bytes: &Bytes,
-) -> Result<(), NoMemory>
-    requires kept { IsKept S.chains parts.old }
-    requires asked { added.now.request ≡ request.Write object.now offset bytes.now }
-    requires next { IsNext (opened parts.old.window) parts.old.history.items added.now }
-    requires granted { is_refused added.now.reply ≡ false }
-    requires sound { IsSound (parts.old.history.items ++ added.now ∷ []) }
-    ensures ok { OnOk result (Stands S.chains parts.new (parts.old.history.items ++ added.now ∷ [])) }
-    ensures err { OnErr result (IsKept S.chains parts.new) }
-    ensures history { parts.new.history ≡ parts.old.history }
-    ensures window { parts.new.window ≡ parts.old.window }
-{
-    let old = parts.data(object, None);
-    let new = written(alloc, old, offset as usize, bytes.as_slice())?;
-    let item = Item::Data(Bytes::new(new));
-    put(parts, added, object, Which::Data, item)
 }

@@ -1,11 +1,10 @@
-use Rattle.std.proofs.Common.{◌≡◌, ℕ, ◌≤◌, ◌<◌, Bool, true, false, Option, Some, None, List, refl, sym, ◌∙◌, ap, arith}
-use Rattle.std.specs.Prelude.{Result, Ok, Err, is_some, nat_le}
+use Rattle.std.proofs.Common.{◌≡◌, ◌≤◌, ◌<◌, Bool, true, false, Option, Some, None, refl, sym, ◌∙◌, ap, arith}
+use Rattle.std.specs.Prelude.{Result, Ok, is_some, nat_le}
 use Rattle.std.specs.Option.{option_map}
 use Rattle.s4_types.specs.declared.rights.Right.TheVariants as right
 use Rattle.s4_types.specs.declared.reply.Grant.{Grant}
 use Rattle.s4_types.specs.declared.reply.Refusal.{Refusal}
 use Rattle.s4_types.specs.declared.reply.Refusal.TheVariants.{Exists, PartsFull}
-use Rattle.s4_types.specs.declared.reply.Reply.{Reply}
 use Rattle.s4_types.specs.declared.reply.Reply.TheVariants.{Done}
 use Rattle.s4_types.specs.Names.{object_in}
 use Rattle.s4_types.specs.Bindings.{bound_at, bound_count}
@@ -25,7 +24,7 @@ same-some f (Some y) = refl
 
 pub returns-then-bound_count-ge64 : goal.returns-then-bound_count-ge64
 returns-then-bound_count-ge64 g c =
-    let h = c.args.parts.now.history.items in
+    let h = c.args.state.now.history in
     let o = c.args.object.now in
     let taken : is_some (bound_at o.purse c.args.name.now c.args.moment h) ≡ false =
     sym (same-some (object_in o.purse) (bound_at o.purse c.args.name.now c.args.moment h)) ∙ ap is_some (sym (c.bound.ensures c.args.moment c.requires.later)) ∙ sym c.is_some.ensures ∙ c.if-is_some.false in
@@ -36,7 +35,7 @@ returns-then-bound_count-ge64 g c =
 
 pub returns : goal.returns
 returns g c =
-    let h = c.args.parts.now.history.items in
+    let h = c.args.state.now.history in
     let o = c.args.object.now in
     let taken : is_some (bound_at o.purse c.args.name.now c.args.moment h) ≡ false =
     sym (same-some (object_in o.purse) (bound_at o.purse c.args.name.now c.args.moment h)) ∙ ap is_some (sym (c.bound.ensures c.args.moment c.requires.later)) ∙ sym c.is_some.ensures ∙ c.if-is_some.false in

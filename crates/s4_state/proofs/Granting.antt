@@ -1,0 +1,484 @@
+-- What an accepted request tells of the object that it is about.
+use Rattle.std.proofs.Common.{◌≡◌, ℕ, ◌+◌, ◌≤◌, ◌<◌, Bool, true, false, not, cond, Option, Some, None, List, [], ◌∷◌, ◌++◌, refl, sym, ◌∙◌, ap, subst, arith, length, take, drop, length-append, length-drop}
+use Rattle.std.specs.Prelude.{◌==◌, nat_le, nat_lt, is_ok, is_some, flat_map, Result, Ok, Err, slice_get}
+use Rattle.std.specs.List.{find}
+use Rattle.std.specs.Option.{option_map}
+use Rattle.std.proofs.lemmas.List.{length-take, length-replicate}
+use Rattle.s4_types.specs.declared.principal.Caller.{Caller}
+use Rattle.s4_types.specs.declared.object.Purse.{Purse}
+use Rattle.s4_types.specs.declared.object.ObjectId.{ObjectId}
+use Rattle.s4_types.specs.declared.acl.AclEntry.{AclEntry}
+use Rattle.s4_types.specs.declared.rights.Right.{Right}
+use Rattle.s4_types.specs.declared.rights.Right.TheVariants as right
+use Rattle.s4_types.specs.declared.request.Request.{Request}
+use Rattle.s4_types.specs.declared.request.Request.TheVariants.{Create, Delete, Read, Write, Append, Truncate, GetAttr, SetAttr, GetAclByUser, GetAclByIndex, SetAcl, PCreate, PDelete, PList, PMount, SetWindow}
+use Rattle.s4_types.specs.declared.reply.Grant.{Grant}
+use Rattle.s4_types.specs.declared.reply.Refusal.{Refusal}
+use Rattle.s4_types.specs.declared.reply.Refusal.TheVariants.{Denied, TooLong, AclFull, NoEntry, NamesSpent, Exists, PartsFull, Named}
+use Rattle.s4_types.specs.declared.reply.Reply.{Reply}
+use Rattle.s4_types.specs.declared.reply.Reply.TheVariants.{Done, Made, Data, Attr, Entry, Mounted, Names, Refused}
+use Rattle.s4_types.specs.declared.record.Record.{Record}
+use Rattle.s4_types.specs.Names.{same_object, object_in}
+use Rattle.s4_types.specs.Kinds.{is_refused, is_create}
+use Rattle.s4_types.specs.Versions.{Value, versions, is_made, is_deleted, lives_at, of_length, written, when, acl_track, data_effect, attribute_effect, acl_effect}
+use Rattle.s4_types.specs.Acl.{names, without_entry, replaced, acl_with}
+use Rattle.s4_types.specs.Judgement.{Found, entry_of, judge, judge_now, held_of}
+use Rattle.s4_types.specs.Outcome.{◌>>=◌, ◌>>◌, refuse_if, reply_of}
+use Rattle.s4_types.specs.Base.{Base}
+use Rattle.s4_types.specs.Horizon.{horizon_at}
+use Rattle.s4_types.specs.Answer.{answer, outcome, drawn, timely, moment_of, data_of, attributes_of, acl_of, entry_by_user, entry_by_index, settable, found_bound, lines_in, page_of, purse_numbers}
+use Rattle.s4_types.specs.Bindings.{bound_at, bound_count, has_name}
+use Rattle.s4_types.proofs.SameNames.{object_is}
+use Rattle.s4_types.proofs.Outcomes.{passes_test, passes_judgement}
+use Rattle.s4_types.proofs.Entries.{length-without, length-replaced}
+use Rattle.s4_state.specs.Sound.{DataFits, AttributesFit, AclFits}
+
+-- MAKING
+
+-- the object is the next one of its purse
+pub record IsNextOf (h : List Record) (caller : Caller) (request : Request) (o : ObjectId) : Type 0 where
+  pub serial : o.serial ≡ drawn o.purse h + 1
+  pub creates : is_create request ≡ true
+
+-- whether the outcome makes no object
+abbrev makes_nothing : Result Reply Refusal → Bool
+makes_nothing (Ok (Made o)) = false
+makes_nothing _ = true
+
+nothing-then : {A : Type 0} (first : Result A Refusal) (next : Result Reply Refusal) → makes_nothing next ≡ true → makes_nothing (first >> next) ≡ true
+nothing-then (Ok x) next e = e
+nothing-then (Err r) next e = refl
+
+nothing-bind : {A : Type 0} (first : Result A Refusal) (next : A → Result Reply Refusal) → ((x : A) → makes_nothing (next x) ≡ true) → makes_nothing (first >>= next) ≡ true
+nothing-bind (Ok x) next e = e x
+nothing-bind (Err r) next e = refl
+
+nothing-made : (o : ObjectId) (r : Result Reply Refusal) → makes_nothing r ≡ true → is_made o (reply_of r) ≡ false
+nothing-made o (Ok Done) e = refl
+nothing-made o (Ok (Made p)) e = cc
+nothing-made o (Ok (Data g bytes)) e = refl
+nothing-made o (Ok (Attr g bytes)) e = refl
+nothing-made o (Ok (Entry g index user rights)) e = refl
+nothing-made o (Ok (Mounted g p)) e = refl
+nothing-made o (Ok (Names lines more)) e = refl
+nothing-made o (Ok (Refused r)) e = refl
+nothing-made o (Err r) e = refl
+
+nothing-user : (g : Grant) (user : ℕ) (found : Option Found) → makes_nothing (entry_by_user g user found) ≡ true
+nothing-user g user None = refl
+nothing-user g user (Some found) = refl
+
+nothing-index : (g : Grant) (index : ℕ) (entry : Option AclEntry) → makes_nothing (entry_by_index g index entry) ≡ true
+nothing-index g index None = refl
+nothing-index g index (Some entry) = refl
+
+pub makes_nothing-outcome : (base : Base) (h : List Record) (t : ℕ) (caller : Caller) (request : Request) → is_create request ≡ false → makes_nothing (outcome base h t caller request) ≡ true
+makes_nothing-outcome base h t caller (Create number) e = cc
+makes_nothing-outcome base h t caller (Delete p) e = nothing-then (judge h t caller p right.Delete None) _ (nothing-then (refuse_if (has_name p t h) Named) (Ok Done) refl)
+makes_nothing-outcome base h t caller (Read p offset length at) e =
+    nothing-then (timely (horizon_at base h t) t at) _ (nothing-bind (judge h t caller p right.Read at) (λ g. Ok (Data g (take length (drop offset (data_of p (moment_of t at) h))))) (λ g. refl))
+makes_nothing-outcome base h t caller (Write p offset bytes) e =
+    nothing-then (refuse_if (nat_lt 4096 (offset + length bytes)) TooLong) _ (nothing-then (judge h t caller p right.Write None) (Ok Done) refl)
+makes_nothing-outcome base h t caller (Append p bytes) e =
+    nothing-then (refuse_if (nat_lt 4096 (length bytes)) TooLong) _ (nothing-then (judge h t caller p right.Write None) _
+    (nothing-then (refuse_if (nat_lt 4096 (length (data_of p t h) + length bytes)) TooLong) (Ok Done) refl))
+makes_nothing-outcome base h t caller (Truncate p length) e =
+    nothing-then (refuse_if (nat_lt 4096 length) TooLong) _ (nothing-then (judge h t caller p right.Write None) (Ok Done) refl)
+makes_nothing-outcome base h t caller (GetAttr p at) e =
+    nothing-then (timely (horizon_at base h t) t at) _ (nothing-bind (judge h t caller p right.Read at) (λ g. Ok (Attr g (attributes_of p (moment_of t at) h))) (λ g. refl))
+makes_nothing-outcome base h t caller (SetAttr p bytes) e =
+    nothing-then (refuse_if (nat_lt 256 (length bytes)) TooLong) _ (nothing-then (judge h t caller p right.Write None) (Ok Done) refl)
+makes_nothing-outcome base h t caller (GetAclByUser p user at) e =
+    nothing-then (timely (horizon_at base h t) t at) _ (nothing-bind (judge h t caller p right.Read at) (λ g. entry_by_user g user (entry_of user (acl_of p (moment_of t at) h))) (λ g. nothing-user g user (entry_of user (acl_of p (moment_of t at) h))))
+makes_nothing-outcome base h t caller (GetAclByIndex p index at) e =
+    nothing-then (timely (horizon_at base h t) t at) _ (nothing-bind (judge h t caller p right.Read at) (λ g. entry_by_index g index (slice_get (acl_of p (moment_of t at) h) index)) (λ g. nothing-index g index (slice_get (acl_of p (moment_of t at) h) index)))
+makes_nothing-outcome base h t caller (SetAcl p user rights) e =
+    nothing-then (judge h t caller p right.Control None) _ (nothing-then (settable user rights (acl_of p t h)) (Ok Done) refl)
+makes_nothing-outcome base h t caller (PCreate name p) e =
+    nothing-then (judge h t caller p right.Control None) _ (nothing-then (refuse_if (is_some (bound_at p.purse name t h)) Exists) _
+    (nothing-then (refuse_if (nat_le 64 (bound_count p.purse t h)) PartsFull) (Ok Done) refl))
+makes_nothing-outcome base h t caller (PDelete purse name) e =
+    nothing-bind (found_bound caller purse right.Control (bound_at purse name t h)) (λ serial. judge h t caller (object_in purse serial) right.Control None >> Ok Done)
+    (λ serial. nothing-then (judge h t caller (object_in purse serial) right.Control None) (Ok Done) refl)
+makes_nothing-outcome base h t caller (PList range after at) e =
+    nothing-then (timely (horizon_at base h t) t at) (Ok (page_of (flat_map (lines_in h t caller range after at) purse_numbers))) refl
+makes_nothing-outcome base h t caller (PMount purse name at) e =
+    nothing-then (timely (horizon_at base h t) t at) _ (nothing-bind (found_bound caller purse right.Read (bound_at purse name (moment_of t at) h)) (λ serial. judge h t caller (object_in purse serial) right.Read at >>= λ g. Ok (Mounted g (object_in purse serial)))
+    (λ serial. nothing-bind (judge h t caller (object_in purse serial) right.Read at) (λ g. Ok (Mounted g (object_in purse serial))) (λ g. refl)))
+makes_nothing-outcome base h t caller (SetWindow ticks) e = nothing-then (refuse_if (not (caller.who == 0)) (Denied right.Admin)) (Ok Done) refl
+
+clash : {A : Type 0} (b : Bool) → b ≡ false → b ≡ true → A
+clash true e f = absurd (no e)
+  where
+    no : true ≡ false → ⊥
+    no g = cc
+clash false e f = absurd (no f)
+  where
+    no : false ≡ true → ⊥
+    no g = cc
+
+next-made : (h : List Record) (caller : Caller) (number : ℕ) (o : ObjectId) → is_made o (answer (record { window = 0 }) h 0 caller (Create number)) ≡ true → IsNextOf h caller (Create number) o
+next-made h caller number o e =
+    let purse : Purse = record { creator = caller.who; number = number } in
+    let of : (b : Bool) → is_made o (reply_of (refuse_if b NamesSpent >> Ok (Made (object_in purse (drawn purse h + 1))))) ≡ true → IsNextOf h caller (Create number) o
+    = λ b. elim b as (λ b. is_made o (reply_of (refuse_if b NamesSpent >> Ok (Made (object_in purse (drawn purse h + 1))))) ≡ true → IsNextOf h caller (Create number) o) [
+      | true ↦ λ f. cc
+      | false ↦ λ f. subst (IsNextOf h caller (Create number)) (object_is (object_in purse (drawn purse h + 1)) o f) (record { serial = refl; creates = refl })
+    ] in
+    of (nat_le 65535 (drawn purse h)) e
+
+pub made_is : (base : Base) (h : List Record) (t : ℕ) (caller : Caller) (request : Request) (o : ObjectId) → is_made o (answer base h t caller request) ≡ true → IsNextOf h caller request o
+made_is base h t caller (Create number) o e = next-made h caller number o e
+made_is base h t caller (Delete p) o e = clash _ (nothing-made o _ (makes_nothing-outcome base h t caller (Delete p) refl)) e
+made_is base h t caller (Read p offset length at) o e = clash _ (nothing-made o _ (makes_nothing-outcome base h t caller (Read p offset length at) refl)) e
+made_is base h t caller (Write p offset bytes) o e = clash _ (nothing-made o _ (makes_nothing-outcome base h t caller (Write p offset bytes) refl)) e
+made_is base h t caller (Append p bytes) o e = clash _ (nothing-made o _ (makes_nothing-outcome base h t caller (Append p bytes) refl)) e
+made_is base h t caller (Truncate p length) o e = clash _ (nothing-made o _ (makes_nothing-outcome base h t caller (Truncate p length) refl)) e
+made_is base h t caller (GetAttr p at) o e = clash _ (nothing-made o _ (makes_nothing-outcome base h t caller (GetAttr p at) refl)) e
+made_is base h t caller (SetAttr p bytes) o e = clash _ (nothing-made o _ (makes_nothing-outcome base h t caller (SetAttr p bytes) refl)) e
+made_is base h t caller (GetAclByUser p user at) o e = clash _ (nothing-made o _ (makes_nothing-outcome base h t caller (GetAclByUser p user at) refl)) e
+made_is base h t caller (GetAclByIndex p index at) o e = clash _ (nothing-made o _ (makes_nothing-outcome base h t caller (GetAclByIndex p index at) refl)) e
+made_is base h t caller (SetAcl p user rights) o e = clash _ (nothing-made o _ (makes_nothing-outcome base h t caller (SetAcl p user rights) refl)) e
+made_is base h t caller (PCreate name p) o e = clash _ (nothing-made o _ (makes_nothing-outcome base h t caller (PCreate name p) refl)) e
+made_is base h t caller (PDelete purse name) o e = clash _ (nothing-made o _ (makes_nothing-outcome base h t caller (PDelete purse name) refl)) e
+made_is base h t caller (PList range after at) o e = clash _ (nothing-made o _ (makes_nothing-outcome base h t caller (PList range after at) refl)) e
+made_is base h t caller (PMount purse name at) o e = clash _ (nothing-made o _ (makes_nothing-outcome base h t caller (PMount purse name at) refl)) e
+made_is base h t caller (SetWindow ticks) o e = clash _ (nothing-made o _ (makes_nothing-outcome base h t caller (SetWindow ticks) refl)) e
+
+create-deletes : (request : Request) (o : ObjectId) → is_create request ≡ true → is_deleted o request ≡ false
+create-deletes (Create number) o e = refl
+create-deletes (Delete p) o e = cc
+create-deletes (Read p offset length at) o e = cc
+create-deletes (Write p offset bytes) o e = cc
+create-deletes (Append p bytes) o e = cc
+create-deletes (Truncate p length) o e = cc
+create-deletes (GetAttr p at) o e = cc
+create-deletes (SetAttr p bytes) o e = cc
+create-deletes (GetAclByUser p user at) o e = cc
+create-deletes (GetAclByIndex p index at) o e = cc
+create-deletes (SetAcl p user rights) o e = cc
+create-deletes (PCreate name p) o e = cc
+create-deletes (PDelete purse name) o e = cc
+create-deletes (PList range after at) o e = cc
+create-deletes (PMount purse name at) o e = cc
+create-deletes (SetWindow ticks) o e = cc
+
+pub create_deletes_none : (request : Request) (o : ObjectId) → is_create request ≡ true → is_deleted o request ≡ false
+create_deletes_none = create-deletes
+
+-- CHANGING
+
+-- who is granted a thing on an object now has an object that lives
+pub granted-lives : (o : ObjectId) (t : ℕ) (h : List Record) (caller : Caller) (needed : Right) → is_ok (judge h t caller o needed None) ≡ true → lives_at t o h ≡ true
+granted-lives o t h caller needed e = lives (lives_at t o h) (find (λ v. nat_le v.begin t) (versions acl_track o h)) e
+  where
+    lives : (b : Bool) (x : Option (Value (List AclEntry))) → is_ok (judge_now caller o needed (option_map held_of (cond b x None))) ≡ true → b ≡ true
+    lives true x f = refl
+    lives false x f = cc
+
+-- the object that the request changes or deletes, where it does
+abbrev pub changed_by : Request → Option ObjectId
+changed_by (Delete p) = Some p
+changed_by (Write p offset bytes) = Some p
+changed_by (Append p bytes) = Some p
+changed_by (Truncate p length) = Some p
+changed_by (SetAttr p bytes) = Some p
+changed_by (SetAcl p user rights) = Some p
+changed_by _ = None
+
+pub changed-lives : (base : Base) (h : List Record) (t : ℕ) (caller : Caller) (request : Request) (o : ObjectId) → is_refused (answer base h t caller request) ≡ false → changed_by request ≡ Some o → lives_at t o h ≡ true
+changed-lives base h t caller (Create number) o e f = cc
+changed-lives base h t caller (Read p offset length at) o e f = cc
+changed-lives base h t caller (GetAttr p at) o e f = cc
+changed-lives base h t caller (GetAclByUser p user at) o e f = cc
+changed-lives base h t caller (GetAclByIndex p index at) o e f = cc
+changed-lives base h t caller (PCreate name p) o e f = cc
+changed-lives base h t caller (PDelete purse name) o e f = cc
+changed-lives base h t caller (PList range after at) o e f = cc
+changed-lives base h t caller (PMount purse name at) o e f = cc
+changed-lives base h t caller (SetWindow ticks) o e f = cc
+changed-lives base h t caller (Delete p) o e f =
+    let is : p ≡ o = cc in
+    subst (λ q. lives_at t q h ≡ true) is (granted-lives p t h caller right.Delete (passes_judgement (judge h t caller p right.Delete None) (refuse_if (has_name p t h) Named >> Ok Done) e).0)
+changed-lives base h t caller (Write p offset bytes) o e f =
+    let is : p ≡ o = cc in
+    subst (λ q. lives_at t q h ≡ true) is (granted-lives p t h caller right.Write (passes_judgement (judge h t caller p right.Write None) (Ok Done)
+    (passes_test (nat_lt 4096 (offset + length bytes)) TooLong (judge h t caller p right.Write None >> Ok Done) e).1).0)
+changed-lives base h t caller (Append p bytes) o e f =
+    let is : p ≡ o = cc in
+    let rest : Result Reply Refusal = refuse_if (nat_lt 4096 (length (data_of p t h) + length bytes)) TooLong >> Ok Done in
+    subst (λ q. lives_at t q h ≡ true) is (granted-lives p t h caller right.Write (passes_judgement (judge h t caller p right.Write None) rest
+    (passes_test (nat_lt 4096 (length bytes)) TooLong (judge h t caller p right.Write None >> rest) e).1).0)
+changed-lives base h t caller (Truncate p length) o e f =
+    let is : p ≡ o = cc in
+    subst (λ q. lives_at t q h ≡ true) is (granted-lives p t h caller right.Write (passes_judgement (judge h t caller p right.Write None) (Ok Done)
+    (passes_test (nat_lt 4096 length) TooLong (judge h t caller p right.Write None >> Ok Done) e).1).0)
+changed-lives base h t caller (SetAttr p bytes) o e f =
+    let is : p ≡ o = cc in
+    subst (λ q. lives_at t q h ≡ true) is (granted-lives p t h caller right.Write (passes_judgement (judge h t caller p right.Write None) (Ok Done)
+    (passes_test (nat_lt 256 (length bytes)) TooLong (judge h t caller p right.Write None >> Ok Done) e).1).0)
+changed-lives base h t caller (SetAcl p user rights) o e f =
+    let is : p ≡ o = cc in
+    subst (λ q. lives_at t q h ≡ true) is (granted-lives p t h caller right.Control (passes_judgement (judge h t caller p right.Control None) (settable user rights (acl_of p t h) >> Ok Done) e).0)
+
+some-when : {A : Type 0} (b : Bool) (x y : A) → when b x ≡ Some y → (b ≡ true) × (x ≡ y)
+some-when true x y e = (refl, cc)
+some-when false x y e = cc
+
+same-changed : (p o : ObjectId) → same_object p o ≡ true → Some p ≡ Some o
+same-changed p o e = ap (λ q. Some q) (object_is p o e)
+
+pub deleted-changed : (request : Request) (o : ObjectId) → is_deleted o request ≡ true → changed_by request ≡ Some o
+deleted-changed (Delete p) o e = same-changed p o e
+deleted-changed (Create number) o e = cc
+deleted-changed (Read p offset length at) o e = cc
+deleted-changed (Write p offset bytes) o e = cc
+deleted-changed (Append p bytes) o e = cc
+deleted-changed (Truncate p length) o e = cc
+deleted-changed (GetAttr p at) o e = cc
+deleted-changed (SetAttr p bytes) o e = cc
+deleted-changed (GetAclByUser p user at) o e = cc
+deleted-changed (GetAclByIndex p index at) o e = cc
+deleted-changed (SetAcl p user rights) o e = cc
+deleted-changed (PCreate name p) o e = cc
+deleted-changed (PDelete purse name) o e = cc
+deleted-changed (PList range after at) o e = cc
+deleted-changed (PMount purse name at) o e = cc
+deleted-changed (SetWindow ticks) o e = cc
+
+pub data-changed : (request : Request) (o : ObjectId) (old new : List ℕ) → data_effect o request old ≡ Some new → changed_by request ≡ Some o
+data-changed (Write p offset bytes) o old new e = same-changed p o (some-when (same_object p o) (written offset bytes old) new e).0
+data-changed (Append p bytes) o old new e = same-changed p o (some-when (same_object p o) (old ++ bytes) new e).0
+data-changed (Truncate p length) o old new e = same-changed p o (some-when (same_object p o) (of_length length old) new e).0
+data-changed (Create number) o old new e = cc
+data-changed (Delete p) o old new e = cc
+data-changed (Read p offset length at) o old new e = cc
+data-changed (GetAttr p at) o old new e = cc
+data-changed (SetAttr p bytes) o old new e = cc
+data-changed (GetAclByUser p user at) o old new e = cc
+data-changed (GetAclByIndex p index at) o old new e = cc
+data-changed (SetAcl p user rights) o old new e = cc
+data-changed (PCreate name p) o old new e = cc
+data-changed (PDelete purse name) o old new e = cc
+data-changed (PList range after at) o old new e = cc
+data-changed (PMount purse name at) o old new e = cc
+data-changed (SetWindow ticks) o old new e = cc
+
+pub attributes-changed : (request : Request) (o : ObjectId) (old new : List ℕ) → attribute_effect o request old ≡ Some new → changed_by request ≡ Some o
+attributes-changed (SetAttr p bytes) o old new e = same-changed p o (some-when (same_object p o) bytes new e).0
+attributes-changed (Create number) o old new e = cc
+attributes-changed (Delete p) o old new e = cc
+attributes-changed (Read p offset length at) o old new e = cc
+attributes-changed (Write p offset bytes) o old new e = cc
+attributes-changed (Append p bytes) o old new e = cc
+attributes-changed (Truncate p length) o old new e = cc
+attributes-changed (GetAttr p at) o old new e = cc
+attributes-changed (GetAclByUser p user at) o old new e = cc
+attributes-changed (GetAclByIndex p index at) o old new e = cc
+attributes-changed (SetAcl p user rights) o old new e = cc
+attributes-changed (PCreate name p) o old new e = cc
+attributes-changed (PDelete purse name) o old new e = cc
+attributes-changed (PList range after at) o old new e = cc
+attributes-changed (PMount purse name at) o old new e = cc
+attributes-changed (SetWindow ticks) o old new e = cc
+
+pub acl-changed : (request : Request) (o : ObjectId) (old new : List AclEntry) → acl_effect o request old ≡ Some new → changed_by request ≡ Some o
+acl-changed (SetAcl p user rights) o old new e = same-changed p o (some-when (same_object p o) (acl_with user rights old) new e).0
+acl-changed (Create number) o old new e = cc
+acl-changed (Delete p) o old new e = cc
+acl-changed (Read p offset length at) o old new e = cc
+acl-changed (Write p offset bytes) o old new e = cc
+acl-changed (Append p bytes) o old new e = cc
+acl-changed (Truncate p length) o old new e = cc
+acl-changed (GetAttr p at) o old new e = cc
+acl-changed (SetAttr p bytes) o old new e = cc
+acl-changed (GetAclByUser p user at) o old new e = cc
+acl-changed (GetAclByIndex p index at) o old new e = cc
+acl-changed (PCreate name p) o old new e = cc
+acl-changed (PDelete purse name) o old new e = cc
+acl-changed (PList range after at) o old new e = cc
+acl-changed (PMount purse name at) o old new e = cc
+acl-changed (SetWindow ticks) o old new e = cc
+
+-- LENGTHS
+
+pub length-of_length : (n : ℕ) (bytes : List ℕ) → length (of_length n bytes) ≡ n
+length-of_length n bytes = simp (length-append, length-take, length-replicate) (omega arith)
+
+pub length-written : (offset : ℕ) (bytes old : List ℕ) → offset + length bytes ≤ 4096 → length old ≤ 4096 → length (written offset bytes old) ≤ 4096
+length-written offset bytes old l m =
+    simp (length-append, length-take, length-replicate, length-drop) (omega arith)
+
+-- the data that a request leaves fit, where they are those in force
+pub data-fit : (base : Base) (h : List Record) (t : ℕ) (caller : Caller) (request : Request) (o : ObjectId) → is_refused (answer base h t caller request) ≡ false
+    → (old new : List ℕ) → data_effect o request old ≡ Some new → old ≡ data_of o t h → DataFits old → DataFits new
+data-fit base h t caller (Write p offset bytes) o e old new f is fits =
+    let short : nat_lt 4096 (offset + length bytes) ≡ false = (passes_test (nat_lt 4096 (offset + length bytes)) TooLong (judge h t caller p right.Write None >> Ok Done) e).0 in
+    let low : offset + length bytes ≤ 4096 = grind arith in
+    subst DataFits (some-when (same_object p o) (written offset bytes old) new f).1 (length-written offset bytes old low fits)
+data-fit base h t caller (Append p bytes) o e old new f is fits =
+    let rest : Result Reply Refusal = refuse_if (nat_lt 4096 (length (data_of p t h) + length bytes)) TooLong >> Ok Done in
+    let short : nat_lt 4096 (length (data_of p t h) + length bytes) ≡ false
+    = (passes_test (nat_lt 4096 (length (data_of p t h) + length bytes)) TooLong (Ok Done)
+    (passes_judgement (judge h t caller p right.Write None) rest (passes_test (nat_lt 4096 (length bytes)) TooLong (judge h t caller p right.Write None >> rest) e).1).1).0 in
+    let both' = some-when (same_object p o) (old ++ bytes) new f in
+    let same : length old ≡ length (data_of p t h) = ap length is ∙ ap (λ q. length (data_of q t h)) (sym (object_is p o both'.0)) in
+    let low : length (data_of p t h) + length bytes ≤ 4096 = grind arith in
+    subst DataFits both'.1 (simp length-append (omega arith))
+data-fit base h t caller (Truncate p n) o e old new f is fits =
+    let short : nat_lt 4096 n ≡ false = (passes_test (nat_lt 4096 n) TooLong (judge h t caller p right.Write None >> Ok Done) e).0 in
+    let low : n ≤ 4096 = grind arith in
+    subst DataFits (some-when (same_object p o) (of_length n old) new f).1 (rw (length-of_length n old) low)
+data-fit base h t caller (Create number) o e old new f is fits = cc
+data-fit base h t caller (Delete p) o e old new f is fits = cc
+data-fit base h t caller (Read p offset length at) o e old new f is fits = cc
+data-fit base h t caller (GetAttr p at) o e old new f is fits = cc
+data-fit base h t caller (SetAttr p bytes) o e old new f is fits = cc
+data-fit base h t caller (GetAclByUser p user at) o e old new f is fits = cc
+data-fit base h t caller (GetAclByIndex p index at) o e old new f is fits = cc
+data-fit base h t caller (SetAcl p user rights) o e old new f is fits = cc
+data-fit base h t caller (PCreate name p) o e old new f is fits = cc
+data-fit base h t caller (PDelete purse name) o e old new f is fits = cc
+data-fit base h t caller (PList range after at) o e old new f is fits = cc
+data-fit base h t caller (PMount purse name at) o e old new f is fits = cc
+data-fit base h t caller (SetWindow ticks) o e old new f is fits = cc
+
+pub attributes-fit : (base : Base) (h : List Record) (t : ℕ) (caller : Caller) (request : Request) (o : ObjectId) → is_refused (answer base h t caller request) ≡ false
+    → (old new : List ℕ) → attribute_effect o request old ≡ Some new → AttributesFit new
+attributes-fit base h t caller (SetAttr p bytes) o e old new f =
+    let short : nat_lt 256 (length bytes) ≡ false = (passes_test (nat_lt 256 (length bytes)) TooLong (judge h t caller p right.Write None >> Ok Done) e).0 in
+    let low : length bytes ≤ 256 = grind arith in
+    subst AttributesFit (some-when (same_object p o) bytes new f).1 low
+attributes-fit base h t caller (Create number) o e old new f = cc
+attributes-fit base h t caller (Delete p) o e old new f = cc
+attributes-fit base h t caller (Read p offset length at) o e old new f = cc
+attributes-fit base h t caller (Write p offset bytes) o e old new f = cc
+attributes-fit base h t caller (Append p bytes) o e old new f = cc
+attributes-fit base h t caller (Truncate p length) o e old new f = cc
+attributes-fit base h t caller (GetAttr p at) o e old new f = cc
+attributes-fit base h t caller (GetAclByUser p user at) o e old new f = cc
+attributes-fit base h t caller (GetAclByIndex p index at) o e old new f = cc
+attributes-fit base h t caller (SetAcl p user rights) o e old new f = cc
+attributes-fit base h t caller (PCreate name p) o e old new f = cc
+attributes-fit base h t caller (PDelete purse name) o e old new f = cc
+attributes-fit base h t caller (PList range after at) o e old new f = cc
+attributes-fit base h t caller (PMount purse name at) o e old new f = cc
+attributes-fit base h t caller (SetWindow ticks) o e old new f = cc
+
+-- the entries that a SetAcl leaves, where it may be carried out
+entries-fit : (user rights : ℕ) (acl : List AclEntry) → is_ok (settable user rights acl) ≡ true → AclFits acl → AclFits (acl_with user rights acl)
+entries-fit user rights acl e fits = of (rights == 0) (names user acl) (nat_le 16 (length acl)) refl e
+  where
+    of : (a b c : Bool) → nat_le 16 (length acl) ≡ c → is_ok (cond b (Ok tt) (cond a (Err NoEntry) (refuse_if c AclFull))) ≡ true
+        → length (cond a (without_entry user acl) (cond b (replaced (record { who = user; rights = rights }) acl) (acl ++ record { who = user; rights = rights } ∷ []))) ≤ 16
+    of true true c room g = let shorter : length (without_entry user acl) ≤ length acl = length-without (λ entry. not (entry.who == user)) acl in omega arith
+    of true false c room g = cc
+    of false true c room g = let same : length (replaced (record { who = user; rights = rights }) acl) ≡ length acl = length-replaced (record { who = user; rights = rights }) acl in omega arith
+    of false false true room g = cc
+    of false false false room g =
+        let more : length (acl ++ record { who = user; rights = rights } ∷ []) ≡ length acl + 1 = length-append acl (record { who = user; rights = rights } ∷ []) in
+        let low : length acl < 16 = grind arith in
+        omega arith
+
+pub acl-fit : (base : Base) (h : List Record) (t : ℕ) (caller : Caller) (request : Request) (o : ObjectId) → is_refused (answer base h t caller request) ≡ false
+    → (old new : List AclEntry) → acl_effect o request old ≡ Some new → old ≡ acl_of o t h → AclFits old → AclFits new
+acl-fit base h t caller (SetAcl p user rights) o e old new f is fits =
+    let both' = some-when (same_object p o) (acl_with user rights old) new f in
+    let same : acl_of p t h ≡ old = ap (λ q. acl_of q t h) (object_is p o both'.0) ∙ sym is in
+    let passes : is_ok (settable user rights (acl_of p t h)) ≡ true
+    = (passes_judgement (settable user rights (acl_of p t h)) (Ok Done) (passes_judgement (judge h t caller p right.Control None) (settable user rights (acl_of p t h) >> Ok Done) e).1).0 in
+    subst AclFits both'.1 (entries-fit user rights old (subst (λ acl. is_ok (settable user rights acl) ≡ true) same passes) fits)
+acl-fit base h t caller (Create number) o e old new f is fits = cc
+acl-fit base h t caller (Delete p) o e old new f is fits = cc
+acl-fit base h t caller (Read p offset length at) o e old new f is fits = cc
+acl-fit base h t caller (Write p offset bytes) o e old new f is fits = cc
+acl-fit base h t caller (Append p bytes) o e old new f is fits = cc
+acl-fit base h t caller (Truncate p length) o e old new f is fits = cc
+acl-fit base h t caller (GetAttr p at) o e old new f is fits = cc
+acl-fit base h t caller (SetAttr p bytes) o e old new f is fits = cc
+acl-fit base h t caller (GetAclByUser p user at) o e old new f is fits = cc
+acl-fit base h t caller (GetAclByIndex p index at) o e old new f is fits = cc
+acl-fit base h t caller (PCreate name p) o e old new f is fits = cc
+acl-fit base h t caller (PDelete purse name) o e old new f is fits = cc
+acl-fit base h t caller (PList range after at) o e old new f is fits = cc
+acl-fit base h t caller (PMount purse name at) o e old new f is fits = cc
+acl-fit base h t caller (SetWindow ticks) o e old new f is fits = cc
+
+-- TELLING
+
+-- whether the outcome is Done, or a refusal
+abbrev only_done : Result Reply Refusal → Bool
+only_done (Ok Done) = true
+only_done (Ok _) = false
+only_done (Err r) = true
+
+done-then : {A : Type 0} (first : Result A Refusal) (next : Result Reply Refusal) → only_done next ≡ true → only_done (first >> next) ≡ true
+done-then (Ok x) next e = e
+done-then (Err r) next e = refl
+
+told-done : (r : Result Reply Refusal) → only_done r ≡ true → is_refused (reply_of r) ≡ false → reply_of r ≡ Done
+told-done (Ok Done) e f = refl
+told-done (Ok (Made o)) e f = cc
+told-done (Ok (Data g bytes)) e f = cc
+told-done (Ok (Attr g bytes)) e f = cc
+told-done (Ok (Entry g index user rights)) e f = cc
+told-done (Ok (Mounted g o)) e f = cc
+told-done (Ok (Names lines more)) e f = cc
+told-done (Ok (Refused r)) e f = cc
+told-done (Err r) e f = cc
+
+only_done-outcome : (base : Base) (h : List Record) (t : ℕ) (caller : Caller) (request : Request) (o : ObjectId) → changed_by request ≡ Some o → only_done (outcome base h t caller request) ≡ true
+only_done-outcome base h t caller (Create number) o e = cc
+only_done-outcome base h t caller (Read p offset length at) o e = cc
+only_done-outcome base h t caller (GetAttr p at) o e = cc
+only_done-outcome base h t caller (GetAclByUser p user at) o e = cc
+only_done-outcome base h t caller (GetAclByIndex p index at) o e = cc
+only_done-outcome base h t caller (PCreate name p) o e = cc
+only_done-outcome base h t caller (PDelete purse name) o e = cc
+only_done-outcome base h t caller (PList range after at) o e = cc
+only_done-outcome base h t caller (PMount purse name at) o e = cc
+only_done-outcome base h t caller (SetWindow ticks) o e = cc
+only_done-outcome base h t caller (Delete p) o e = done-then (judge h t caller p right.Delete None) _ (done-then (refuse_if (has_name p t h) Named) (Ok Done) refl)
+only_done-outcome base h t caller (Write p offset bytes) o e =
+    done-then (refuse_if (nat_lt 4096 (offset + length bytes)) TooLong) _ (done-then (judge h t caller p right.Write None) (Ok Done) refl)
+only_done-outcome base h t caller (Append p bytes) o e =
+    done-then (refuse_if (nat_lt 4096 (length bytes)) TooLong) _ (done-then (judge h t caller p right.Write None) _
+    (done-then (refuse_if (nat_lt 4096 (length (data_of p t h) + length bytes)) TooLong) (Ok Done) refl))
+only_done-outcome base h t caller (Truncate p length) o e =
+    done-then (refuse_if (nat_lt 4096 length) TooLong) _ (done-then (judge h t caller p right.Write None) (Ok Done) refl)
+only_done-outcome base h t caller (SetAttr p bytes) o e =
+    done-then (refuse_if (nat_lt 256 (length bytes)) TooLong) _ (done-then (judge h t caller p right.Write None) (Ok Done) refl)
+only_done-outcome base h t caller (SetAcl p user rights) o e =
+    done-then (judge h t caller p right.Control None) _ (done-then (settable user rights (acl_of p t h)) (Ok Done) refl)
+
+-- an accepted change is told Done
+pub changed-done : (base : Base) (h : List Record) (t : ℕ) (caller : Caller) (request : Request) (o : ObjectId) → is_refused (answer base h t caller request) ≡ false → changed_by request ≡ Some o → answer base h t caller request ≡ Done
+changed-done base h t caller request o e f = told-done (outcome base h t caller request) (only_done-outcome base h t caller request o f) e
+
+-- and so is an accepted binding, and the end of one
+done-bind : {A : Type 0} (first : Result A Refusal) (next : A → Result Reply Refusal) → ((x : A) → only_done (next x) ≡ true) → only_done (first >>= next) ≡ true
+done-bind (Ok x) next e = e x
+done-bind (Err r) next e = refl
+
+pub bound-done : (base : Base) (h : List Record) (t : ℕ) (caller : Caller) (name : List ℕ) (o : ObjectId) → is_refused (answer base h t caller (PCreate name o)) ≡ false → answer base h t caller (PCreate name o) ≡ Done
+bound-done base h t caller name o e = told-done (outcome base h t caller (PCreate name o))
+    (done-then (judge h t caller o right.Control None) _ (done-then (refuse_if (is_some (bound_at o.purse name t h)) Exists) _
+    (done-then (refuse_if (nat_le 64 (bound_count o.purse t h)) PartsFull) (Ok Done) refl))) e
+
+pub unbound-done : (base : Base) (h : List Record) (t : ℕ) (caller : Caller) (purse : Purse) (name : List ℕ) → is_refused (answer base h t caller (PDelete purse name)) ≡ false → answer base h t caller (PDelete purse name) ≡ Done
+unbound-done base h t caller purse name e = told-done (outcome base h t caller (PDelete purse name))
+    (done-bind (found_bound caller purse right.Control (bound_at purse name t h)) (λ serial. judge h t caller (object_in purse serial) right.Control None >> Ok Done)
+    (λ serial. done-then (judge h t caller (object_in purse serial) right.Control None) (Ok Done) refl)) e
+
+-- a name that is bound anew wasn't bound, and one that is bound no longer was
+pub was_unbound : (base : Base) (h : List Record) (t : ℕ) (caller : Caller) (name : List ℕ) (o : ObjectId) → is_refused (answer base h t caller (PCreate name o)) ≡ false → is_some (bound_at o.purse name t h) ≡ false
+was_unbound base h t caller name o e =
+    let last : Result Reply Refusal = refuse_if (nat_le 64 (bound_count o.purse t h)) PartsFull >> Ok Done in
+    (passes_test (is_some (bound_at o.purse name t h)) Exists last (passes_judgement (judge h t caller o right.Control None) (refuse_if (is_some (bound_at o.purse name t h)) Exists >> last) e).1).0
+
+pub was_bound : (base : Base) (h : List Record) (t : ℕ) (caller : Caller) (purse : Purse) (name : List ℕ) → is_refused (answer base h t caller (PDelete purse name)) ≡ false → is_some (bound_at purse name t h) ≡ true
+was_bound base h t caller purse name e = of (bound_at purse name t h) e
+  where
+    of : (found : Option ℕ) → is_refused (reply_of (found_bound caller purse right.Control found >>= λ serial. judge h t caller (object_in purse serial) right.Control None >> Ok Done)) ≡ false → is_some found ≡ true
+    of (Some serial) f = refl
+    of None f = cc

@@ -1,0 +1,11 @@
+pub mod Living
+pub mod Naming
+pub mod Following
+pub mod Granting
+pub mod Reading
+pub mod Sounding
+pub mod Opening
+pub mod Standing
+pub mod Effects
+pub mod Binding
+pub mod Mounting

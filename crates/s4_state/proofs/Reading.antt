@@ -1,0 +1,162 @@
+-- What is held tells what is in force.
+use Rattle.std.proofs.Common.{◌≡◌, ℕ, ◌≤◌, Bool, true, false, cond, Option, Some, None, List, [], ◌∷◌, refl, sym, ◌∙◌, ap, subst, arith}
+use Rattle.std.specs.Prelude.{nat_le, is_some, if◌then◌else◌}
+use Rattle.std.specs.List.{find}
+use Rattle.std.specs.Option.{option_map}
+use Rattle.std.proofs.lemmas.List.Sums.{fold-append}
+use Rattle.s4_types.specs.declared.object.Purse.{Purse}
+use Rattle.s4_types.specs.declared.object.ObjectId.{ObjectId}
+use Rattle.s4_types.specs.declared.acl.AclEntry.{AclEntry}
+use Rattle.s4_types.specs.declared.record.Record.{Record}
+use Rattle.s4_types.specs.declared.version.Version.{Version}
+use Rattle.s4_types.specs.declared.version.Item.{Item}
+use Rattle.s4_types.specs.declared.version.Item.TheVariants as item
+use Rattle.s4_types.specs.Versions.{Track, Value, versions, value_at, lives_at, ends_by, in_force_by, data_track, attribute_track, acl_track}
+use Rattle.s4_types.specs.Judgement.{held_of}
+use Rattle.s4_types.specs.Answer.{value_or_empty, data_of, acl_of, moment_of}
+use Rattle.s4_types.specs.Play.{last_of}
+use Rattle.s4_types.proofs.Snoc.{newest-snoc}
+use Rattle.s4_store.specs.Chains.{Chains, items_of}
+use Rattle.s4_tracks.specs.Chain.{newer, latest, unended, in_force, endless, current_of, version_in}
+use Rattle.s4_state.specs.declared.objects.Which.{Which}
+use Rattle.s4_state.specs.declared.objects.Which.TheVariants as which
+use Rattle.s4_parts.specs.declared.parts.Parts.{Parts as Table}
+use Rattle.s4_state.specs.declared.objects.Kept.{Kept}
+use Rattle.s4_state.specs.Held.{bytes_in, held_in}
+use Rattle.s4_state.specs.Chains.{chain_of, held}
+use Rattle.s4_state.specs.Laid.{version_by, laid_by, version_of, laid, version_at}
+use Rattle.s4_state.specs.Sound.{IsSound, IsTrack, TrackStands, DataFits, AttributesFit, AclFits, was_made, was_deleted}
+use Rattle.s4_state.specs.Stands.{StandsFor}
+
+-- FROM VALUES TO VERSIONS
+
+module _ {V : Type 0} (cost : V → ℕ) (wrap : V → Item) where
+  latest-laid : (m : ℕ) (values : List (Value V)) → latest m (laid_by cost wrap values) ≡ option_map (version_by cost wrap) (find (λ v. nat_le v.begin m) values)
+  latest-laid m [] = refl
+  latest-laid m (v ∷ past) =
+      fold-append (newer m) None (laid_by cost wrap past) (version_by cost wrap v ∷ [])
+      ∙ ap (λ o. if nat_le v.begin m then Some (version_by cost wrap v) else o) (latest-laid m past)
+      ∙ (elim (nat_le v.begin m) as (λ b. (if b then Some (version_by cost wrap v) else option_map (version_by cost wrap) (find (λ v. nat_le v.begin m) past)) ≡ option_map (version_by cost wrap) (cond b (Some v) (find (λ v. nat_le v.begin m) past))) [ true ↦ refl | false ↦ refl ])
+
+  unended-found : (m : ℕ) (values : List (Value V)) → unended m (option_map (version_by cost wrap) (find (λ v. nat_le v.begin m) values)) ≡ option_map (version_by cost wrap) (in_force_by m values)
+  unended-found m [] = refl
+  unended-found m (v ∷ past) = elim (nat_le v.begin m) as (λ b. unended m (option_map (version_by cost wrap) (cond b (Some v) (find (λ v. nat_le v.begin m) past))) ≡ option_map (version_by cost wrap) (if b then (if ends_by m v.end then None else Some v) else in_force_by m past)) [
+    | true ↦ (elim (ends_by m v.end) as (λ b. (if b then None else Some (version_by cost wrap v)) ≡ option_map (version_by cost wrap) (if b then None else Some v)) [ true ↦ refl | false ↦ refl ])
+    | false ↦ unended-found m past
+  ]
+
+  -- at a moment the chain holds what the values hold
+  pub in_force-laid : (m : ℕ) (values : List (Value V)) → in_force m (laid_by cost wrap values) ≡ option_map (version_by cost wrap) (in_force_by m values)
+  in_force-laid m values = ap (unended m) (latest-laid m values) ∙ unended-found m values
+
+-- what is held where the object lives is the definition's value in force
+found-held : {V : Type 0} (m : ℕ) (values : List (Value V)) (lives : Bool) → lives ≡ is_some (in_force_by m values) → cond lives (find (λ v. nat_le v.begin m) values) None ≡ in_force_by m values
+found-held m [] true e = refl
+found-held m [] false e = refl
+found-held {V} m (v ∷ past) lives e = of (λ b k. found-held m past b k) (nat_le v.begin m) (ends_by m v.end) refl refl e
+  where
+    of : ((b : Bool) → b ≡ is_some (in_force_by m past) → cond b (find (λ v. nat_le v.begin m) past) None ≡ in_force_by m past) → (a b : Bool) → nat_le v.begin m ≡ a → ends_by m v.end ≡ b → lives ≡ is_some (if a then (if b then None else Some v) else in_force_by m past)
+        → cond lives (cond a (Some v) (find (λ v. nat_le v.begin m) past)) None ≡ (if a then (if b then None else Some v) else in_force_by m past)
+    of rest true true f g k = ap (λ b. cond b (Some v) None) k
+    of rest true false f g k = ap (λ b. cond b (Some v) None) k
+    of rest false b f g k = rest lives k
+
+value_at-held : {V : Type 0} (track : Track V) (Fits : V → Type 0) (o : ObjectId) (h : List Record) (m : ℕ) → TrackStands Fits o h (versions track o h) → value_at track o m h ≡ in_force_by m (versions track o h)
+value_at-held track Fits o h m s = found-held m (versions track o h) (lives_at m o h) (s.lives m)
+
+-- from the last moment on the current value is held
+current-laid : {V : Type 0} (track : Track V) (wrap : V → Item) (Fits : V → Type 0) (made deleted : Bool) (last t : ℕ) (values : List (Value V)) → last ≤ t → IsTrack Fits made deleted last values
+    → current_of (laid track wrap values) ≡ option_map (version_of track wrap) (in_force_by t values)
+current-laid track wrap Fits false deleted last t values l s = ap (λ vs. current_of (laid track wrap vs)) s ∙ sym (ap (λ vs. option_map (version_of track wrap) (in_force_by t vs)) s)
+current-laid track wrap Fits true deleted last t [] l s = refl
+current-laid track wrap Fits true false last t (v ∷ past) l s =
+    let low : v.begin ≤ last = s.begun in
+    let begun : nat_le v.begin t ≡ true = grind arith in
+    ap endless (newest-snoc (laid track wrap past) (version_of track wrap v))
+    ∙ ap (λ e. if is_some e then None else Some (version_of track wrap v)) s.current
+    ∙ sym (ap (λ b. option_map (version_of track wrap) (if b then (if ends_by t v.end then None else Some v) else in_force_by t past)) begun
+    ∙ ap (λ e. option_map (version_of track wrap) (if ends_by t e then None else Some v)) s.current)
+current-laid track wrap Fits true true last t (v ∷ past) l s =
+    let low : v.begin ≤ last = s.begun in
+    let begun : nat_le v.begin t ≡ true = grind arith in
+    let early : s.end ≤ last = s.past in
+    let over : nat_le s.end t ≡ true = grind arith in
+    ap endless (newest-snoc (laid track wrap past) (version_of track wrap v))
+    ∙ ap (λ e. if is_some e then None else Some (version_of track wrap v)) s.ended
+    ∙ sym (ap (λ b. option_map (version_of track wrap) (if b then (if ends_by t v.end then None else Some v) else in_force_by t past)) begun
+    ∙ ap (λ e. option_map (version_of track wrap) (if ends_by t e then None else Some v)) s.ended
+    ∙ ap (λ b. option_map (version_of track wrap) (if b then None else Some v)) over)
+
+-- the value in force from the last moment on is the newest
+newest-in-force : {V : Type 0} (track : Track V) (Fits : V → Type 0) {h : List Record} (o : ObjectId) → TrackStands Fits o h (versions track o h) → (t : ℕ) → last_of h ≤ t → lives_at t o h ≡ true
+    → (v : Value V) (past : List (Value V)) → versions track o h ≡ v ∷ past → value_at track o t h ≡ Some v
+newest-in-force {V} track Fits {h} o stands t later lives v past is =
+    ap (λ b. cond b (find (λ v. nat_le v.begin t) (versions track o h)) None) lives ∙ ap (find (λ v. nat_le v.begin t)) is
+    ∙ newest (was_made o h) (was_deleted o h) (subst (IsTrack Fits (was_made o h) (was_deleted o h) (last_of h)) is stands.shape)
+  where
+    newest : (m d : Bool) → IsTrack Fits m d (last_of h) (v ∷ past) → find (λ v. nat_le v.begin t) (v ∷ past) ≡ Some v
+    newest false d shape = cc
+    newest true false shape = let low : v.begin ≤ last_of h = shape.begun in let begun : nat_le v.begin t ≡ true = grind arith in rw begun refl
+    newest true true shape = let low : v.begin ≤ last_of h = shape.begun in let begun : nat_le v.begin t ≡ true = grind arith in rw begun refl
+
+pub data-in-force : {h : List Record} → IsSound h → (o : ObjectId) (t : ℕ) → last_of h ≤ t → lives_at t o h ≡ true → (v : Value (List ℕ)) (past : List (Value (List ℕ))) → versions data_track o h ≡ v ∷ past → v.value ≡ data_of o t h
+data-in-force s o t later lives v past is = sym (ap value_or_empty (newest-in-force data_track DataFits o (s.tracks o which.Data) t later lives v past is))
+
+pub acl-in-force : {h : List Record} → IsSound h → (o : ObjectId) (t : ℕ) → last_of h ≤ t → lives_at t o h ≡ true → (v : Value (List AclEntry)) (past : List (Value (List AclEntry))) → versions acl_track o h ≡ v ∷ past → v.value ≡ acl_of o t h
+acl-in-force s o t later lives v past is = sym (ap value_or_empty (newest-in-force acl_track AclFits o (s.tracks o which.Acl) t later lives v past is))
+
+-- FROM CHAINS
+
+module _ {chains : Chains Version} {found : ObjectId → Option Kept} {serials : Purse → ℕ} {table : Table} {h : List Record} (s : StandsFor chains found serials table h) (o : ObjectId) where
+  -- at a moment
+  pub held-at : (m : ℕ) (w : Which) → in_force m (held chains (found o) w) ≡ version_at w o m h
+  held-at m which.Data = ap (in_force m) (s.tracks o which.Data) ∙ in_force-laid data_track.cost item.Data m (versions data_track o h) ∙ ap (option_map (version_of data_track item.Data)) (sym (value_at-held data_track DataFits o h m (s.sound.tracks o which.Data)))
+  held-at m which.Attributes = ap (in_force m) (s.tracks o which.Attributes) ∙ in_force-laid attribute_track.cost item.Attr m (versions attribute_track o h) ∙ ap (option_map (version_of attribute_track item.Attr)) (sym (value_at-held attribute_track AttributesFit o h m (s.sound.tracks o which.Attributes)))
+  held-at m which.Acl = ap (in_force m) (s.tracks o which.Acl) ∙ in_force-laid acl_track.cost item.Acl m (versions acl_track o h) ∙ ap (option_map (version_of acl_track item.Acl)) (sym (value_at-held acl_track AclFits o h m (s.sound.tracks o which.Acl)))
+
+  -- now
+  pub held-now : (t : ℕ) → last_of h ≤ t → (w : Which) → current_of (held chains (found o) w) ≡ version_at w o t h
+  held-now t l which.Data = ap current_of (s.tracks o which.Data)
+      ∙ current-laid data_track item.Data DataFits (was_made o h) (was_deleted o h) (last_of h) t (versions data_track o h) l (shape-of which.Data)
+      ∙ ap (option_map (version_of data_track item.Data)) (sym (value_at-held data_track DataFits o h t (s.sound.tracks o which.Data)))
+    where
+      shape-of : (w : Which) → IsTrack DataFits (was_made o h) (was_deleted o h) (last_of h) (versions data_track o h)
+      shape-of w = let stands : TrackStands DataFits o h (versions data_track o h) = s.sound.tracks o which.Data in stands.shape
+  held-now t l which.Attributes = ap current_of (s.tracks o which.Attributes)
+      ∙ current-laid attribute_track item.Attr AttributesFit (was_made o h) (was_deleted o h) (last_of h) t (versions attribute_track o h) l
+      (let stands : TrackStands AttributesFit o h (versions attribute_track o h) = s.sound.tracks o which.Attributes in stands.shape)
+      ∙ ap (option_map (version_of attribute_track item.Attr)) (sym (value_at-held attribute_track AttributesFit o h t (s.sound.tracks o which.Attributes)))
+  held-now t l which.Acl = ap current_of (s.tracks o which.Acl)
+      ∙ current-laid acl_track item.Acl AclFits (was_made o h) (was_deleted o h) (last_of h) t (versions acl_track o h) l
+      (let stands : TrackStands AclFits o h (versions acl_track o h) = s.sound.tracks o which.Acl in stands.shape)
+      ∙ ap (option_map (version_of acl_track item.Acl)) (sym (value_at-held acl_track AclFits o h t (s.sound.tracks o which.Acl)))
+
+  -- the same, where the object is kept or isn't
+  pub kept-version : (t : ℕ) → last_of h ≤ t → (at : Option ℕ) (w : Which) (k : Kept) → found o ≡ Some k → version_in at (items_of chains (chain_of w k)) ≡ version_at w o (moment_of t at) h
+  kept-version t l None w k e = sym (ap (λ f. current_of (held chains f w)) e) ∙ held-now t l w
+  kept-version t l (Some m) w k e = sym (ap (λ f. in_force m (held chains f w)) e) ∙ held-at m w
+
+  pub none-at : (m : ℕ) (w : Which) → found o ≡ None → None ≡ version_at w o m h
+  none-at m w e = sym (ap (λ f. in_force m (held chains f w)) e) ∙ held-at m w
+
+-- what a version holds is the definition's value
+pub bytes_in-data : (o : ObjectId) (m : ℕ) (h : List Record) → bytes_in (version_at which.Data o m h) ≡ value_or_empty (value_at data_track o m h)
+bytes_in-data o m h = of (value_at data_track o m h)
+  where
+    of : (x : Option (Value (List ℕ))) → bytes_in (option_map (version_of data_track item.Data) x) ≡ value_or_empty x
+    of None = refl
+    of (Some v) = refl
+
+pub bytes_in-attributes : (o : ObjectId) (m : ℕ) (h : List Record) → bytes_in (version_at which.Attributes o m h) ≡ value_or_empty (value_at attribute_track o m h)
+bytes_in-attributes o m h = of (value_at attribute_track o m h)
+  where
+    of : (x : Option (Value (List ℕ))) → bytes_in (option_map (version_of attribute_track item.Attr) x) ≡ value_or_empty x
+    of None = refl
+    of (Some v) = refl
+
+pub held_in-acl : (o : ObjectId) (m : ℕ) (h : List Record) → held_in (version_at which.Acl o m h) ≡ option_map held_of (value_at acl_track o m h)
+held_in-acl o m h = of (value_at acl_track o m h)
+  where
+    of : (x : Option (Value (List AclEntry))) → held_in (option_map (version_of acl_track item.Acl) x) ≡ option_map held_of x
+    of None = refl
+    of (Some v) = refl

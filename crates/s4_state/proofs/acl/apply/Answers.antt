@@ -1,0 +1,44 @@
+use Rattle.std.proofs.Common.{◌≡◌, true, List, [], sym, ap, subst, refl, ◌∙◌}
+use Rattle.std.specs.Prelude.{is_ok, Result, Ok, Err, IsOk}
+use Rattle.s4_types.specs.declared.acl.AclEntry.{AclEntry}
+use Rattle.s4_types.specs.declared.reply.Refusal.{Refusal}
+use Rattle.s4_types.specs.declared.version.Item.TheVariants as item
+use Rattle.s4_types.specs.Acl.{acl_with}
+use Rattle.s4_types.specs.Answer.{acl_of, settable}
+use Rattle.s4_types.specs.Outcome.{◌>>◌}
+use Rattle.s4_acl.specs.Set.{acl_once_set}
+use Rattle.s4_state.specs.declared.objects.Which.TheVariants as which
+use Rattle.s4_state.specs.Stands.{PutsOn}
+use Rattle.s4_state.proofs.Effects.{set_acl_puts, set_acl_settable, changed_made}
+use Rattle.s4_state.proofs.acl.apply.Goals as goal
+
+passes : (test : Result (Unit {0}) Refusal) (acl : List AclEntry) → is_ok test ≡ true → (test >> Ok acl) ≡ Ok acl
+passes (Ok x) acl e = refl
+passes (Err r) acl e = cc
+
+abbrev shown : Result (List AclEntry) Refusal → List AclEntry
+shown (Ok acl) = acl
+shown (Err r) = []
+
+pub unwrap-acl-requires : goal.unwrap-acl-requires
+unwrap-acl-requires g c =
+    let user = c.args.user in
+    let rights = c.args.rights in
+    let acl = acl_of c.args.object.now c.args.added.now.moment c.args.parts.now.history.items in
+    subst IsOk (sym (c.set.ensures ∙ ap (acl_once_set user rights) (c.acl.ensures c.args.added.now.moment c.requires.next.later)
+    ∙ passes (settable user rights acl) (acl_with user rights acl)
+    (set_acl_settable c.requires.kept.sound c.requires.next c.requires.granted c.args.object.now user rights c.requires.asked))) refl
+
+pub put-requires-clause-made : goal.put-requires-clause-made
+put-requires-clause-made g c = changed_made c.requires.kept.sound c.requires.next c.requires.granted c.args.object.now _ c.requires.asked refl
+
+pub put-requires-clause-puts : goal.put-requires-clause-puts
+put-requires-clause-puts g c =
+    let user = c.args.user in
+    let rights = c.args.rights in
+    let acl = acl_of c.args.object.now c.args.added.now.moment c.args.parts.now.history.items in
+    subst (λ x. PutsOn c.args.parts.now.history.items c.args.added.now c.args.object.now which.Acl (item.Acl x))
+    (sym (ap shown (sym c.unwrap-acl.ensures ∙ c.set.ensures ∙ ap (acl_once_set user rights) (c.acl.ensures c.args.added.now.moment c.requires.next.later)
+    ∙ passes (settable user rights acl) (acl_with user rights acl)
+    (set_acl_settable c.requires.kept.sound c.requires.next c.requires.granted c.args.object.now user rights c.requires.asked))))
+    (set_acl_puts c.requires.kept.sound c.requires.next c.requires.granted c.args.object.now user rights c.requires.asked)

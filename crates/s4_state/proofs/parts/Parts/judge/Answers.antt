@@ -1,0 +1,27 @@
+use Rattle.std.proofs.Common.{◌≡◌, ℕ, true, false, Option, Some, None, List, refl, sym, ap, ◌∙◌}
+use Rattle.std.specs.Prelude.{is_some}
+use Rattle.s4_types.specs.declared.principal.Caller.{Caller}
+use Rattle.s4_types.specs.declared.object.ObjectId.{ObjectId}
+use Rattle.s4_types.specs.declared.rights.Right.{Right}
+use Rattle.s4_types.specs.declared.record.Record.{Record}
+use Rattle.s4_types.specs.Answer.{moment_of}
+use Rattle.s4_types.specs.Judgement.{held_at, judge, judge_now, judge_past}
+use Rattle.s4_state.proofs.parts.Parts.judge.Goals as goal
+
+past : (h : List Record) (t : ℕ) (caller : Caller) (o : ObjectId) (needed : Right) (at : Option ℕ) → is_some at ≡ true → judge_past caller o (held_at o (moment_of t at) h) ≡ judge h t caller o needed at
+past h t caller o needed None e = cc
+past h t caller o needed (Some m) e = refl
+
+now : (h : List Record) (t : ℕ) (caller : Caller) (o : ObjectId) (needed : Right) (at : Option ℕ) → is_some at ≡ false → judge_now caller o needed (held_at o (moment_of t at) h) ≡ judge h t caller o needed at
+now h t caller o needed None e = refl
+now h t caller o needed (Some m) e = cc
+
+pub returns-then-names_a_moment : goal.returns-then-names_a_moment
+returns-then-names_a_moment g c t later =
+    c.judge_past.ensures ∙ ap (judge_past c.args.caller c.args.object.now) (c.held-held.ensures t later)
+    ∙ past c.args.self.now.history.items t c.args.caller c.args.object.now c.args.right c.args.at (sym c.is_some-names_a_moment.ensures ∙ c.if-names_a_moment.true)
+
+pub returns-else-names_a_moment : goal.returns-else-names_a_moment
+returns-else-names_a_moment g c t later =
+    c.judge_now.ensures ∙ ap (judge_now c.args.caller c.args.object.now c.args.right) (c.held-held.ensures t later)
+    ∙ now c.args.self.now.history.items t c.args.caller c.args.object.now c.args.right c.args.at (sym c.is_some-names_a_moment.ensures ∙ c.if-names_a_moment.false)

@@ -1,0 +1,59 @@
+-- The chains of the drive's objects.
+use Rattle.std.specs.Prelude.{◌≡◌, ℕ, Bool, true, false, ◌==◌, Option, Some, None, List, [], ◌∷◌}
+use Rattle.std.specs.FinMap as finmap
+use Rattle.s4_store.specs.Chains.{Chains, items_of, IsOpen, StillOpen}
+use Rattle.s4_types.specs.declared.object.ObjectId.{ObjectId}
+use Rattle.s4_types.specs.declared.version.Version.{Version}
+use Rattle.s4_types.specs.declared.version.Item.TheVariants as item
+use Rattle.s4_types.specs.Acl.{first_acl}
+use Rattle.s4_tracks.specs.Chain.{begun}
+use Rattle.s4_state.specs.declared.objects.Which.{Which}
+use Rattle.s4_state.specs.declared.objects.Which.TheVariants as which
+use Rattle.s4_state.specs.declared.objects.Kept.{Kept}
+
+abbrev pub same_which : Which → Which → Bool
+same_which which.Data which.Data = true
+same_which which.Attributes which.Attributes = true
+same_which which.Acl which.Acl = true
+same_which _ _ = false
+
+abbrev pub chain_of : Which → Kept → ℕ
+chain_of which.Data kept = kept.data.chain
+chain_of which.Attributes kept = kept.attributes.chain
+chain_of which.Acl kept = kept.acl.chain
+
+-- what is held of one of an object's tracks, nothing where the object isn't kept
+abbrev pub held : Chains Version → Option Kept → Which → List Version
+held chains None w = []
+held chains (Some kept) w = items_of chains (chain_of w kept)
+
+-- each track has an open chain, and no two tracks share one
+pub record Chained (chains : Chains Version) (found : ObjectId → Option Kept) : Type 0 where
+  pub opened : (o : ObjectId) (k : Kept) (w : Which) → found o ≡ Some k → IsOpen chains (chain_of w k)
+  pub apart : (o q : ObjectId) (k l : Kept) (w u : Which) → found o ≡ Some k → found q ≡ Some l → chain_of w k ≡ chain_of u l → (o ≡ q) × (w ≡ u)
+
+-- two chains were opened
+pub record OpensTwo (old new : Chains Version) (first second : ℕ) : Type 0 where
+  pub first_fresh : finmap.get old first ≡ None
+  pub second_fresh : finmap.get (finmap.insert old first []) second ≡ None
+  pub opened : new ≡ finmap.insert (finmap.insert old first []) second []
+
+-- three chains were opened, for the tracks of an object
+pub record Opens (old new : Chains Version) (k : Kept) : Type 0 where
+  pub fresh : finmap.get old k.data.chain ≡ None
+  pub two : OpensTwo (finmap.insert old k.data.chain []) new k.attributes.chain k.acl.chain
+
+-- the first version of a track
+abbrev pub first_on : Which → ℕ → ℕ → Version
+first_on which.Data m creator = begun m (item.Data [])
+first_on which.Attributes m creator = begun m (item.Attr [])
+first_on which.Acl m creator = begun m (item.Acl (first_acl creator))
+
+-- the tracks of a new object have chains of their own, each with its first version
+pub record Begins (old new : Chains Version) (k : Kept) (m creator : ℕ) : Type 0 where
+  pub apart : (w u : Which) → chain_of w k ≡ chain_of u k → w ≡ u
+  pub fresh : (w : Which) (c : ℕ) → IsOpen old c → (c == chain_of w k) ≡ false
+  pub items : (w : Which) → items_of new (chain_of w k) ≡ first_on w m creator ∷ []
+  pub opened : (w : Which) → IsOpen new (chain_of w k)
+  pub others : (c : ℕ) → IsOpen old c → items_of new c ≡ items_of old c
+  pub still : StillOpen old new

@@ -1,0 +1,88 @@
+-- What holds of every history whose records were answered in turn.
+use Rattle.std.specs.Prelude.{◌≡◌, ℕ, ◌≤◌, Bool, true, false, nat_le, is_some, Option, Some, None, List, [], ◌∷◌, length}
+use Rattle.std.specs.List.{list_all, list_any}
+use Rattle.s4_types.specs.declared.object.Purse.{Purse}
+use Rattle.s4_types.specs.declared.object.ObjectId.{ObjectId}
+use Rattle.s4_types.specs.declared.acl.AclEntry.{AclEntry}
+use Rattle.s4_types.specs.declared.record.Record.{Record}
+use Rattle.s4_types.specs.Versions.{Value, versions, in_force_by, makes, deletes, lives_at, data_track, attribute_track, acl_track}
+use Rattle.s4_types.specs.Bindings.{bindings}
+use Rattle.s4_types.specs.Base.{Base}
+use Rattle.s4_types.specs.Answer.{answer, drawn}
+use Rattle.s4_types.specs.Play.{last_of}
+use Rattle.s4_state.specs.declared.objects.Which.{Which}
+use Rattle.s4_state.specs.declared.objects.Which.TheVariants as which
+
+-- whether some record made the object, and whether some record deleted it
+abbrev pub was_made : ObjectId → List Record → Bool
+was_made o h = list_any (makes o) h
+
+abbrev pub was_deleted : ObjectId → List Record → Bool
+was_deleted o h = list_any (deletes o) h
+
+-- which values a track may have
+abbrev pub DataFits : List ℕ → Type 0
+DataFits bytes = length bytes ≤ 4096
+
+abbrev pub AttributesFit : List ℕ → Type 0
+AttributesFit bytes = length bytes ≤ 256
+
+abbrev pub AclFits : List AclEntry → Type 0
+AclFits acl = length acl ≤ 16
+
+-- the newest value is current, and began by the moment
+pub record IsCurrent {V : Type 0} (Fits : V → Type 0) (last : ℕ) (v : Value V) : Type 0 where
+  pub begun : v.begin ≤ last
+  pub current : v.end ≡ None
+  pub fits : Fits v.value
+
+-- the newest value ended by the moment
+pub record IsOver {V : Type 0} (last : ℕ) (v : Value V) : Type 0 where
+  pub begun : v.begin ≤ last
+  pub end : ℕ
+  pub ended : v.end ≡ Some end
+  pub past : end ≤ last
+
+-- an object has values just if it was made, and the newest is current just if it wasn't deleted
+abbrev pub IsTrack : {V : Type 0} → (V → Type 0) → Bool → Bool → ℕ → List (Value V) → Type 0
+IsTrack Fits false deleted last values = values ≡ []
+IsTrack Fits true deleted last [] = ⊥
+IsTrack Fits true false last (v ∷ past) = IsCurrent Fits last v
+IsTrack Fits true true last (v ∷ past) = IsOver last v
+
+-- the values of a track agree with the object's life
+pub record TrackStands {V : Type 0} (Fits : V → Type 0) (o : ObjectId) (h : List Record) (values : List (Value V)) : Type 0 where
+  pub shape : IsTrack Fits (was_made o h) (was_deleted o h) (last_of h) values
+  -- at each moment a value is held just if the object lives then
+  pub lives : (m : ℕ) → lives_at m o h ≡ is_some (in_force_by m values)
+
+abbrev pub StandsOn : Which → ObjectId → List Record → Type 0
+StandsOn which.Data o h = TrackStands DataFits o h (versions data_track o h)
+StandsOn which.Attributes o h = TrackStands AttributesFit o h (versions attribute_track o h)
+StandsOn which.Acl o h = TrackStands AclFits o h (versions acl_track o h)
+
+-- the end, if there is one, is at most the moment
+abbrev pub EndsBy : ℕ → Option ℕ → Type 0
+EndsBy last None = Unit {0}
+EndsBy last (Some end) = end ≤ last
+
+-- the newest binding of a name began by the moment, and where it ended, it ended by then
+abbrev pub BindingsStand : ℕ → List (Value ℕ) → Type 0
+BindingsStand last [] = Unit {0}
+BindingsStand last (v ∷ past) = (v.begin ≤ last) × EndsBy last v.end
+
+pub record IsSound (h : List Record) : Type 0 where
+  -- no record is newer than the last
+  pub moments : list_all (λ r. nat_le r.moment (last_of h)) h ≡ true
+  -- an object that was made has a serial that was drawn
+  pub named : (o : ObjectId) → was_made o h ≡ true → o.serial ≤ drawn o.purse h
+  -- an object that was deleted was made
+  pub made_first : (o : ObjectId) → was_deleted o h ≡ true → was_made o h ≡ true
+  pub tracks : (o : ObjectId) (w : Which) → StandsOn w o h
+  -- no binding begins or ends later than the last record
+  pub bindings : (p : Purse) (name : List ℕ) → BindingsStand (last_of h) (bindings p name h)
+
+-- the record is the next one of the history
+pub record IsNext (base : Base) (h : List Record) (r : Record) : Type 0 where
+  pub later : last_of h ≤ r.moment
+  pub answered : r.reply ≡ answer base h r.moment r.caller r.request

@@ -1,0 +1,37 @@
+//! SetAcl: who may do what to an object.
+
+ghost use Rattle.std.specs.Prelude.{◌≡◌, ◌≤◌, false, OnOk, OnErr, ◌++◌, ◌∷◌, []};
+ghost use Rattle.s4_types.specs.declared.request.Request.TheVariants as request;
+ghost use Rattle.s4_types.specs.Base.{opened};
+ghost use Rattle.s4_types.specs.Kinds.{is_refused};
+ghost use Rattle.s4_state.specs.Sound.{IsSound, IsNext};
+ghost use Rattle.s4_state.specs.Stands.{IsKept, Stands};
+
+use crate::change::put;
+use crate::objects::Which;
+use crate::parts::Parts;
+use s4_acl::set;
+use s4_store::Store;
+use s4_types::{Item, NoMemory, ObjectId, Principal, Record, Rights, Version};
+
+/// Carries out the SetAcl that the record tells of.
+pub fn apply<S: Store<Version>>(
+    parts: &mut Parts<S>,
+    added: &Record,
+    object: &ObjectId,
+    user: Principal,
+    rights: Rights,
+) -> Result<(), NoMemory>
+    requires kept { IsKept S.chains parts.old }
+    requires asked { added.now.request ≡ request.SetAcl object.now user rights }
+    requires next { IsNext (opened parts.old.window) parts.old.history.items added.now }
+    requires granted { is_refused added.now.reply ≡ false }
+    requires sound { IsSound (parts.old.history.items ++ added.now ∷ []) }
+    ensures ok { OnOk result (Stands S.chains parts.new (parts.old.history.items ++ added.now ∷ [])) }
+    ensures err { OnErr result (IsKept S.chains parts.new) }
+    ensures history { parts.new.history ≡ parts.old.history }
+    ensures window { parts.new.window ≡ parts.old.window }
+{
+    let acl = set(&parts.acl(object, None), user, rights).unwrap();
+    put(parts, added, object, Which::Acl, Item::Acl(acl))
+}

@@ -1,0 +1,46 @@
+//! Append: bytes after an object's data.
+
+ghost use Rattle.std.specs.Prelude.{◌≡◌, ◌≤◌, false, IfOk, OnOk, OnErr, ◌++◌, ◌∷◌, []};
+ghost use Rattle.s4_types.specs.declared.request.Request.TheVariants as request;
+ghost use Rattle.s4_types.specs.Base.{opened};
+ghost use Rattle.s4_types.specs.Kinds.{is_refused};
+ghost use Rattle.s4_state.specs.Sound.{IsSound, IsNext};
+ghost use Rattle.s4_state.specs.Stands.{IsKept, Stands};
+
+use crate::change::put;
+use crate::objects::Which;
+use crate::parts::Parts;
+use s4_store::Store;
+use s4_types::{Bytes, Item, NoMemory, ObjectId, Record, Version};
+use std::alloc::Global;
+
+fn joined(alloc: Global, front: &[u8], back: &[u8]) -> Result<Vec<u8>, NoMemory>
+    ensures { IfOk result (λ new. new.items ≡ front.now ++ back.now) }
+{
+    let mut new = Vec::from_slice(alloc, front)?;
+    new.extend_from_slice(back)?;
+    Ok(new)
+}
+
+/// Carries out the Append that the record tells of.
+pub fn apply<S: Store<Version>>(
+    alloc: Global,
+    parts: &mut Parts<S>,
+    added: &Record,
+    object: &ObjectId,
+    bytes: &Bytes,
+) -> Result<(), NoMemory>
+    requires kept { IsKept S.chains parts.old }
+    requires asked { added.now.request ≡ request.Append object.now bytes.now }
+    requires next { IsNext (opened parts.old.window) parts.old.history.items added.now }
+    requires granted { is_refused added.now.reply ≡ false }
+    requires sound { IsSound (parts.old.history.items ++ added.now ∷ []) }
+    ensures ok { OnOk result (Stands S.chains parts.new (parts.old.history.items ++ added.now ∷ [])) }
+    ensures err { OnErr result (IsKept S.chains parts.new) }
+    ensures history { parts.new.history ≡ parts.old.history }
+    ensures window { parts.new.window ≡ parts.old.window }
+{
+    let new = joined(alloc, parts.data(object, None), bytes.as_slice())?;
+    let item = Item::Data(Bytes::new(new));
+    put(parts, added, object, Which::Data, item)
+}

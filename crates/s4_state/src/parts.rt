@@ -1,0 +1,153 @@
+//! What the drive keeps beside its history, and what it tells of the objects.
+
+ghost use Rattle.std.specs.Prelude.{◌≡◌, ℕ, ◌≤◌, ◌+◌, IfSome, is_some, nat_le, not};
+ghost use Rattle.std.specs.Option.{option_copied, option_map};
+ghost use Rattle.std.specs.BTreeMap.{get};
+ghost use Rattle.s4_types.specs.Answer.{drawn, moment_of, data_of, attributes_of, acl_of};
+ghost use Rattle.s4_types.specs.Bindings.{bound_at, bound_count, has_name};
+ghost use Rattle.s4_types.specs.Judgement.{held_at, judge as judge_of};
+ghost use Rattle.s4_types.specs.Names.{object_in};
+ghost use Rattle.s4_types.specs.Play.{last_of};
+ghost use Rattle.s4_judge.specs.Held.{shown_held};
+ghost use Rattle.s4_state.specs.Keys.{object_cmp};
+ghost use Rattle.s4_state.specs.Laid.{version_at};
+
+use crate::objects::{Kept, Which};
+use crate::values::{bytes_of, held_of};
+use s4_judge::{Held, judge_now, judge_past};
+use s4_names::Names;
+use s4_store::Store;
+use s4_types::{
+    Acl, Caller, Grant, Moment, Name, ObjectId, Purse, Record, Refusal, Right, Serial, Version,
+};
+use std::collections::BTreeMap;
+
+/// The window at the opening, the values, the objects by their names, the serials drawn, the
+/// partitions, and all records.
+#[derive(Drop)]
+pub struct Parts<S> {
+    pub window: u64,
+    pub store: S,
+    pub objects: BTreeMap<ObjectId, Kept>,
+    pub names: Names,
+    pub partitions: s4_parts::Parts,
+    pub history: Vec<Record>,
+}
+
+impl<S: Store<Version>> Parts<S> {
+    ghost use Rattle.s4_state.specs.Stands.{IsKept};
+
+    /// What is kept of an object.
+    pub fn kept(&self, object: &ObjectId) -> Option<Kept>
+        ensures { result ≡ get object_cmp self.now.objects object.now }
+    {
+        self.objects.get(object).copied()
+    }
+
+    /// The object that the next Create in the purse makes, if a serial is left.
+    pub fn next_object(&self, purse: &Purse) -> Option<ObjectId>
+        requires { IsKept S.chains self.now }
+        ensures some { IfSome result (λ o. o ≡ object_in purse.now (drawn purse.now self.now.history.items + 1)) }
+        ensures left { is_some result ≡ not (nat_le 65535 (drawn purse.now self.now.history.items)) }
+    {
+        let drawn = self.names.drawn(purse);
+        if drawn == u16::MAX {
+            return None;
+        }
+        let serial = Serial::new(drawn + 1)?;
+        Some(ObjectId {
+            purse: *purse,
+            serial,
+        })
+    }
+
+    /// The object that a name in the purse is bound to, now or at a moment.
+    pub fn bound(&self, purse: &Purse, name: &Name, at: Option<Moment>) -> Option<ObjectId>
+        requires { IsKept S.chains self.now }
+        ensures { (t : ℕ) → last_of self.now.history.items ≤ t → result ≡ option_map (object_in purse.now) (bound_at purse.now name.now (moment_of t at) self.now.history.items) }
+    {
+        self.partitions.mount(&self.store, purse, name, at)
+    }
+
+    /// How many names are bound in the purse.
+    pub fn bound_count(&self, purse: &Purse) -> usize
+        requires { IsKept S.chains self.now }
+        ensures { (t : ℕ) → last_of self.now.history.items ≤ t → result ≡ bound_count purse.now t self.now.history.items }
+    {
+        self.partitions.bound_names(purse)
+    }
+
+    /// Whether the object has a bound name.
+    pub fn has_name(&self, object: &ObjectId) -> bool
+        requires { IsKept S.chains self.now }
+        ensures { (t : ℕ) → last_of self.now.history.items ≤ t → result ≡ has_name object.now t self.now.history.items }
+    {
+        self.partitions.named(object)
+    }
+
+    /// The version in force on one of an object's tracks, now or at a moment.
+    pub fn version(&self, object: &ObjectId, which: Which, at: Option<Moment>) -> Option<&Version>
+        requires { IsKept S.chains self.now }
+        ensures { (t : ℕ) → last_of self.now.history.items ≤ t → option_copied result ≡ version_at which object.now (moment_of t at) self.now.history.items }
+    {
+        match self.kept(object) {
+            Some(kept) => kept.track(which).version(&self.store, at),
+            None => None,
+        }
+    }
+
+    /// The data in force, nothing where the object doesn't live.
+    pub fn data(&self, object: &ObjectId, at: Option<Moment>) -> &[u8]
+        requires { IsKept S.chains self.now }
+        ensures { (t : ℕ) → last_of self.now.history.items ≤ t → result.now ≡ data_of object.now (moment_of t at) self.now.history.items }
+    {
+        bytes_of(self.version(object, Which::Data, at))
+    }
+
+    /// The attributes in force, nothing where the object doesn't live.
+    pub fn attributes(&self, object: &ObjectId, at: Option<Moment>) -> &[u8]
+        requires { IsKept S.chains self.now }
+        ensures { (t : ℕ) → last_of self.now.history.items ≤ t → result.now ≡ attributes_of object.now (moment_of t at) self.now.history.items }
+    {
+        bytes_of(self.version(object, Which::Attributes, at))
+    }
+
+    /// The ACL in force and since when, where the object lives.
+    pub fn held(&self, object: &ObjectId, at: Option<Moment>) -> Option<Held<'_>>
+        requires { IsKept S.chains self.now }
+        ensures { (t : ℕ) → last_of self.now.history.items ≤ t → shown_held result ≡ held_at object.now (moment_of t at) self.now.history.items }
+    {
+        held_of(self.version(object, Which::Acl, at))
+    }
+
+    /// The ACL in force, without entries where the object doesn't live.
+    pub fn acl(&self, object: &ObjectId, at: Option<Moment>) -> Acl
+        requires { IsKept S.chains self.now }
+        ensures { (t : ℕ) → last_of self.now.history.items ≤ t → result ≡ acl_of object.now (moment_of t at) self.now.history.items }
+    {
+        match self.held(object, at) {
+            Some(held) => held.acl.copy(),
+            None => Acl::empty(),
+        }
+    }
+
+    /// Grants or refuses by the ACL in force, now or at a moment.
+    pub fn judge(
+        &self,
+        caller: Caller,
+        object: &ObjectId,
+        right: Right,
+        at: Option<Moment>,
+    ) -> Result<Grant, Refusal>
+        requires { IsKept S.chains self.now }
+        ensures { (t : ℕ) → last_of self.now.history.items ≤ t → result ≡ judge_of self.now.history.items t caller object.now right at }
+    {
+        let names_a_moment = at.is_some();
+        let held = self.held(object, at);
+        if names_a_moment {
+            judge_past(caller, object, &held)
+        } else {
+            judge_now(caller, object, &held, right)
+        }
+    }
+}

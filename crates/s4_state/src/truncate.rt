@@ -1,0 +1,49 @@
+//! Truncate: an object's data cut, or filled with zeros.
+
+ghost use Rattle.std.specs.Prelude.{◌≡◌, ◌≤◌, false, IfOk, OnOk, OnErr, ◌++◌, ◌∷◌, []};
+ghost use Rattle.s4_types.specs.declared.request.Request.TheVariants as request;
+ghost use Rattle.s4_types.specs.Versions.{of_length as of_length_as};
+ghost use Rattle.s4_types.specs.Base.{opened};
+ghost use Rattle.s4_types.specs.Kinds.{is_refused};
+ghost use Rattle.s4_state.specs.Sound.{IsSound, IsNext};
+ghost use Rattle.s4_state.specs.Stands.{IsKept, Stands};
+
+use crate::change::put;
+use crate::objects::Which;
+use crate::parts::Parts;
+use s4_store::Store;
+use s4_types::{Bytes, Item, NoMemory, ObjectId, Record, Version};
+use std::alloc::Global;
+
+/// The bytes, and zeros up to the length.
+fn of_length(alloc: Global, old: &[u8], length: usize) -> Result<Vec<u8>, NoMemory>
+    ensures { IfOk result (λ new. new.items ≡ of_length_as length old.now) }
+{
+    let kept = length.min(old.len());
+    let mut new = Vec::from_slice(alloc, &old[..kept])?;
+    new.resize(length, 0)?;
+    Ok(new)
+}
+
+/// Carries out the Truncate that the record tells of.
+pub fn apply<S: Store<Version>>(
+    alloc: Global,
+    parts: &mut Parts<S>,
+    added: &Record,
+    object: &ObjectId,
+    length: u32,
+) -> Result<(), NoMemory>
+    requires kept { IsKept S.chains parts.old }
+    requires asked { added.now.request ≡ request.Truncate object.now length }
+    requires next { IsNext (opened parts.old.window) parts.old.history.items added.now }
+    requires granted { is_refused added.now.reply ≡ false }
+    requires sound { IsSound (parts.old.history.items ++ added.now ∷ []) }
+    ensures ok { OnOk result (Stands S.chains parts.new (parts.old.history.items ++ added.now ∷ [])) }
+    ensures err { OnErr result (IsKept S.chains parts.new) }
+    ensures history { parts.new.history ≡ parts.old.history }
+    ensures window { parts.new.window ≡ parts.old.window }
+{
+    let new = of_length(alloc, parts.data(object, None), length as usize)?;
+    let item = Item::Data(Bytes::new(new));
+    put(parts, added, object, Which::Data, item)
+}

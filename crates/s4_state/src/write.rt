@@ -1,0 +1,56 @@
+//! Write: bytes over an object's data, from an offset on.
+
+ghost use Rattle.std.specs.Prelude.{◌≡◌, ◌+◌, ◌≤◌, false, IfOk, OnOk, OnErr, length, ◌++◌, ◌∷◌, []};
+ghost use Rattle.s4_types.specs.declared.request.Request.TheVariants as request;
+ghost use Rattle.s4_types.specs.Versions.{written as written_of};
+ghost use Rattle.s4_types.specs.Base.{opened};
+ghost use Rattle.s4_types.specs.Kinds.{is_refused};
+ghost use Rattle.s4_state.specs.Sound.{IsSound, IsNext};
+ghost use Rattle.s4_state.specs.Stands.{IsKept, Stands};
+
+use crate::change::put;
+use crate::objects::Which;
+use crate::parts::Parts;
+use s4_store::Store;
+use s4_types::{Bytes, Item, NoMemory, ObjectId, Record, Version};
+use std::alloc::Global;
+
+/// The bytes that a write leaves: a gap before them is zeros.
+pub fn written(alloc: Global, old: &[u8], offset: usize, bytes: &[u8]) -> Result<Vec<u8>, NoMemory>
+    requires { offset + length bytes.now ≤ 4096 }
+    ensures { IfOk result (λ new. new.items ≡ written_of offset bytes.now old.now) }
+{
+    let mut new = Vec::new(alloc);
+    let front = offset.min(old.len());
+    new.extend_from_slice(&old[..front])?;
+    new.resize(offset, 0)?;
+    new.extend_from_slice(bytes)?;
+    let end = (offset + bytes.len()).min(old.len());
+    new.extend_from_slice(&old[end..])?;
+    Ok(new)
+}
+
+/// Carries out the Write that the record tells of.
+pub fn apply<S: Store<Version>>(
+    alloc: Global,
+    parts: &mut Parts<S>,
+    added: &Record,
+    object: &ObjectId,
+    offset: u32,
+    bytes: &Bytes,
+) -> Result<(), NoMemory>
+    requires kept { IsKept S.chains parts.old }
+    requires asked { added.now.request ≡ request.Write object.now offset bytes.now }
+    requires next { IsNext (opened parts.old.window) parts.old.history.items added.now }
+    requires granted { is_refused added.now.reply ≡ false }
+    requires sound { IsSound (parts.old.history.items ++ added.now ∷ []) }
+    ensures ok { OnOk result (Stands S.chains parts.new (parts.old.history.items ++ added.now ∷ [])) }
+    ensures err { OnErr result (IsKept S.chains parts.new) }
+    ensures history { parts.new.history ≡ parts.old.history }
+    ensures window { parts.new.window ≡ parts.old.window }
+{
+    let old = parts.data(object, None);
+    let new = written(alloc, old, offset as usize, bytes.as_slice())?;
+    let item = Item::Data(Bytes::new(new));
+    put(parts, added, object, Which::Data, item)
+}
