@@ -1,22 +1,10 @@
-//! SetWindow: how far back the drive promises to remember.
+//! How far back the drive promises to remember.
 
 ghost use Rattle.std.specs.Prelude.{◌≡◌};
-ghost use Rattle.s4_types.specs.Answer.{window_set};
 ghost use Rattle.s4_types.specs.Horizon.{guarded_after};
 
-use s4_types::{Caller, Record, Refusal, Reply, Request, Right};
+use s4_types::{Record, Request};
 use s4_window::Window;
-
-/// The outcome of a SetWindow.
-pub fn outcome(caller: Caller) -> Result<Reply, Refusal>
-    ensures { result ≡ window_set caller }
-{
-    if caller.who.is_administrator() {
-        Ok(Reply::Done)
-    } else {
-        Err(Refusal::Denied(Right::Admin))
-    }
-}
 
 /// Brings the window to where the record leaves it.
 pub fn follow(window: &mut Window, added: &Record)

@@ -21,7 +21,8 @@ use Rattle.s4_types.specs.Bindings.{rebound, named_by}
 use Rattle.s4_types.specs.Outcome.{◌>>◌, refuse_if, reply_of}
 use Rattle.s4_types.specs.Base.{Base}
 use Rattle.s4_types.specs.Acl.{acl_with}
-use Rattle.s4_types.specs.Answer.{answer, drawn, data_of, acl_of, settable}
+use Rattle.s4_types.specs.Answer.{data_of, attributes_of, acl_of, settable}
+use Rattle.s4_types.specs.Serials.{drawn}
 use Rattle.s4_types.specs.Play.{last_of}
 use Rattle.s4_types.specs.Judgement.{judge}
 use Rattle.s4_types.specs.declared.rights.Right.TheVariants as right
@@ -37,12 +38,12 @@ use Rattle.s4_state.specs.Chains.{same_which}
 use Rattle.s4_state.specs.Laid.{version_of, laid, versions_on}
 use Rattle.s4_state.specs.Sound.{IsSound, IsNext, IsTrack, TrackStands, DataFits, AttributesFit, AclFits, was_made, was_deleted}
 use Rattle.s4_state.specs.Stands.{MakesNone, RebindsNone, PutsOn, EndsAll}
-use Rattle.s4_state.proofs.Granting.{changed_by, changed-lives, changed-done, data-fit}
+use Rattle.s4_state.proofs.Granting.{told, told-asked, accepted-asked, changed_by, changed-lives, changed-done, data-fit}
 use Rattle.s4_state.proofs.Living.{lives_at-now}
-use Rattle.s4_state.proofs.Reading.{data-in-force, acl-in-force}
+use Rattle.s4_state.proofs.Reading.{data-in-force, attributes-in-force, acl-in-force}
 use Rattle.s4_state.proofs.Standing.{MakesOnly}
 
-either-same : {A : Type 0} (b : Bool) (x y : A) → x ≡ y → cond b x y ≡ y
+pub either-same : {A : Type 0} (b : Bool) (x y : A) → x ≡ y → cond b x y ≡ y
 either-same true x y e = e
 either-same false x y e = refl
 
@@ -51,14 +52,14 @@ effect-none t [] = refl
 effect-none t (v ∷ past) = refl
 
 -- the current value of a track, where the object lives
-record IsLive {V : Type 0} (Fits : V → Type 0) (values : List (Value V)) : Type 0 where
-  newest : Value V
-  past : List (Value V)
-  whole : values ≡ newest ∷ past
-  current : newest.end ≡ None
-  fits : Fits newest.value
+pub record IsLive {V : Type 0} (Fits : V → Type 0) (values : List (Value V)) : Type 0 where
+  pub newest : Value V
+  pub past : List (Value V)
+  pub whole : values ≡ newest ∷ past
+  pub current : newest.end ≡ None
+  pub fits : Fits newest.value
 
-live-track : {V : Type 0} (Fits : V → Type 0) (m d : Bool) (last : ℕ) (values : List (Value V)) → m ≡ true → d ≡ false → IsTrack Fits m d last values → IsLive Fits values
+pub live-track : {V : Type 0} (Fits : V → Type 0) (m d : Bool) (last : ℕ) (values : List (Value V)) → m ≡ true → d ≡ false → IsTrack Fits m d last values → IsLive Fits values
 live-track Fits false d last values e f s = cc
 live-track Fits true true last values e f s = cc
 live-track Fits true false last [] e f s = absurd s
@@ -73,10 +74,10 @@ module _ {V : Type 0} (track : Track V) (wrap : V → Item) (cost : (x : V) → 
   ended-laid : (m : ℕ) (v : Value V) → v.end ≡ None → version_of track wrap (model.ended m v) ≡ ended m (version_of track wrap v)
   ended-laid m v e = ap (λ x. record { begin = v.begin; end = x; item = Some (wrap v.value); cost = track.cost v.value }) (sym (ap (end_at m) e))
 
-  laid-end : (m : ℕ) (v : Value V) (past : List (Value V)) → v.end ≡ None → laid track wrap (model.ended m v ∷ past) ≡ with_end m (laid track wrap (v ∷ past))
+  pub laid-end : (m : ℕ) (v : Value V) (past : List (Value V)) → v.end ≡ None → laid track wrap (model.ended m v ∷ past) ≡ with_end m (laid track wrap (v ∷ past))
   laid-end m v past e = ap (λ w. laid track wrap past ++ w ∷ []) (ended-laid m v e) ∙ sym (with_end-snoc m (laid track wrap past) (version_of track wrap v))
 
-  laid-put : (m : ℕ) (x : V) (v : Value V) (past : List (Value V)) → v.end ≡ None → laid track wrap (model.begun m x ∷ model.ended m v ∷ past) ≡ with_put m (wrap x) (laid track wrap (v ∷ past))
+  pub laid-put : (m : ℕ) (x : V) (v : Value V) (past : List (Value V)) → v.end ≡ None → laid track wrap (model.begun m x ∷ model.ended m v ∷ past) ≡ with_put m (wrap x) (laid track wrap (v ∷ past))
   laid-put m x v past e =
       ap (λ w. (laid track wrap past ++ version_of track wrap (model.ended m v) ∷ []) ++ w ∷ []) (begun-laid m x)
       ∙ ap (λ vs. vs ++ begun m (wrap x) ∷ []) (laid-end m v past e)
@@ -165,12 +166,12 @@ then-both b x y z e = e ∙ sym (ap (λ c. if c then x else y) (&&-true b))
 -- THE KINDS OF CHANGES
 
 module _ {base : Base} {h : List Record} {r : Record} (s : IsSound h) (n : IsNext base h r) (granted : is_refused r.reply ≡ false) (o : ObjectId) (request : Request) (asked : r.request ≡ request) (of_o : changed_by request ≡ Some o) where
-  accepted : is_refused (answer base h r.moment r.caller request) ≡ false
-  accepted = sym (ap is_refused (n.answered ∙ ap (answer base h r.moment r.caller) asked)) ∙ granted
+  accepted : is_refused (told h r.moment r.caller request) ≡ false
+  accepted = accepted-asked n granted request asked
 
   -- the object lives
   lives : lives_at r.moment o h ≡ true
-  lives = changed-lives base h r.moment r.caller request o accepted of_o
+  lives = changed-lives h r.moment r.caller request o accepted of_o
 
   alive : (was_made o h ≡ true) × (was_deleted o h ≡ false)
   alive =
@@ -189,22 +190,25 @@ module _ {base : Base} {h : List Record} {r : Record} (s : IsSound h) (n : IsNex
 
   is-plain : r ≡ record { moment = r.moment; caller = r.caller; request = request; reply = Done }
   is-plain =
-      let told : r.reply ≡ Done = n.answered ∙ ap (answer base h r.moment r.caller) asked ∙ changed-done base h r.moment r.caller request o accepted of_o in
-      λ i. record { moment = r.moment; caller = r.caller; request = asked i; reply = told i }
+      let is : r.reply ≡ Done = told-asked n granted request asked ∙ changed-done h r.moment r.caller request o accepted of_o in
+      λ i. record { moment = r.moment; caller = r.caller; request = asked i; reply = is i }
 
-  live-data : IsLive DataFits (versions data_track o h)
+  pub live-data : IsLive DataFits (versions data_track o h)
   live-data = let stands : TrackStands DataFits o h (versions data_track o h) = s.tracks o which.Data in live-track DataFits (was_made o h) (was_deleted o h) (last_of h) (versions data_track o h) alive.0 alive.1 stands.shape
 
-  live-attributes : IsLive AttributesFit (versions attribute_track o h)
+  pub live-attributes : IsLive AttributesFit (versions attribute_track o h)
   live-attributes = let stands : TrackStands AttributesFit o h (versions attribute_track o h) = s.tracks o which.Attributes in live-track AttributesFit (was_made o h) (was_deleted o h) (last_of h) (versions attribute_track o h) alive.0 alive.1 stands.shape
 
-  live-acl : IsLive AclFits (versions acl_track o h)
+  pub live-acl : IsLive AclFits (versions acl_track o h)
   live-acl = let stands : TrackStands AclFits o h (versions acl_track o h) = s.tracks o which.Acl in live-track AclFits (was_made o h) (was_deleted o h) (last_of h) (versions acl_track o h) alive.0 alive.1 stands.shape
 
-  current-data : live-data.newest.value ≡ data_of o r.moment h
+  pub current-data : live-data.newest.value ≡ data_of o r.moment h
   current-data = data-in-force s o r.moment n.later lives live-data.newest live-data.past live-data.whole
 
-  current-acl : live-acl.newest.value ≡ acl_of o r.moment h
+  pub current-attributes : live-attributes.newest.value ≡ attributes_of o r.moment h
+  current-attributes = attributes-in-force s o r.moment n.later lives live-attributes.newest live-attributes.past live-attributes.whole
+
+  pub current-acl : live-acl.newest.value ≡ acl_of o r.moment h
   current-acl = acl-in-force s o r.moment n.later lives live-acl.newest live-acl.past live-acl.whole
 
 module _ (h : List Record) (t : ℕ) (caller : Caller) (o : ObjectId) where
@@ -262,7 +266,7 @@ module _ {base : Base} {h : List Record} {r : Record} (s : IsSound h) (n : IsNex
   write_fits offset bytes asked =
       let live = live-data s n granted o (Write o offset bytes) asked refl in
       let is = current-data s n granted o (Write o offset bytes) asked refl in
-      data-fit base h r.moment r.caller (Write o offset bytes) o (sym (ap is_refused (n.answered ∙ ap (answer base h r.moment r.caller) asked)) ∙ granted)
+      data-fit h r.moment r.caller (Write o offset bytes) o (accepted-asked n granted (Write o offset bytes) asked)
       (data_of o r.moment h) (written offset bytes (data_of o r.moment h)) (ap (λ b. when b (written offset bytes (data_of o r.moment h))) (object_self o)) refl (subst DataFits is live.fits)
 
   pub append_puts : (bytes : List ℕ) → r.request ≡ Append o bytes → PutsOn h r o which.Data (item.Data (data_of o r.moment h ++ bytes))
@@ -298,7 +302,7 @@ module _ {base : Base} {h : List Record} {r : Record} (s : IsSound h) (n : IsNex
   set_acl_settable user rights asked =
       (passes_judgement (settable user rights (acl_of o r.moment h)) (Ok Done)
       (passes_judgement (judge h r.moment r.caller o right.Control None) (settable user rights (acl_of o r.moment h) >> Ok Done)
-      (sym (ap is_refused (n.answered ∙ ap (answer base h r.moment r.caller) asked)) ∙ granted)).1).0
+      (accepted-asked n granted (SetAcl o user rights) asked)).1).0
 
   pub delete_ends : r.request ≡ Delete o → EndsAll h r o
   delete_ends asked =
@@ -356,7 +360,7 @@ pub create_makes : {base : Base} {h : List Record} {r : Record} → IsNext base 
 create_makes {base} {h} {r} n granted number asked =
     let o : ObjectId = new_object h r.moment r.caller number in
     let test : Bool = nat_le 65535 (drawn o.purse h) in
-    let answered : r.reply ≡ reply_of (refuse_if test NamesSpent >> Ok (Made o)) = n.answered ∙ ap (answer base h r.moment r.caller) asked in
+    let answered : r.reply ≡ reply_of (refuse_if test NamesSpent >> Ok (Made o)) = told-asked n granted (Create number) asked in
     let told : r.reply ≡ Made o = answered ∙ made_it test NamesSpent o (sym (ap is_refused answered) ∙ granted) in
     let is : r ≡ creation h r.moment r.caller number = λ i. record { moment = r.moment; caller = r.caller; request = asked i; reply = told i } in
     subst (λ x. MakesOnly h x o) (sym is) (creation_makes h r.moment r.caller number)

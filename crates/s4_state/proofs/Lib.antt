@@ -9,3 +9,6 @@ pub mod Standing
 pub mod Effects
 pub mod Binding
 pub mod Mounting
+pub mod Weighing
+pub mod Charging
+pub mod Costs

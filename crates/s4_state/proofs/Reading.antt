@@ -13,7 +13,7 @@ use Rattle.s4_types.specs.declared.version.Item.{Item}
 use Rattle.s4_types.specs.declared.version.Item.TheVariants as item
 use Rattle.s4_types.specs.Versions.{Track, Value, versions, value_at, lives_at, ends_by, in_force_by, data_track, attribute_track, acl_track}
 use Rattle.s4_types.specs.Judgement.{held_of}
-use Rattle.s4_types.specs.Answer.{value_or_empty, data_of, acl_of, moment_of}
+use Rattle.s4_types.specs.Answer.{value_or_empty, data_of, attributes_of, acl_of, moment_of}
 use Rattle.s4_types.specs.Play.{last_of}
 use Rattle.s4_types.proofs.Snoc.{newest-snoc}
 use Rattle.s4_store.specs.Chains.{Chains, items_of}
@@ -101,6 +101,9 @@ newest-in-force {V} track Fits {h} o stands t later lives v past is =
 
 pub data-in-force : {h : List Record} → IsSound h → (o : ObjectId) (t : ℕ) → last_of h ≤ t → lives_at t o h ≡ true → (v : Value (List ℕ)) (past : List (Value (List ℕ))) → versions data_track o h ≡ v ∷ past → v.value ≡ data_of o t h
 data-in-force s o t later lives v past is = sym (ap value_or_empty (newest-in-force data_track DataFits o (s.tracks o which.Data) t later lives v past is))
+
+pub attributes-in-force : {h : List Record} → IsSound h → (o : ObjectId) (t : ℕ) → last_of h ≤ t → lives_at t o h ≡ true → (v : Value (List ℕ)) (past : List (Value (List ℕ))) → versions attribute_track o h ≡ v ∷ past → v.value ≡ attributes_of o t h
+attributes-in-force s o t later lives v past is = sym (ap value_or_empty (newest-in-force attribute_track AttributesFit o (s.tracks o which.Attributes) t later lives v past is))
 
 pub acl-in-force : {h : List Record} → IsSound h → (o : ObjectId) (t : ℕ) → last_of h ≤ t → lives_at t o h ≡ true → (v : Value (List AclEntry)) (past : List (Value (List AclEntry))) → versions acl_track o h ≡ v ∷ past → v.value ≡ acl_of o t h
 acl-in-force s o t later lives v past is = sym (ap value_or_empty (newest-in-force acl_track AclFits o (s.tracks o which.Acl) t later lives v past is))

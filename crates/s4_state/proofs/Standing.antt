@@ -14,7 +14,7 @@ use Rattle.s4_types.specs.Names.{same_purse, same_object}
 use Rattle.s4_types.specs.Kinds.{concerns, is_create}
 use Rattle.s4_types.specs.Versions.{Track, versions, makes, deletes, is_made, data_track, attribute_track, acl_track, begun as begins, with_end as ends, with_effect}
 use Rattle.s4_types.specs.Bindings.{rebound, named_by}
-use Rattle.s4_types.specs.Answer.{drawn, draws}
+use Rattle.s4_types.specs.Serials.{drawn, draws}
 use Rattle.s4_types.proofs.Booleans.{by_test, both, ||-false, ||-true, not_both}
 use Rattle.s4_types.proofs.SameNames.{object_is, object_self, purse_is}
 use Rattle.s4_types.proofs.Snoc.{versions-snoc, drawn-snoc, list_any-snoc}
@@ -55,7 +55,7 @@ module _ (h : List Record) (r : Record) where
   was_made-same : (o : ObjectId) → makes o r ≡ false → was_made o (h ++ r ∷ []) ≡ was_made o h
   was_made-same o e = list_any-snoc (makes o) h r ∙ ap (λ b. was_made o h || b) e ∙ ||-false (was_made o h)
 
-  drawn-same : (p : Purse) → draws p r ≡ false → drawn p (h ++ r ∷ []) ≡ drawn p h
+  pub drawn-same : (p : Purse) → draws p r ≡ false → drawn p (h ++ r ∷ []) ≡ drawn p h
   drawn-same p e = let more : drawn p (h ++ r ∷ []) ≡ drawn p h + 0 = drawn-snoc p h r ∙ ap (λ b. drawn p h + cond b 1 0) e in omega arith
 
   drawn-more : (p : Purse) → draws p r ≡ true → drawn p (h ++ r ∷ []) ≡ drawn p h + 1
@@ -65,7 +65,7 @@ module _ (h : List Record) (r : Record) where
   versions-same track o e = versions-snoc track o h r
       ∙ ap (λ b. if b then (if makes o r then begins r.moment (track.start o) ∷ versions track o h else (if deletes o r then ends r.moment (versions track o h) else with_effect r.moment (track.effect o r.request) (versions track o h))) else versions track o h) e
 
-  versions_on-same : (w : Which) (o : ObjectId) → concerns o.purse r ≡ false → versions_on w o (h ++ r ∷ []) ≡ versions_on w o h
+  pub versions_on-same : (w : Which) (o : ObjectId) → concerns o.purse r ≡ false → versions_on w o (h ++ r ∷ []) ≡ versions_on w o h
   versions_on-same which.Data o e = ap (laid data_track item.Data) (versions-same data_track o e)
   versions_on-same which.Attributes o e = ap (laid attribute_track item.Attr) (versions-same attribute_track o e)
   versions_on-same which.Acl o e = ap (laid acl_track item.Acl) (versions-same acl_track o e)
@@ -194,7 +194,7 @@ pub record MakesOnly (h : List Record) (r : Record) (o : ObjectId) : Type 0 wher
   pub elsewhere : (q : ObjectId) (w : Which) → same_object o q ≡ false → versions_on w q (h ++ r ∷ []) ≡ versions_on w q h
   pub rebinds : RebindsNone r
 
-unmade-track : {V : Type 0} (Fits : V → Type 0) (m d : Bool) (last : ℕ) (values : List (Rattle.s4_types.specs.Versions.Value V)) → m ≡ false → IsTrack Fits m d last values → values ≡ []
+pub unmade-track : {V : Type 0} (Fits : V → Type 0) (m d : Bool) (last : ℕ) (values : List (Rattle.s4_types.specs.Versions.Value V)) → m ≡ false → IsTrack Fits m d last values → values ≡ []
 unmade-track Fits true d last values e s = cc
 unmade-track Fits false d last values e s = s
 

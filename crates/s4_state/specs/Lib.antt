@@ -5,4 +5,5 @@ pub mod Sound
 pub mod Chains
 pub mod Shown
 pub mod Log
+pub mod Weights
 pub mod Stands

@@ -8,7 +8,8 @@ use Rattle.s4_types.specs.declared.record.Record.{Record}
 use Rattle.s4_types.specs.Versions.{Value, versions, in_force_by, makes, deletes, lives_at, data_track, attribute_track, acl_track}
 use Rattle.s4_types.specs.Bindings.{bindings}
 use Rattle.s4_types.specs.Base.{Base}
-use Rattle.s4_types.specs.Answer.{answer, drawn}
+use Rattle.s4_types.specs.Answer.{answer}
+use Rattle.s4_types.specs.Serials.{drawn}
 use Rattle.s4_types.specs.Play.{last_of}
 use Rattle.s4_state.specs.declared.objects.Which.{Which}
 use Rattle.s4_state.specs.declared.objects.Which.TheVariants as which

@@ -10,7 +10,7 @@ use Rattle.s4_types.specs.declared.version.Item.{Item}
 use Rattle.s4_types.specs.Names.{same_object}
 use Rattle.s4_types.specs.Versions.{Value, makes}
 use Rattle.s4_types.specs.Bindings.{bindings_after, names_after, names_of}
-use Rattle.s4_types.specs.Answer.{drawn, draws}
+use Rattle.s4_types.specs.Serials.{drawn, draws}
 use Rattle.s4_names.specs.Drawn.{drawn_in}
 use Rattle.s4_tracks.specs.Chain.{with_put, with_end}
 use Rattle.s4_state.specs.declared.objects.Which.{Which}

@@ -41,7 +41,8 @@ pub fn follow<S: Store<Version>>(
         | Request::GetAclByIndex { .. }
         | Request::PList { .. }
         | Request::PMount { .. }
-        | Request::SetWindow { .. } => Ok(()),
+        | Request::SetWindow { .. }
+        | Request::SetBudget { .. } => Ok(()),
         Request::Write {
             object,
             offset,

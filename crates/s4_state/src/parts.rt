@@ -3,7 +3,8 @@
 ghost use Rattle.std.specs.Prelude.{◌≡◌, ℕ, ◌≤◌, ◌+◌, IfSome, is_some, nat_le, not};
 ghost use Rattle.std.specs.Option.{option_copied, option_map};
 ghost use Rattle.std.specs.BTreeMap.{get};
-ghost use Rattle.s4_types.specs.Answer.{drawn, moment_of, data_of, attributes_of, acl_of};
+ghost use Rattle.s4_types.specs.Answer.{moment_of, data_of, attributes_of, acl_of};
+ghost use Rattle.s4_types.specs.Serials.{drawn};
 ghost use Rattle.s4_types.specs.Bindings.{bound_at, bound_count, has_name};
 ghost use Rattle.s4_types.specs.Judgement.{held_at, judge as judge_of};
 ghost use Rattle.s4_types.specs.Names.{object_in};
@@ -11,6 +12,7 @@ ghost use Rattle.s4_types.specs.Play.{last_of};
 ghost use Rattle.s4_judge.specs.Held.{shown_held};
 ghost use Rattle.s4_state.specs.Keys.{object_cmp};
 ghost use Rattle.s4_state.specs.Laid.{version_at};
+ghost use Rattle.s4_state.specs.Weights.{cost_now};
 
 use crate::objects::{Kept, Which};
 use crate::values::{bytes_of, held_of};
@@ -21,6 +23,9 @@ use s4_types::{
     Acl, Caller, Grant, Moment, Name, ObjectId, Purse, Record, Refusal, Right, Serial, Version,
 };
 use std::collections::BTreeMap;
+
+/// What a value without bytes or entries costs once it is past.
+const LEAST_COST: u32 = 64;
 
 /// The window at the opening, the values, the objects by their names, the serials drawn, the
 /// partitions, and all records.
@@ -93,6 +98,18 @@ impl<S: Store<Version>> Parts<S> {
         match self.kept(object) {
             Some(kept) => kept.track(which).version(&self.store, at),
             None => None,
+        }
+    }
+
+    /// What the current value of a track costs once it is past. Where the object doesn't live that is
+    /// the cost of a value without bytes or entries.
+    pub fn cost(&self, object: &ObjectId, which: Which) -> u32
+        requires { IsKept S.chains self.now }
+        ensures { (t : ℕ) → last_of self.now.history.items ≤ t → result ≡ cost_now which object.now t self.now.history.items }
+    {
+        match self.version(object, which, None) {
+            Some(version) => version.cost,
+            None => LEAST_COST,
         }
     }
 

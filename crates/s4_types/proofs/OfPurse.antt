@@ -7,7 +7,7 @@ use Rattle.s4_types.specs.declared.object.Purse.{Purse}
 use Rattle.s4_types.specs.declared.object.ObjectId.{ObjectId}
 use Rattle.s4_types.specs.declared.record.Record.{Record}
 use Rattle.s4_types.specs.Applied.{AgreeOn}
-use Rattle.s4_types.specs.Answer.{drawn, draws}
+use Rattle.s4_types.specs.Serials.{drawn, draws}
 use Rattle.s4_types.specs.Kinds.{concerns, is_create}
 use Rattle.s4_types.specs.Bindings.{rebound, bindings_after, bindings, bound_at, named_by, names_after, names_of}
 use Rattle.s4_types.specs.Versions.{Track, Value, in_force_by, versions, versions_after, after_change, makes, is_made, deletes, is_deleted, lives_at}

@@ -1,5 +1,5 @@
 -- What a reply that is no refusal tells of the tests before it, and that no answer is want of memory.
-use Rattle.std.proofs.Common.{◌≡◌, ℕ, Bool, true, false, not, Option, Some, None, List, refl}
+use Rattle.std.proofs.Common.{◌≡◌, ℕ, Bool, true, false, not, Option, Some, None, List, refl, sym, ◌∙◌, ap}
 use Rattle.std.specs.Prelude.{Result, Ok, Err, nat_le, nat_lt, ◌+◌, length, ◌==◌, ◌&&◌, cond, is_ok, is_some, take, drop, slice_get}
 use Rattle.s4_types.specs.declared.principal.Caller.{Caller}
 use Rattle.s4_types.specs.declared.object.Purse.{Purse}
@@ -9,22 +9,24 @@ use Rattle.s4_types.specs.declared.rights.Right.TheVariants as right
 use Rattle.s4_types.specs.Names.{object_in}
 use Rattle.s4_types.specs.declared.rights.Right.{Right}
 use Rattle.s4_types.specs.declared.request.Request.{Request}
-use Rattle.s4_types.specs.declared.request.Request.TheVariants.{Create, Delete, Read, Write, Append, Truncate, GetAttr, SetAttr, GetAclByUser, GetAclByIndex, SetAcl, PCreate, PDelete, PList, PMount, SetWindow}
+use Rattle.s4_types.specs.declared.request.Request.TheVariants.{Create, Delete, Read, Write, Append, Truncate, GetAttr, SetAttr, GetAclByUser, GetAclByIndex, SetAcl, PCreate, PDelete, PList, PMount, SetWindow, SetBudget}
 use Rattle.s4_types.specs.declared.reply.Grant.{Grant}
 use Rattle.s4_types.specs.declared.reply.Grant.TheVariants as grant
 use Rattle.s4_types.specs.declared.reply.Refusal.{Refusal}
-use Rattle.s4_types.specs.declared.reply.Refusal.TheVariants.{Denied, NoObject, Future, TooOld, TooLong, AclFull, NoEntry, NamesSpent, NoPartition, Exists, PartsFull, Named, NoMemory}
+use Rattle.s4_types.specs.declared.reply.Refusal.TheVariants.{Denied, NoObject, Future, TooOld, TooLong, AclFull, NoEntry, NamesSpent, NoPartition, Exists, PartsFull, Named, OverBudget, NoMemory}
 use Rattle.s4_types.specs.declared.reply.Reply.{Reply}
 use Rattle.s4_types.specs.declared.reply.Reply.TheVariants.{Done, Made, Data, Attr, Entry, Mounted, Names, Refused}
 use Rattle.s4_types.specs.declared.record.Record.{Record}
 use Rattle.s4_types.specs.Rights.{has}
-use Rattle.s4_types.specs.Kinds.{is_refused, at_of}
+use Rattle.s4_types.specs.Kinds.{is_refused, at_of, purse_of}
 use Rattle.s4_types.specs.Judgement.{Held, Found, judge, judge_now, judge_past, judge_by_entry, judge_past_by_entry, needs_control, entry_of, held_at, may_know}
 use Rattle.s4_types.specs.Outcome.{◌>>=◌, ◌>>◌, refuse_if, reply_of}
 use Rattle.s4_types.specs.Base.{Base}
 use Rattle.s4_types.specs.Horizon.{horizon_at}
+use Rattle.s4_types.specs.Spending.{spent_at, budget_of}
 use Rattle.s4_types.specs.Acl.{names}
-use Rattle.s4_types.specs.Answer.{answer, outcome, outcome_by_kind, drawn, timely, moment_of, data_of, attributes_of, acl_of, entry_by_user, entry_by_index, settable, found_bound}
+use Rattle.s4_types.specs.Answer.{answer, outcome, outcome_by_kind, affordable, charge_of, timely, moment_of, data_of, attributes_of, acl_of, entry_by_user, entry_by_index, settable, found_bound}
+use Rattle.s4_types.specs.Serials.{drawn}
 use Rattle.s4_types.specs.Bindings.{bound_at, bound_count, has_name}
 use Rattle.s4_types.specs.Play.{is_no_memory}
 
@@ -193,10 +195,43 @@ told-by-kind h t caller (PMount purse name at) =
     told-bind found next (plain-found caller purse right.Read (bound_at purse name (moment_of t at) h))
     (λ serial. told-bind (judge h t caller (object_in purse serial) right.Read at) (last serial) (plain-judge h t caller (object_in purse serial) right.Read at) (λ g. refl))
 told-by-kind h t caller (SetWindow ticks) = told-test (not (caller.who == 0)) (Denied right.Admin) (Ok Done) refl refl
+told-by-kind h t caller (SetBudget purse budget) = told-test (not (caller.who == 0)) (Denied right.Admin) (Ok Done) refl refl
+
+plain-affordable : (base : Base) (h : List Record) (t : ℕ) (request : Request) (purse : Option Purse) → is_plain (affordable base h t request purse) ≡ true
+plain-affordable base h t request None = refl
+plain-affordable base h t request (Some purse) = of (nat_lt 0 (charge_of h t request) && nat_lt (budget_of purse h) (spent_at base purse h t + charge_of h t request))
+  where
+    of : (b : Bool) → is_plain (refuse_if b (OverBudget (spent_at base purse h t) (charge_of h t request) (budget_of purse h))) ≡ true
+    of true = refl
+    of false = refl
+
+-- what an outcome tells that is told once a test passed
+told-once : (outcome : Result Reply Refusal) (test : Result (Unit {0}) Refusal) → is_told outcome ≡ true → is_plain test ≡ true → is_told (outcome >>= λ reply. test >> Ok reply) ≡ true
+told-once (Ok reply) test e f = told-then test (Ok reply) f e
+told-once (Err r) test e f = e
 
 pub told-outcome : (base : Base) (h : List Record) (t : ℕ) (caller : Caller) (request : Request) → is_told (outcome base h t caller request) ≡ true
 told-outcome base h t caller request =
-    told-then (timely (horizon_at base h t) t (at_of request)) (outcome_by_kind h t caller request) (plain-timely (horizon_at base h t) t (at_of request)) (told-by-kind h t caller request)
+    told-then (timely (horizon_at base h t) t (at_of request)) (outcome_by_kind h t caller request >>= λ reply. affordable base h t request (purse_of caller request) >> Ok reply) (plain-timely (horizon_at base h t) t (at_of request))
+    (told-once (outcome_by_kind h t caller request) (affordable base h t request (purse_of caller request)) (told-by-kind h t caller request) (plain-affordable base h t request (purse_of caller request)))
+
+-- AN ANSWER THAT IS NO REFUSAL
+
+last-kept : (outcome : Result Reply Refusal) (test : Result (Unit {0}) Refusal) → is_refused (reply_of (outcome >>= λ reply. test >> Ok reply)) ≡ false → reply_of (outcome >>= λ reply. test >> Ok reply) ≡ reply_of outcome
+last-kept (Ok reply) (Ok x) e = refl
+last-kept (Ok reply) (Err r) e = cc
+last-kept (Err r) test e = cc
+
+first-kept : (test : Result (Unit {0}) Refusal) (next : Result Reply Refusal) → is_refused (reply_of (test >> next)) ≡ false → reply_of (test >> next) ≡ reply_of next
+first-kept (Ok x) next e = refl
+first-kept (Err r) next e = cc
+
+-- an answer that is no refusal is what comes of the request by its kind
+pub answer-by-kind : (base : Base) (h : List Record) (t : ℕ) (caller : Caller) (request : Request) → is_refused (answer base h t caller request) ≡ false → answer base h t caller request ≡ reply_of (outcome_by_kind h t caller request)
+answer-by-kind base h t caller request e =
+    let paid : Result Reply Refusal = outcome_by_kind h t caller request >>= λ reply. affordable base h t request (purse_of caller request) >> Ok reply in
+    let first : answer base h t caller request ≡ reply_of paid = first-kept (timely (horizon_at base h t) t (at_of request)) paid e in
+    first ∙ last-kept (outcome_by_kind h t caller request) (affordable base h t request (purse_of caller request)) (sym (ap is_refused first) ∙ e)
 
 replied : (r : Result Reply Refusal) → is_told r ≡ true → is_no_memory (reply_of r) ≡ false
 replied (Ok Done) e = refl
@@ -220,6 +255,7 @@ replied (Err Exists) e = refl
 replied (Err PartsFull) e = refl
 replied (Err Named) e = refl
 replied (Err NamesSpent) e = refl
+replied (Err (OverBudget spent charge budget)) e = refl
 
 pub is_no_memory-answer : (base : Base) (h : List Record) (t : ℕ) (caller : Caller) (request : Request) → is_no_memory (answer base h t caller request) ≡ false
 is_no_memory-answer base h t caller request = replied (outcome base h t caller request) (told-outcome base h t caller request)

@@ -11,7 +11,7 @@ use Rattle.s4_types.specs.declared.object.Purse.{Purse}
 use Rattle.s4_types.specs.declared.object.ObjectId.{ObjectId}
 use Rattle.s4_types.specs.declared.record.Record.{Record}
 use Rattle.s4_types.specs.Versions.{Track, versions, versions_after}
-use Rattle.s4_types.specs.Answer.{drawn, draws}
+use Rattle.s4_types.specs.Serials.{drawn, draws}
 use Rattle.s4_types.specs.Play.{last_of, replies}
 use Rattle.s4_types.proofs.Booleans.{||-false, &&-true}
 

@@ -1,5 +1,5 @@
 -- What the drive answers a request, from the list of all earlier records.
-use Rattle.std.specs.Prelude.{ℕ, Bool, true, not, ◌∷◌, is_some, filter, filter_map, flat_map, ◌+◌, ◌==◌, ◌&&◌, ◌||◌, nat_lt, nat_le, Option, Some, None, Result, Ok, Err, List, [], length, take, drop, slice_get, count_by, if◌then◌else◌}
+use Rattle.std.specs.Prelude.{ℕ, Bool, true, not, ◌∷◌, is_some, filter, filter_map, flat_map, ◌+◌, ◌==◌, ◌&&◌, ◌||◌, nat_lt, nat_le, Option, Some, None, Result, Ok, Err, List, [], length, take, drop, slice_get, sum, if◌then◌else◌}
 use Rattle.s4_types.specs.declared.principal.Caller.{Caller}
 use Rattle.s4_types.specs.declared.object.Purse.{Purse}
 use Rattle.s4_types.specs.declared.object.ObjectId.{ObjectId}
@@ -8,17 +8,19 @@ use Rattle.s4_types.specs.declared.rights.Right.{Right}
 use Rattle.s4_types.specs.declared.rights.Right.TheVariants as right
 use Rattle.std.specs.Ordering.{is_lt}
 use Rattle.s4_types.specs.declared.request.Request.{Request}
-use Rattle.s4_types.specs.declared.request.Request.TheVariants.{Create, Delete, Read, Write, Append, Truncate, GetAttr, SetAttr, GetAclByUser, GetAclByIndex, SetAcl, PCreate, PDelete, PList, PMount, SetWindow}
+use Rattle.s4_types.specs.declared.request.Request.TheVariants.{Create, Delete, Read, Write, Append, Truncate, GetAttr, SetAttr, GetAclByUser, GetAclByIndex, SetAcl, PCreate, PDelete, PList, PMount, SetWindow, SetBudget}
 use Rattle.s4_types.specs.declared.reply.Grant.{Grant}
 use Rattle.s4_types.specs.declared.reply.NameLine.{NameLine}
 use Rattle.s4_types.specs.declared.request.After.{After}
 use Rattle.s4_types.specs.declared.reply.Refusal.{Refusal}
-use Rattle.s4_types.specs.declared.reply.Refusal.TheVariants.{Denied, Future, TooOld, TooLong, AclFull, NoEntry, NamesSpent, NoPartition, Exists, PartsFull, Named}
+use Rattle.s4_types.specs.declared.reply.Refusal.TheVariants.{Denied, Future, TooOld, TooLong, AclFull, NoEntry, NamesSpent, NoPartition, Exists, PartsFull, Named, OverBudget}
 use Rattle.s4_types.specs.declared.reply.Reply.{Reply}
 use Rattle.s4_types.specs.declared.reply.Reply.TheVariants.{Done, Made, Data, Attr, Entry, Mounted, Names}
 use Rattle.s4_types.specs.declared.record.Record.{Record}
 use Rattle.s4_types.specs.Names.{object_in}
-use Rattle.s4_types.specs.Kinds.{is_create, concerns, at_of}
+use Rattle.s4_types.specs.Kinds.{at_of, purse_of}
+use Rattle.s4_types.specs.Serials.{drawn}
+use Rattle.s4_types.specs.Spending.{spent_at, budget_of, binding_cost}
 use Rattle.s4_types.specs.Versions.{Value, value_at, data_track, attribute_track, acl_track}
 use Rattle.s4_types.specs.Acl.{names}
 use Rattle.s4_types.specs.Name.{name_cmp}
@@ -59,14 +61,6 @@ abbrev pub acl_of : ObjectId → ℕ → List Record → List AclEntry
 acl_of o t h = value_or_empty (value_at acl_track o t h)
 
 -- SERIALS
-
--- whether the record drew a serial from the purse
-abbrev pub draws : Purse → Record → Bool
-draws purse r = concerns purse r && is_create r.request
-
--- how many serials were drawn from the purse
-abbrev pub drawn : Purse → List Record → ℕ
-drawn purse h = count_by (draws purse) h
 
 -- a new object: the next serial of the purse
 abbrev pub created : List Record → Purse → Result Reply Refusal
@@ -213,10 +207,36 @@ names_listed h t caller range after at =
 -- THE ADMINISTRATOR'S REQUESTS
 
 -- whoever else asks is told the right that he lacks
-abbrev pub window_set : Caller → Result Reply Refusal
-window_set caller = do
+abbrev pub administered : Caller → Result Reply Refusal
+administered caller = do
   refuse_if (not (caller.who == 0)) (Denied right.Admin)
   Ok Done
+
+-- BUDGETS
+
+-- what each value costs that the request makes past, where it is carried out
+abbrev pub made_past : List Record → ℕ → Request → List ℕ
+made_past h t (Delete o) =
+    data_track.cost (data_of o t h) ∷ attribute_track.cost (attributes_of o t h) ∷ acl_track.cost (acl_of o t h) ∷ []
+made_past h t (Write o offset bytes) = data_track.cost (data_of o t h) ∷ []
+made_past h t (Append o bytes) = data_track.cost (data_of o t h) ∷ []
+made_past h t (Truncate o length) = data_track.cost (data_of o t h) ∷ []
+made_past h t (SetAttr o bytes) = attribute_track.cost (attributes_of o t h) ∷ []
+made_past h t (SetAcl o user rights) = acl_track.cost (acl_of o t h) ∷ []
+made_past h t (PDelete purse name) = binding_cost name ∷ []
+made_past h t _ = []
+
+-- the request's charge
+abbrev pub charge_of : List Record → ℕ → Request → ℕ
+charge_of h t request = sum (made_past h t request)
+
+-- a charge may bring the spending up to the budget; no charge is never refused
+abbrev pub within : ℕ → ℕ → ℕ → Result (Unit {0}) Refusal
+within budget spent charge = refuse_if (nat_lt 0 charge && nat_lt budget (spent + charge)) (OverBudget spent charge budget)
+
+abbrev pub affordable : Base → List Record → ℕ → Request → Option Purse → Result (Unit {0}) Refusal
+affordable base h t request None = Ok tt
+affordable base h t request (Some purse) = within (budget_of purse h) (spent_at base purse h t) (charge_of h t request)
 
 -- ALL REQUESTS
 
@@ -237,13 +257,16 @@ outcome_by_kind h t caller (PCreate name o) = name_bound h t caller name o
 outcome_by_kind h t caller (PDelete purse name) = name_unbound h t caller purse name
 outcome_by_kind h t caller (PList range after at) = names_listed h t caller range after at
 outcome_by_kind h t caller (PMount purse name at) = name_mounted h t caller purse name at
-outcome_by_kind h t caller (SetWindow ticks) = window_set caller
+outcome_by_kind h t caller (SetWindow ticks) = administered caller
+outcome_by_kind h t caller (SetBudget purse budget) = administered caller
 
--- a moment that the request names is looked at first; no request that names one has a limit on its size
+-- a moment that the request names is looked at first, since no request that names one has a limit on its size; the budget is looked at last
 abbrev pub outcome : Base → List Record → ℕ → Caller → Request → Result Reply Refusal
 outcome base h t caller request = do
   timely (horizon_at base h t) t (at_of request)
-  outcome_by_kind h t caller request
+  reply ← outcome_by_kind h t caller request
+  affordable base h t request (purse_of caller request)
+  Ok reply
 
 -- the reply to a request at the moment t, after the records h that came since the base
 abbrev pub answer : Base → List Record → ℕ → Caller → Request → Reply

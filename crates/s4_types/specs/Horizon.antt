@@ -1,5 +1,5 @@
 -- How far back the drive promises to remember.
-use Rattle.std.specs.Prelude.{ℕ, ◌-◌, max, List, fold, if◌then◌else◌}
+use Rattle.std.specs.Prelude.{ℕ, Bool, false, ◌-◌, max, nat_lt, Option, Some, None, List, fold, if◌then◌else◌}
 use Rattle.s4_types.specs.declared.request.Request.{Request}
 use Rattle.s4_types.specs.declared.request.Request.TheVariants.{SetWindow}
 use Rattle.s4_types.specs.declared.record.Record.{Record}
@@ -33,3 +33,8 @@ guarded_at base h = fold guarded_after (record { window = base.window; floor = 0
 -- the horizon at the moment
 abbrev pub horizon_at : Base → List Record → ℕ → ℕ
 horizon_at base h t = horizon_of (guarded_at base h) t
+
+-- whether a value or a binding with this end is past, and not expired
+abbrev pub is_remembered : ℕ → Option ℕ → Bool
+is_remembered horizon None = false
+is_remembered horizon (Some end) = nat_lt horizon end

@@ -3,7 +3,7 @@ use Rattle.std.specs.Prelude.{ℕ, Bool, true, false, not, ◌&&◌, ◌==◌, O
 use Rattle.s4_types.specs.declared.principal.Caller.{Caller}
 use Rattle.s4_types.specs.declared.object.Purse.{Purse}
 use Rattle.s4_types.specs.declared.request.Request.{Request}
-use Rattle.s4_types.specs.declared.request.Request.TheVariants.{Create, Delete, Read, Write, Append, Truncate, GetAttr, SetAttr, GetAclByUser, GetAclByIndex, SetAcl, PCreate, PDelete, PList, PMount, SetWindow}
+use Rattle.s4_types.specs.declared.request.Request.TheVariants.{Create, Delete, Read, Write, Append, Truncate, GetAttr, SetAttr, GetAclByUser, GetAclByIndex, SetAcl, PCreate, PDelete, PList, PMount, SetWindow, SetBudget}
 use Rattle.s4_types.specs.declared.reply.Reply.{Reply}
 use Rattle.s4_types.specs.declared.reply.Reply.TheVariants.{Refused}
 use Rattle.s4_types.specs.declared.record.Record.{Record}
@@ -42,6 +42,7 @@ purse_of caller (PDelete purse name) = Some purse
 purse_of caller (PList range after at) = None
 purse_of caller (PMount purse name at) = Some purse
 purse_of caller (SetWindow ticks) = None
+purse_of caller (SetBudget purse budget) = Some purse
 
 -- whether the request is about all purses: the administrator's alone may be
 abbrev pub is_wide : Caller → Request → Bool

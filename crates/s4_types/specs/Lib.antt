@@ -10,6 +10,8 @@ pub mod Judgement
 pub mod Outcome
 pub mod Base
 pub mod Horizon
+pub mod Serials
+pub mod Spending
 pub mod Answer
 pub mod Play
 pub mod Applied

@@ -6,7 +6,7 @@ ghost use Rattle.s4_types.specs.declared.object.Purse.{Purse};
 ghost use Rattle.s4_types.specs.declared.object.ObjectId.{ObjectId};
 ghost use Rattle.s4_types.specs.declared.record.Record.{Record};
 ghost use Rattle.s4_types.specs.Applied.{applied, InOrder, AgreeOn};
-ghost use Rattle.s4_types.specs.Answer.{drawn};
+ghost use Rattle.s4_types.specs.Serials.{drawn};
 ghost use Rattle.s4_types.specs.Base.{Base};
 ghost use Rattle.s4_types.specs.Bindings.{bindings, bound_at, names_of};
 ghost use Rattle.s4_types.specs.Horizon.{horizon_at};

@@ -1,0 +1,36 @@
+-- What a drive holds beside its state stands for its history: the window, and the ledger.
+use Rattle.std.specs.Prelude.{◌≡◌, ℕ, nat_lt, List, [], ◌∷◌, sum_by, if◌then◌else◌}
+use Rattle.s4_types.specs.declared.object.Purse.{Purse}
+use Rattle.s4_types.specs.declared.record.Record.{Record}
+use Rattle.s4_types.specs.Names.{same_purse}
+use Rattle.s4_types.specs.Base.{Base}
+use Rattle.s4_types.specs.Horizon.{guarded_at, horizon_at}
+use Rattle.s4_types.specs.Spending.{budget_of}
+use Rattle.s4_types.specs.Play.{last_of}
+use Rattle.s4_ledger.specs.declared.charge.Charge.{Charge}
+use Rattle.s4_ledger.specs.Books as books
+use Rattle.s4_state.specs.Weights.{purse_weight}
+use Rattle.s4_drive.specs.declared.limits.Limits.{Limits}
+use Rattle.s4_drive.specs.declared.past.Past.{Past}
+use Rattle.s4_drive.specs.declared.past.Past.TheVariants as past
+
+-- what a charge weighs for a purse
+abbrev pub charge_weight : (ℕ → ℕ → ℕ) → Purse → Charge → ℕ
+charge_weight weight purse c = if same_purse c.purse purse then weight c.end c.cost else 0
+
+-- the weight of what isn't expired
+abbrev pub above : ℕ → (ℕ → ℕ → ℕ) → ℕ → ℕ → ℕ
+above horizon weight end cost = if nat_lt horizon end then weight end cost else 0
+
+-- by any weight the charges weigh what the past weighs that isn't expired
+pub record LimitsStand (base : Base) (h : List Record) (limits : Limits) : Type 0 where
+  pub window : limits.window ≡ guarded_at base h
+  pub horizon : limits.ledger.horizon ≡ horizon_at base h (last_of h)
+  pub charges : (weight : ℕ → ℕ → ℕ) (p : Purse) → sum_by (charge_weight weight p) limits.ledger.charges ≡ purse_weight (above limits.ledger.horizon weight) p h
+  pub budgets : (p : Purse) → books.budget_of p limits.ledger.budgets ≡ budget_of p h
+
+-- what the values cost that a request makes past
+abbrev pub costs_of : Past → List ℕ
+costs_of past.Nothing = []
+costs_of (past.Value cost) = cost ∷ []
+costs_of (past.Object d attributes acl) = d ∷ attributes ∷ acl ∷ []

@@ -1,0 +1,136 @@
+//! How far back the past is told, and what it may cost.
+
+ghost use Rattle.std.specs.Prelude.{◌≡◌, ◌≤◌, ◌<◌, ◌+◌, ℕ, Some, sum, sum_by, length, OnOk, OnErr, []};
+ghost use Rattle.s4_types.specs.declared.object.Purse.{Purse};
+ghost use Rattle.s4_types.specs.declared.record.Record.{Record};
+ghost use Rattle.s4_types.specs.Answer.{within};
+ghost use Rattle.s4_types.specs.Base.{Base, opened};
+ghost use Rattle.s4_types.specs.Horizon.{horizon_of};
+ghost use Rattle.s4_types.specs.Kinds.{purse_of};
+ghost use Rattle.s4_types.specs.Play.{last_of};
+ghost use Rattle.s4_types.specs.Spending.{spent_at, budget_of, budget_by};
+ghost use Rattle.s4_ledger.specs.Books as books;
+ghost use Rattle.s4_drive.specs.Stands.{LimitsStand, HasRoom, HasBudget, above, charge_weight, charged, costs_of};
+
+use crate::past::Past;
+use s4_ledger::Ledger;
+use s4_state::State;
+use s4_store::Store;
+use s4_types::{Caller, Moment, NoMemory, Purse, Refusal, Request, Version};
+use s4_window::Window;
+use std::alloc::Global;
+
+/// The most values that one request makes past.
+const MADE_PAST: usize = 3;
+
+/// The window in force, and the charges and budgets of all purses.
+#[derive(Drop)]
+pub struct Limits {
+    pub window: Window,
+    pub ledger: Ledger,
+}
+
+impl Limits {
+    /// Those of a drive without records. Takes no memory.
+    pub fn new(alloc: Global, window: u64) -> Limits
+        ensures { LimitsStand (opened window) [] result }
+    {
+        Limits {
+            window: Window::new(window),
+            ledger: Ledger::new(alloc),
+        }
+    }
+
+    /// Makes room for what the request may change.
+    pub fn reserve(&mut self, request: &Request) -> Result<(), NoMemory>
+        ensures charges { OnOk result (3 ≤ self.new.ledger.reserved) }
+        ensures budget { OnOk result (HasBudget request.now self.new.ledger.budgets) }
+        ensures stand { (base : Base) (h : List Record) → LimitsStand base h self.old → LimitsStand base h self.new }
+    {
+        self.ledger.reserve(MADE_PAST)?;
+        match request {
+            Request::SetBudget { purse, .. } => self.ledger.reserve_budget(purse),
+            _ => Ok(()),
+        }
+    }
+
+    /// This window from the moment on. What is expired by then is spent no longer.
+    pub fn advance(&mut self, window: Window, moment: Moment)
+        requires { self.old.ledger.horizon ≤ horizon_of window moment }
+        ensures window { self.new.window ≡ window }
+        ensures horizon { self.new.ledger.horizon ≡ horizon_of window moment }
+        ensures charges { self.new.ledger.charges ≡ books.lasting (horizon_of window moment) self.old.ledger.charges }
+        ensures budgets { self.new.ledger.budgets ≡ self.old.ledger.budgets }
+        ensures reserved { self.old.ledger.reserved ≤ self.new.ledger.reserved }
+    {
+        self.window = window;
+        self.ledger.advance(window.horizon(moment));
+    }
+
+    /// Charges what an accepted request made past to its purse, and sets the budget that it tells.
+    pub fn accept(&mut self, moment: Moment, caller: &Caller, request: &Request, past: Past)
+        requires reserved { 3 ≤ self.old.ledger.reserved }
+        requires budget { HasBudget request.now self.old.ledger.budgets }
+        requires room { (p : Purse) → purse_of caller.now request.now ≡ Some p → HasRoom p (costs_of past) self.old.ledger }
+        ensures window { self.new.window ≡ self.old.window }
+        ensures horizon { self.new.ledger.horizon ≡ self.old.ledger.horizon }
+        ensures charges { (weight : ℕ → ℕ → ℕ) (p : Purse) → sum_by (charge_weight weight p) self.new.ledger.charges
+            ≡ sum_by (charge_weight weight p) self.old.ledger.charges + charged (above self.old.ledger.horizon weight) moment (purse_of caller.now request.now) (costs_of past) p }
+        ensures budgets { (p : Purse) → books.budget_of p self.new.ledger.budgets ≡ budget_by p request.now (books.budget_of p self.old.ledger.budgets) }
+    {
+        if let Some(purse) = request.purse(caller) {
+            charge(&mut self.ledger, &purse, moment, past);
+        }
+        if let Request::SetBudget { purse, budget } = request {
+            let set: Result<_, _> = self.ledger.set_budget(purse, *budget);
+            set.unwrap();
+        }
+    }
+}
+
+// Charges what was made past at the moment to the purse.
+fn charge(ledger: &mut Ledger, purse: &Purse, moment: Moment, past: Past)
+    requires reserved { 3 ≤ ledger.old.reserved }
+    requires room { HasRoom purse.now (costs_of past) ledger.old }
+    ensures horizon { ledger.new.horizon ≡ ledger.old.horizon }
+    ensures budgets { ledger.new.budgets ≡ ledger.old.budgets }
+    ensures charges { (weight : ℕ → ℕ → ℕ) (p : Purse) → sum_by (charge_weight weight p) ledger.new.charges
+        ≡ sum_by (charge_weight weight p) ledger.old.charges + charged (above ledger.old.horizon weight) moment (Some purse.now) (costs_of past) p }
+{
+    match past {
+        Past::Nothing => {}
+        Past::One(cost) => ledger.charge(purse, moment, cost),
+        Past::Object {
+            data,
+            attributes,
+            acl,
+        } => {
+            ledger.charge(purse, moment, data);
+            ledger.charge(purse, moment, attributes);
+            ledger.charge(purse, moment, acl);
+        }
+    }
+}
+
+/// Refuses a charge that the purse's budget has no room for.
+pub fn afford<S: Store<Version>>(
+    state: &State<S>,
+    limits: &Limits,
+    moment: Moment,
+    purse: &Purse,
+    charge: u32,
+) -> Result<(), Refusal>
+    requires stand { LimitsStand (opened state.now.window) state.now.history limits.now }
+    requires later { last_of state.now.history ≤ moment }
+    ensures { result ≡ within (budget_of purse.now state.now.history) (spent_at (opened state.now.window) purse.now state.now.history moment) charge }
+{
+    let horizon = limits.window.horizon(moment);
+    if charge == 0 || limits.ledger.room_at(purse, horizon, charge) {
+        return Ok(());
+    }
+    Err(Refusal::OverBudget {
+        spent: limits.ledger.spent_at(purse, horizon),
+        charge,
+        budget: limits.ledger.budget(purse),
+    })
+}

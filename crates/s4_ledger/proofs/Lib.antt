@@ -1,0 +1,3 @@
+pub mod Sheets
+pub mod Rows
+pub mod Balancing
