@@ -1,2 +1,6 @@
 pub mod Told
 pub mod Runs
+pub mod Tallying
+pub mod Reckoning
+pub mod Charging
+pub mod Following

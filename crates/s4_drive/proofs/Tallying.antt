@@ -1,5 +1,5 @@
 -- What the ledger's charges weigh, as it is advanced and charged.
-use Rattle.std.proofs.Common.{◌≡◌, ℕ, ◌+◌, ◌<◌, ◌≤◌, Bool, true, false, cond, List, [], ◌∷◌, refl, sym, ◌∙◌, ap, arith}
+use Rattle.std.proofs.Common.{◌≡◌, ℕ, zero, ◌+◌, ◌<◌, ◌≤◌, Bool, true, false, cond, Some, List, [], ◌∷◌, refl, sym, ◌∙◌, ap, arith}
 use Rattle.std.specs.Prelude.{nat_lt, sum_by, if◌then◌else◌}
 use Rattle.std.specs.List.Sorted.{IsPermutation}
 use Rattle.std.proofs.lemmas.List.Sums.{sum_by-cons}
@@ -9,10 +9,12 @@ use Rattle.s4_types.specs.declared.record.Record.{Record}
 use Rattle.s4_types.specs.Names.{same_purse}
 use Rattle.s4_types.proofs.Booleans.{by_test}
 use Rattle.s4_ledger.specs.declared.charge.Charge.{Charge}
-use Rattle.s4_ledger.specs.Books.{share, spending, lasts_above, lasting}
+use Rattle.s4_ledger.specs.Books.{spending, lasting}
 use Rattle.s4_ledger.specs.Laws.{sum_by-lasting}
 use Rattle.s4_state.specs.Weights.{purse_weight}
-use Rattle.s4_drive.specs.Stands.{charge_weight, above}
+use Rattle.s4_drive.specs.Stands.{charge_weight, above, charged}
+
+-- ADVANCING
 
 -- two tests in either order
 swapped : (a b : Bool) (x : ℕ) → cond a (cond b x 0) 0 ≡ cond b (cond a x 0) 0
@@ -22,7 +24,7 @@ swapped false true x = refl
 swapped false false x = refl
 
 -- what lasts weighs as much as all, by the weight of what is above
-pub lasting-weight : (horizon : ℕ) (weight : ℕ → ℕ → ℕ) (p : Purse) (charges : List Charge) → sum_by (charge_weight weight p) (lasting horizon charges) ≡ sum_by (charge_weight (above horizon weight) p) charges
+lasting-weight : (horizon : ℕ) (weight : ℕ → ℕ → ℕ) (p : Purse) (charges : List Charge) → sum_by (charge_weight weight p) (lasting horizon charges) ≡ sum_by (charge_weight (above horizon weight) p) charges
 lasting-weight horizon weight p charges =
     sum_by-lasting (charge_weight weight p) horizon charges
     ∙ ap (λ f. sum_by f charges) (λ i c. swapped (nat_lt horizon c.end) (same_purse c.purse p) (weight c.end c.cost) i)
@@ -37,25 +39,68 @@ above-above early late weight le = λ i end cost. step end cost (nat_lt late end
     step end cost false true e f = refl
     step end cost false false e f = refl
 
-module _ (early : ℕ) (h : List Record) (charges : List Charge) (stand : (weight : ℕ → ℕ → ℕ) (p : Purse) → sum_by (charge_weight weight p) charges ≡ purse_weight (above early weight) p h) where
-  -- the ledger is advanced
-  pub advanced : (late : ℕ) → early ≤ late → (weight : ℕ → ℕ → ℕ) (p : Purse) → sum_by (charge_weight weight p) (lasting late charges) ≡ purse_weight (above late weight) p h
-  advanced late le weight p = lasting-weight late weight p charges ∙ stand (above late weight) p ∙ ap (λ w. purse_weight w p h) (above-above early late weight le)
+-- the ledger is advanced
+pub advanced : (early late : ℕ) (h : List Record) (charges : List Charge) → ((weight : ℕ → ℕ → ℕ) (p : Purse) → sum_by (charge_weight weight p) charges ≡ purse_weight (above early weight) p h) → early ≤ late
+    → (weight : ℕ → ℕ → ℕ) (p : Purse) → sum_by (charge_weight weight p) (lasting late charges) ≡ purse_weight (above late weight) p h
+advanced early late h charges stand le weight p = lasting-weight late weight p charges ∙ stand (above late weight) p ∙ ap (λ w. purse_weight w p h) (above-above early late weight le)
 
--- one charge more, where it counts
-pub charged : (horizon : ℕ) (purse : Purse) (end cost : ℕ) (old new : List Charge)
-    → (horizon < end → IsPermutation (record { purse = purse; end = end; cost = cost } ∷ old) new) → (end ≤ horizon → new ≡ old)
-    → (weight : ℕ → ℕ → ℕ) (p : Purse) → sum_by (charge_weight (above horizon weight) p) new ≡ sum_by (charge_weight (above horizon weight) p) old + (if same_purse purse p then above horizon weight end cost else 0)
-charged horizon purse end cost old new counts idle weight p = by_test (nat_lt horizon end)
-    (λ e. let low : horizon < end = grind (arith, e) in
-    let c : Charge = record { purse = purse; end = end; cost = cost } in
-    let more : sum_by (charge_weight (above horizon weight) p) new ≡ charge_weight (above horizon weight) p c + sum_by (charge_weight (above horizon weight) p) old = sum_by_pushed (charge_weight (above horizon weight) p) c old new (counts low) in
-    omega (arith, more))
-    (λ e. let high : end ≤ horizon = grind (arith, e) in
-    let none : cond (same_purse purse p) (above horizon weight end cost) 0 ≡ 0 = ap (λ b. cond (same_purse purse p) (cond b (weight end cost) 0) 0) e ∙ either (same_purse purse p) in
-    let same : sum_by (charge_weight (above horizon weight) p) new ≡ sum_by (charge_weight (above horizon weight) p) old = ap (sum_by (charge_weight (above horizon weight) p)) (idle high) in
+-- CHARGING
+
+-- a charge of so much at the moment is added, where it counts
+abbrev pub Adds : ℕ → ℕ → Purse → ℕ → List Charge → List Charge → Type 0
+Adds horizon m purse cost old new = (weight : ℕ → ℕ → ℕ) (p : Purse)
+    → sum_by (charge_weight weight p) new ≡ sum_by (charge_weight weight p) old + (if same_purse purse p then above horizon weight m cost else 0)
+
+nothing : (b : Bool) → cond b zero zero ≡ zero
+nothing true = refl
+nothing false = refl
+
+pub adds : (horizon m : ℕ) (purse : Purse) (cost : ℕ) (old new : List Charge)
+    → (horizon < m → IsPermutation (record { purse = purse; end = m; cost = cost } ∷ old) new) → (m ≤ horizon → new ≡ old) → Adds horizon m purse cost old new
+adds horizon m purse cost old new counts idle weight p = by_test (nat_lt horizon m)
+    (λ e. let low : horizon < m = grind (arith, e) in
+    let c : Charge = record { purse = purse; end = m; cost = cost } in
+    let more : sum_by (charge_weight weight p) new ≡ charge_weight weight p c + sum_by (charge_weight weight p) old = sum_by_pushed (charge_weight weight p) c old new (counts low) in
+    let whole : cond (same_purse purse p) (above horizon weight m cost) 0 ≡ charge_weight weight p c = ap (λ b. cond (same_purse purse p) (cond b (weight m cost) 0) 0) e in
+    omega (arith, more, whole))
+    (λ e. let high : m ≤ horizon = grind (arith, e) in
+    let none : cond (same_purse purse p) (above horizon weight m cost) 0 ≡ 0 = ap (λ b. cond (same_purse purse p) (cond b (weight m cost) 0) 0) e ∙ nothing (same_purse purse p) in
+    let same : sum_by (charge_weight weight p) new ≡ sum_by (charge_weight weight p) old = ap (sum_by (charge_weight weight p)) (idle high) in
     omega (arith, none, same))
+
+-- it adds no more than it is to what is spent
+pub spends : (horizon m : ℕ) (purse : Purse) (cost : ℕ) (old new : List Charge) → Adds horizon m purse cost old new → spending purse new ≤ spending purse old + cost
+spends horizon m purse cost old new more =
+    let whole : spending purse new ≡ spending purse old + cond (same_purse purse purse) (cond (nat_lt horizon m) cost 0) 0 = more (λ end cost. cost) purse in
+    let small = at-most (same_purse purse purse) (nat_lt horizon m) cost in
+    omega (arith, whole, small)
   where
-    either : (b : Bool) → cond b 0 0 ≡ 0
-    either true = refl
-    either false = refl
+    at-most : (a b : Bool) (x : ℕ) → cond a (cond b x 0) 0 ≤ x
+    at-most true true x = omega arith
+    at-most true false x = omega arith
+    at-most false b x = omega arith
+
+pub charged-one : (horizon m : ℕ) (purse : Purse) (cost : ℕ) (old new : List Charge) → Adds horizon m purse cost old new
+    → (weight : ℕ → ℕ → ℕ) (p : Purse) → sum_by (charge_weight weight p) new ≡ sum_by (charge_weight weight p) old + charged (above horizon weight) m (Some purse) (cost ∷ []) p
+charged-one horizon m purse cost old new more weight p =
+    let whole = more weight p in
+    let one : sum_by (above horizon weight m) (cost ∷ []) ≡ above horizon weight m cost + 0 = sum_by-cons (above horizon weight m) cost [] in
+    let same : cond (same_purse purse p) (sum_by (above horizon weight m) (cost ∷ [])) 0 ≡ cond (same_purse purse p) (above horizon weight m cost) 0 = ap (λ x. cond (same_purse purse p) x 0) (omega (arith, one)) in
+    omega (arith, whole, same)
+
+pub charged-three : (horizon m : ℕ) (purse : Purse) (a b c : ℕ) (old one two new : List Charge) → Adds horizon m purse a old one → Adds horizon m purse b one two → Adds horizon m purse c two new
+    → (weight : ℕ → ℕ → ℕ) (p : Purse) → sum_by (charge_weight weight p) new ≡ sum_by (charge_weight weight p) old + charged (above horizon weight) m (Some purse) (a ∷ b ∷ c ∷ []) p
+charged-three horizon m purse a b c old one two new first second third weight p =
+    let f : ℕ → ℕ = above horizon weight m in
+    let x = first weight p in
+    let y = second weight p in
+    let z = third weight p in
+    let abc : sum_by f (a ∷ b ∷ c ∷ []) ≡ f a + sum_by f (b ∷ c ∷ []) = sum_by-cons f a (b ∷ c ∷ []) in
+    let bc : sum_by f (b ∷ c ∷ []) ≡ f b + sum_by f (c ∷ []) = sum_by-cons f b (c ∷ []) in
+    let last : sum_by f (c ∷ []) ≡ f c + 0 = sum_by-cons f c [] in
+    let all = gathered (same_purse purse p) (f a) (f b) (f c) (sum_by f (a ∷ b ∷ c ∷ [])) (omega (arith, abc, bc, last)) in
+    omega (arith, x, y, z, all)
+  where
+    gathered : (test : Bool) (x y z all : ℕ) → all ≡ x + y + z → cond test all 0 ≡ cond test x 0 + cond test y 0 + cond test z 0
+    gathered true x y z all e = omega (arith, e)
+    gathered false x y z all e = refl

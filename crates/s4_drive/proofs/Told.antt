@@ -2,7 +2,7 @@
 use Rattle.std.proofs.Common.{◌≡◌}
 use Rattle.std.specs.Prelude.{Result, Ok, Err}
 use Rattle.s4_types.specs.declared.reply.Refusal.{Refusal}
-use Rattle.s4_types.specs.declared.reply.Refusal.TheVariants.{Denied, NoObject, Future, TooOld, TooLong, AclFull, NoEntry, NoPartition, Exists, PartsFull, Named, NamesSpent, NoMemory}
+use Rattle.s4_types.specs.declared.reply.Refusal.TheVariants.{Denied, NoObject, Future, TooOld, TooLong, AclFull, NoEntry, NoPartition, Exists, PartsFull, Named, NamesSpent, OverBudget, NoMemory}
 use Rattle.s4_types.specs.declared.reply.Reply.{Reply}
 use Rattle.s4_drive.specs.Step.{IsOutcome}
 
@@ -20,4 +20,5 @@ exactly (Err Exists) wanted e = e
 exactly (Err PartsFull) wanted e = e
 exactly (Err Named) wanted e = e
 exactly (Err NamesSpent) wanted e = e
+exactly (Err (OverBudget spent charge budget)) wanted e = e
 exactly (Err NoMemory) wanted e = _

@@ -1,7 +1,9 @@
 -- What a drive holds beside its state stands for its history: the window, and the ledger.
-use Rattle.std.specs.Prelude.{◌≡◌, ℕ, nat_lt, List, [], ◌∷◌, sum_by, if◌then◌else◌}
+use Rattle.std.specs.Prelude.{◌≡◌, ℕ, ◌+◌, ◌<◌, ◌≤◌, nat_lt, true, Option, Some, None, List, [], ◌∷◌, length, sum, sum_by, if◌then◌else◌}
 use Rattle.s4_types.specs.declared.object.Purse.{Purse}
 use Rattle.s4_types.specs.declared.record.Record.{Record}
+use Rattle.s4_types.specs.declared.request.Request.{Request}
+use Rattle.s4_types.specs.declared.request.Request.TheVariants.{SetBudget}
 use Rattle.s4_types.specs.Names.{same_purse}
 use Rattle.s4_types.specs.Base.{Base}
 use Rattle.s4_types.specs.Horizon.{guarded_at, horizon_at}
@@ -32,5 +34,19 @@ pub record LimitsStand (base : Base) (h : List Record) (limits : Limits) : Type 
 -- what the values cost that a request makes past
 abbrev pub costs_of : Past → List ℕ
 costs_of past.Nothing = []
-costs_of (past.Value cost) = cost ∷ []
+costs_of (past.One cost) = cost ∷ []
 costs_of (past.Object d attributes acl) = d ∷ attributes ∷ acl ∷ []
+
+-- what so many costs add to the weight of a purse's past, where the purse that a request names, if any, is charged for them
+abbrev pub charged : (ℕ → ℕ → ℕ) → ℕ → Option Purse → List ℕ → Purse → ℕ
+charged weight m None costs p = 0
+charged weight m (Some purse) costs p = if same_purse purse p then sum_by (weight m) costs else 0
+
+-- the purse's budget has room for the costs, if there are any
+abbrev pub HasRoom : Purse → List ℕ → books.Books → Type 0
+HasRoom p costs ledger = 0 < length costs → books.spending p ledger.charges + sum costs ≤ books.budget_of p ledger.budgets
+
+-- there is room for the budget that the request tells
+abbrev pub HasBudget : Request → List (Purse × ℕ) → Type 0
+HasBudget (SetBudget purse budget) budgets = books.has_budget purse budgets ≡ true
+HasBudget _ budgets = Unit {0}

@@ -2,13 +2,16 @@
 #![tactic(auto)]
 
 mod acl;
+mod administrator;
 mod append;
 mod attributes;
 mod create;
 mod delete;
 mod drive;
+mod limits;
 mod moments;
 mod partitions;
+mod past;
 mod read;
 mod step;
 mod truncate;

@@ -1,6 +1,6 @@
 //! How far back the past is told, and what it may cost.
 
-ghost use Rattle.std.specs.Prelude.{◌≡◌, ◌≤◌, ◌<◌, ◌+◌, ℕ, Some, sum, sum_by, length, OnOk, OnErr, []};
+ghost use Rattle.std.specs.Prelude.{◌≡◌, ◌≤◌, ◌+◌, ℕ, List, Some, sum_by, OnOk, []};
 ghost use Rattle.s4_types.specs.declared.object.Purse.{Purse};
 ghost use Rattle.s4_types.specs.declared.record.Record.{Record};
 ghost use Rattle.s4_types.specs.Answer.{within};

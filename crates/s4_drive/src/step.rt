@@ -3,54 +3,62 @@
 ghost use Rattle.std.specs.Prelude.{◌≡◌, ◌≤◌, IfOk};
 ghost use Rattle.s4_types.specs.Answer.{answer as answer_of, outcome as outcome_of, outcome_by_kind as outcome_by_kind_of};
 ghost use Rattle.s4_types.specs.Base.{opened};
-ghost use Rattle.s4_types.specs.Horizon.{guarded_at};
 ghost use Rattle.s4_types.specs.Play.{last_of};
+ghost use Rattle.s4_drive.specs.Stands.{LimitsStand};
 ghost use Rattle.s4_drive.specs.Step.{IsOutcome};
 
+use crate::limits::{Limits, afford};
 use crate::moments::timely;
+use crate::past::Past;
 use crate::read::Range;
-use crate::{acl, append, attributes, create, delete, partitions, read, truncate, window, write};
+use crate::{
+    acl, administrator, append, attributes, create, delete, partitions, read, truncate, write,
+};
 use s4_state::State;
 use s4_store::Store;
 use s4_types::{Caller, Moment, NoMemory, Purse, Refusal, Reply, Request, Version};
-use s4_window::Window;
 use std::alloc::{AllocError, Global};
 
 /// The reply that the history so far gives.
 pub fn answer<S: Store<Version>>(
     alloc: Global,
     state: &State<S>,
-    window: &Window,
+    limits: &Limits,
     moment: Moment,
     caller: Caller,
     request: &Request,
 ) -> Result<Reply, NoMemory>
-    requires window { window.now ≡ guarded_at (opened state.now.window) state.now.history }
+    requires stand { LimitsStand (opened state.now.window) state.now.history limits.now }
     requires later { last_of state.now.history ≤ moment }
     ensures { IfOk result (λ reply. reply ≡ answer_of (opened state.now.window) state.now.history moment caller request.now) }
 {
-    match outcome(alloc, state, window, moment, caller, request) {
+    match outcome(alloc, state, limits, moment, caller, request) {
         Ok(reply) => Ok(reply),
         Err(Refusal::NoMemory) => Err(AllocError),
         Err(refusal) => Ok(Reply::Refused(refusal)),
     }
 }
 
-// What comes of the request: a moment that it names is looked at first.
+// What comes of the request: a moment that it names is looked at first, and the budget last.
 fn outcome<S: Store<Version>>(
     alloc: Global,
     state: &State<S>,
-    window: &Window,
+    limits: &Limits,
     moment: Moment,
     caller: Caller,
     request: &Request,
 ) -> Result<Reply, Refusal>
-    requires window { window.now ≡ guarded_at (opened state.now.window) state.now.history }
+    requires stand { LimitsStand (opened state.now.window) state.now.history limits.now }
     requires later { last_of state.now.history ≤ moment }
     ensures { IsOutcome result (outcome_of (opened state.now.window) state.now.history moment caller request.now) }
 {
-    timely(window.horizon(moment), moment, request.at())?;
-    outcome_by_kind(alloc, state, moment, caller, request)
+    timely(limits.window.horizon(moment), moment, request.at())?;
+    let reply = outcome_by_kind(alloc, state, moment, caller, request)?;
+    if let Some(purse) = request.purse(&caller) {
+        let charge = Past::of(state, request).charge();
+        afford(state, limits, moment, &purse, charge)?;
+    }
+    Ok(reply)
 }
 
 // What comes of the request, by its kind.
@@ -120,6 +128,6 @@ fn outcome_by_kind<S: Store<Version>>(
         Request::PMount { purse, name, at } => {
             partitions::mount_outcome(state, moment, caller, purse, name, at)
         }
-        Request::SetWindow { .. } => window::outcome(caller),
+        Request::SetWindow { .. } | Request::SetBudget { .. } => administrator::outcome(caller),
     }
 }
