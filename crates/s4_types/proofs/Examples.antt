@@ -5,12 +5,12 @@ use Rattle.s4_types.specs.declared.object.Purse.{Purse}
 use Rattle.s4_types.specs.declared.object.ObjectId.{ObjectId}
 use Rattle.s4_types.specs.declared.rights.Right.TheVariants as right
 use Rattle.s4_types.specs.declared.request.Request.{Request}
-use Rattle.s4_types.specs.declared.request.Request.TheVariants.{Create, Delete, Read, Write, Append, Truncate, GetAttr, GetAclByUser, GetAclByIndex, SetAcl, PCreate, PDelete, PList, PMount, SetWindow}
+use Rattle.s4_types.specs.declared.request.Request.TheVariants.{Create, Delete, Read, Write, Append, Truncate, GetAttr, GetAclByUser, GetAclByIndex, SetAcl, PCreate, PDelete, PList, PMount, SetWindow, SetBudget}
 use Rattle.s4_types.specs.declared.request.After.{After}
 use Rattle.s4_types.specs.declared.reply.Grant.{Grant}
 use Rattle.s4_types.specs.declared.reply.Grant.TheVariants as grant
 use Rattle.s4_types.specs.declared.reply.NameLine.{NameLine}
-use Rattle.s4_types.specs.declared.reply.Refusal.TheVariants.{Denied, NoObject, Future, TooOld, TooLong, AclFull, NoEntry, NoPartition, Exists, Named}
+use Rattle.s4_types.specs.declared.reply.Refusal.TheVariants.{Denied, NoObject, Future, TooOld, TooLong, AclFull, NoEntry, NoPartition, Exists, Named, OverBudget}
 use Rattle.s4_types.specs.declared.reply.Reply.TheVariants.{Done, Made, Data, Attr, Entry, Mounted, Names, Refused}
 use Rattle.s4_types.specs.declared.record.Step.{Step}
 use Rattle.s4_types.specs.declared.record.Step.TheVariants as step
@@ -455,3 +455,87 @@ pub window_of_another : replies (play (opened 50) window_of_another_steps) ≡
     ∷ Data (grant.Entry 0 10) []
     ∷ []
 window_of_another = refl
+
+-- an expired value costs nothing: it ends at 20, which is above the horizon 19 and not above 20
+abbrev budget_and_horizon_steps : List Step
+budget_and_horizon_steps =
+    ask 0 0 (SetBudget (purse 7 0) 200)
+    ∷ ask 10 7 (Create 0)
+    ∷ ask 20 7 (Write (object 7 0 1) 0 (replicate 100 97))
+    ∷ ask 69 7 (Write (object 7 0 1) 0 (98 ∷ []))
+    ∷ ask 70 7 (Write (object 7 0 1) 0 (98 ∷ []))
+    ∷ []
+
+pub budget_and_horizon : replies (play (opened 50) budget_and_horizon_steps) ≡
+    Done
+    ∷ Made (object 7 0 1)
+    ∷ Done
+    ∷ Refused (OverBudget 64 164 200)
+    ∷ Done
+    ∷ []
+budget_and_horizon = refl
+
+-- two values that end at one moment cost what they are, and a budget can be met exactly
+abbrev two_writes_at_one_moment_steps : List Step
+two_writes_at_one_moment_steps =
+    ask 0 0 (SetBudget (purse 7 0) 129)
+    ∷ ask 5 7 (Create 0)
+    ∷ ask 10 7 (Write (object 7 0 1) 0 (97 ∷ []))
+    ∷ ask 10 7 (Write (object 7 0 1) 0 (98 ∷ []))
+    ∷ ask 10 7 (Write (object 7 0 1) 0 (99 ∷ []))
+    ∷ ask 10 7 (Read (object 7 0 1) 0 1 (Some 10))
+    ∷ []
+
+pub two_writes_at_one_moment : replies (play (opened 100) two_writes_at_one_moment_steps) ≡
+    Done
+    ∷ Made (object 7 0 1)
+    ∷ Done
+    ∷ Done
+    ∷ Refused (OverBudget 129 65 129)
+    ∷ Data (grant.Entry 0 5) (98 ∷ [])
+    ∷ []
+two_writes_at_one_moment = refl
+
+-- a Delete costs all three values that it ends
+abbrev delete_cost_steps : List Step
+delete_cost_steps =
+    ask 0 0 (SetBudget (purse 7 0) 207)
+    ∷ ask 1 7 (Create 0)
+    ∷ ask 2 7 (Delete (object 7 0 1))
+    ∷ ask 2 0 (SetBudget (purse 7 0) 208)
+    ∷ ask 2 7 (Delete (object 7 0 1))
+    ∷ ask 2 7 (Create 0)
+    ∷ []
+
+pub delete_cost : replies (play (opened 100) delete_cost_steps) ≡
+    Done
+    ∷ Made (object 7 0 1)
+    ∷ Refused (OverBudget 0 208 207)
+    ∷ Done
+    ∷ Done
+    ∷ Made (object 7 0 2)
+    ∷ []
+delete_cost = refl
+
+-- a binding that is over costs 64 and its name's length, until it is expired
+abbrev binding_cost_steps : List Step
+binding_cost_steps =
+    ask 0 0 (SetBudget (purse 7 0) 68)
+    ∷ ask 1 7 (Create 0)
+    ∷ ask 1 7 (PCreate home (object 7 0 1))
+    ∷ ask 2 7 (PDelete (purse 7 0) home)
+    ∷ ask 2 7 (PCreate home (object 7 0 1))
+    ∷ ask 3 7 (PDelete (purse 7 0) home)
+    ∷ ask 12 7 (PDelete (purse 7 0) home)
+    ∷ []
+
+pub binding_cost : replies (play (opened 10) binding_cost_steps) ≡
+    Done
+    ∷ Made (object 7 0 1)
+    ∷ Done
+    ∷ Done
+    ∷ Done
+    ∷ Refused (OverBudget 68 68 68)
+    ∷ Done
+    ∷ []
+binding_cost = refl

@@ -6,4 +6,5 @@ pub mod Examples
 pub mod OfPurse
 pub mod Applying
 pub mod Windows
+pub mod OfSpending
 pub mod Entries

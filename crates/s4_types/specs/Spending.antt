@@ -1,9 +1,9 @@
 -- What the past of a purse costs, and what it may cost.
-use Rattle.std.specs.Prelude.{ℕ, zero, suc, ◌+◌, ◌*◌, ◌&&◌, nat_lt, List, fold, length, sum_by, if◌then◌else◌}
+use Rattle.std.specs.Prelude.{ℕ, zero, suc, ◌+◌, ◌&&◌, nat_lt, List, fold, length, sum_by, if◌then◌else◌}
 use Rattle.s4_types.specs.declared.object.Purse.{Purse}
 use Rattle.s4_types.specs.declared.object.ObjectId.{ObjectId}
 use Rattle.s4_types.specs.declared.request.Request.{Request}
-use Rattle.s4_types.specs.declared.request.Request.TheVariants.{Delete, Write, Append, Truncate, SetAttr, SetAcl, PDelete, SetBudget}
+use Rattle.s4_types.specs.declared.request.Request.TheVariants.{PDelete, SetBudget}
 use Rattle.s4_types.specs.declared.record.Record.{Record}
 use Rattle.s4_types.specs.Names.{same_purse, object_in}
 use Rattle.s4_types.specs.Kinds.{concerns}

@@ -11,6 +11,7 @@ ghost use Rattle.s4_types.specs.Base.{Base};
 ghost use Rattle.s4_types.specs.Bindings.{bindings, bound_at, names_of};
 ghost use Rattle.s4_types.specs.Horizon.{horizon_at};
 ghost use Rattle.s4_types.specs.Kinds.{concerns_all};
+ghost use Rattle.s4_types.specs.Spending.{budget_of, spent_above, spent_at};
 ghost use Rattle.s4_types.specs.Versions.{lives_at, versions, value_at, data_track, attribute_track, acl_track};
 
 /// Where an object lives, the value in force at a moment is what the accepted changes up to that moment leave, applied in
@@ -52,4 +53,15 @@ pub fn horizons_depend_on_wide_changes()
 /// Whatever record comes next, the horizon never goes back (docs/MODEL.md, "The horizon").
 pub fn horizons_never_go_back()
     ensures { (base : Base) (h : List Record) (r : Record) (t u : ℕ) → t ≤ r.moment → r.moment ≤ u → horizon_at base h t ≤ horizon_at base (h ++ r ∷ []) u }
+{}
+
+/// What a purse may spend, and what its past costs above a horizon, depend on the records that concern
+/// the purse, and on no others; its spending at a moment depends on these and on the records that
+/// concern all purses, which move the horizon (docs/MODEL.md, "Spending and budgets").
+pub fn spending_depends_on_its_purse()
+    ensures budget { (purse : Purse) (h k : List Record) → AgreeOn purse h k → budget_of purse h ≡ budget_of purse k }
+    ensures above { (purse : Purse) (horizon : ℕ) (h k : List Record) → AgreeOn purse h k
+        → spent_above purse horizon h ≡ spent_above purse horizon k }
+    ensures spent { (base : Base) (purse : Purse) (t : ℕ) (h k : List Record) → AgreeOn purse h k → filter concerns_all h ≡ filter concerns_all k
+        → spent_at base purse h t ≡ spent_at base purse k t }
 {}

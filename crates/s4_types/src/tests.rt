@@ -1,8 +1,8 @@
 //! Each public call once, and at its borders.
 
 use crate::{
-    Acl, AclEntry, Bytes, Grant, Moment, Name, NameLine, NameLines, ObjectId, Principal, Purse,
-    PurseNo, Refusal, Reply, Request, Right, Rights, Serial,
+    Acl, AclEntry, Bytes, Caller, Grant, Moment, Name, NameLine, NameLines, ObjectId, Principal,
+    Purse, PurseNo, Refusal, Reply, Request, Right, Rights, Serial,
 };
 use std::alloc::Global;
 use std::cmp::Ordering;
@@ -148,6 +148,70 @@ fn copies_of_requests_are_equal(rt: HostRuntime) -> Result<(), Fail> {
     assert_eq!(rt; written.copy()?, written);
     assert_eq!(rt; deleted.copy()?, deleted);
     assert_eq!(rt; bound.copy()?, bound);
+    Ok(())
+}
+
+#[test]
+fn moments_that_requests_name(rt: HostRuntime) -> Result<(), Fail> {
+    let object = last_object()?;
+    for at in [None, Some(Moment::new(0)), Some(Moment::new(u64::MAX))] {
+        let read = Request::Read {
+            object,
+            offset: 0,
+            length: 1,
+            at,
+        };
+        let mounted = Request::PMount {
+            purse: object.purse,
+            name: named(b"home")?,
+            at,
+        };
+        assert_eq!(rt; read.at(), at, "{read:?}");
+        assert_eq!(rt; mounted.at(), at, "{mounted:?}");
+    }
+    let deleted = Request::Delete { object };
+    let windowed = Request::SetWindow { ticks: 5 };
+    assert_eq!(rt; deleted.at(), None);
+    assert_eq!(rt; windowed.at(), None);
+    Ok(())
+}
+
+#[test]
+fn purses_of_requests(rt: HostRuntime) -> Result<(), Fail> {
+    let object = last_object()?;
+    let number = PurseNo::new(3).ok_or("a purse")?;
+    let who = Principal::new(7).ok_or("a principal")?;
+    let caller = Caller { who, client: 1 };
+    let own = Purse {
+        creator: who,
+        number,
+    };
+    let created = Request::Create { number };
+    let deleted = Request::Delete { object };
+    let unbound = Request::PDelete {
+        purse: own,
+        name: named(b"home")?,
+    };
+    let listed = Request::PList {
+        range: who,
+        after: None,
+        at: None,
+    };
+    let windowed = Request::SetWindow { ticks: 5 };
+    let budgeted = Request::SetBudget {
+        purse: object.purse,
+        budget: u32::MAX,
+    };
+    for (request, wanted) in [
+        (&created, Some(own)),
+        (&deleted, Some(object.purse)),
+        (&unbound, Some(own)),
+        (&listed, None),
+        (&windowed, None),
+        (&budgeted, Some(object.purse)),
+    ] {
+        assert_eq!(rt; request.purse(&caller), wanted, "{request:?}");
+    }
     Ok(())
 }
 
