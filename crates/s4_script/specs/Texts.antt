@@ -38,7 +38,7 @@ right_text right.Control = codes "control"
 right_text right.Recover = codes "recover"
 right_text right.Admin = codes "admin"
 
--- why a request was refused: which right was wanted, and from which moment on there is an answer
+-- why a request was refused: which right was wanted, from which moment on there is an answer, or what was spent, what would be charged, and the budget
 abbrev pub refusal_text : Refusal → List ℕ
 refusal_text (refusal.Denied wanted) = codes "denied " ++ right_text wanted
 refusal_text refusal.NoObject = codes "no-object"
@@ -52,6 +52,7 @@ refusal_text refusal.Exists = codes "exists"
 refusal_text refusal.PartsFull = codes "parts-full"
 refusal_text refusal.Named = codes "named"
 refusal_text refusal.NamesSpent = codes "names-spent"
+refusal_text (refusal.OverBudget spent charge budget) = codes "over-budget " ++ decimal spent ++ codes " " ++ decimal charge ++ codes " " ++ decimal budget
 refusal_text refusal.NoMemory = codes "no-memory"
 
 -- a partition as its line: its name, its object, and why it is shown

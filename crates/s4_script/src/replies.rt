@@ -189,6 +189,11 @@ impl fmt::Display for RefusalText {
             Refusal::PartsFull => write!(f, "parts-full"),
             Refusal::Named => write!(f, "named"),
             Refusal::NamesSpent => write!(f, "names-spent"),
+            Refusal::OverBudget {
+                spent,
+                charge,
+                budget,
+            } => write!(f, "over-budget {spent} {charge} {budget}"),
             Refusal::NoMemory => write!(f, "no-memory"),
         }
     }

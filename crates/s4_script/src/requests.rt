@@ -24,6 +24,7 @@ pub fn parse_request(alloc: Global, verb: &str, words: &[&str]) -> Result<Reques
         ("plist", [range, place @ ..]) => plist(range, place),
         ("pmount", [purse, name, at @ ..]) => pmount(purse, name, at),
         ("setwindow", [ticks]) => set_window(ticks),
+        ("setbudget", [purse, budget]) => set_budget(purse, budget),
         _ => Err(ParseError::Bad),
     }
 }
@@ -148,5 +149,12 @@ fn pmount(purse: &str, name: &str, at: &[&str]) -> Result<Request, ParseError> {
 fn set_window(ticks: &str) -> Result<Request, ParseError> {
     Ok(Request::SetWindow {
         ticks: words::number(ticks)?,
+    })
+}
+
+fn set_budget(purse: &str, budget: &str) -> Result<Request, ParseError> {
+    Ok(Request::SetBudget {
+        purse: words::purse(purse)?,
+        budget: words::number(budget)?,
     })
 }

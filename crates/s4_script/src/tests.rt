@@ -22,11 +22,29 @@ fn good_lines(rt: HostRuntime) -> Result<(), Fail> {
         },
     };
     assert_eq!(rt; parse_line(alloc, b"5 7 create 15"), Ok(line));
+    let line = Line {
+        moment: Moment::new(0),
+        caller: Caller {
+            who: Principal::new(0).ok_or("a principal")?,
+            client: 0,
+        },
+        request: Request::SetBudget {
+            purse: Purse {
+                creator: who,
+                number: PurseNo::new(15).ok_or("a purse number")?,
+            },
+            budget: u32::MAX,
+        },
+    };
+    assert_eq!(rt;
+        parse_line(alloc, b"0 0 setbudget 7.15 4294967295"),
+        Ok(line)
+    );
     Ok(())
 }
 
 /// Lines after the first that spell nothing.
-const BAD_LINES: [&str; 97] = [
+const BAD_LINES: [&str; 106] = [
     "0",
     "0 7",
     "0 7 ",
@@ -122,6 +140,15 @@ const BAD_LINES: [&str; 97] = [
     "0 0 setwindow 18446744073709551616",
     "0 0 setwindow 7.0 1",
     "0 0 setwindow 1 at 0",
+    "0 0 setbudget",
+    "0 0 setbudget 7.0",
+    "0 0 setbudget 7.0.1 1",
+    "0 0 setbudget 7.16 1",
+    "0 0 setbudget 4294967295.0 1",
+    "0 0 setbudget 7.0 -1",
+    "0 0 setbudget 7.0 4294967296",
+    "0 0 setbudget 1 7.0",
+    "0 0 setbudget 7.0 1 at 0",
     "sweep 1",
     "used",
 ];
@@ -153,6 +180,13 @@ fn texts_of_replies(rt: HostRuntime) -> Result<(), Fail> {
     });
     let text = ReplyText(&refused).to_string(alloc)?;
     assert_eq!(rt; text.as_str(), "too-old 18446744073709551615");
+    let refused = Reply::Refused(Refusal::OverBudget {
+        spent: 0,
+        charge: 208,
+        budget: u32::MAX,
+    });
+    let text = ReplyText(&refused).to_string(alloc)?;
+    assert_eq!(rt; text.as_str(), "over-budget 0 208 4294967295");
     let entry = Reply::Entry {
         grant: Grant::Admin,
         index: 15,

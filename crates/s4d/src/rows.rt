@@ -12,7 +12,7 @@ pub struct Row {
     pub error: &'static str,
 }
 
-pub const ROWS: [Row; 23] = [
+pub const ROWS: [Row; 31] = [
     EMPTY_SCRIPT,
     FIRST_REQUESTS,
     THREE_CALLS_AT_FIVE,
@@ -33,6 +33,14 @@ pub const ROWS: [Row; 23] = [
     PARTS_FULL,
     LARGER_WINDOW_BRINGS_NOTHING_BACK,
     SMALLER_WINDOW_ACTS_AT_ONCE,
+    BUDGET_AND_HORIZON,
+    BUDGET_AND_HORIZON_WITH_STRANGERS,
+    TWO_WRITES_AT_ONE_MOMENT,
+    DELETE_COST,
+    BINDING_COST,
+    CAMPAIGN_FILLING_A_BUDGET,
+    CAMPAIGN_PROBING_MOMENTS,
+    CAMPAIGN_DELETES_AND_GRANTS,
     FAULT_FIRST_LINE,
     FAULT_BAD_LINE,
     FAULT_MOMENT_GOES_BACK,
@@ -887,6 +895,198 @@ const SMALLER_WINDOW_ACTS_AT_ONCE: Row = Row {
              done\n\
              too-old 90\n\
              data empty by 0 since 10\n",
+    error: "",
+};
+
+/// What a purse's past costs is compared with its budget, and what is expired costs nothing.
+const BUDGET_AND_HORIZON: Row = Row {
+    name: "budget_and_horizon",
+    script: "window 50\n\
+             0 0 setbudget 7.0 200\n\
+             10 7 create 0\n\
+             20 7 write 7.0.1 0 \
+             61616161616161616161616161616161616161616161616161616161616161616161616161616161\
+             61616161616161616161616161616161616161616161616161616161616161616161616161616161\
+             6161616161616161616161616161616161616161\n\
+             69 7 write 7.0.1 0 62\n\
+             70 7 write 7.0.1 0 62\n",
+    output: "done\n\
+             made 7.0.1\n\
+             done\n\
+             over-budget 64 164 200\n\
+             done\n",
+    error: "",
+};
+
+/// What others do in purses of their own leaves a purse's spending as it is.
+const BUDGET_AND_HORIZON_WITH_STRANGERS: Row = Row {
+    name: "budget_and_horizon_with_strangers",
+    script: "window 50\n\
+             0 0 setbudget 7.0 200\n\
+             5 9 create 0\n\
+             10 7 create 0\n\
+             11 9 read 7.0.1 0 1\n\
+             20 7 write 7.0.1 0 \
+             61616161616161616161616161616161616161616161616161616161616161616161616161616161\
+             61616161616161616161616161616161616161616161616161616161616161616161616161616161\
+             6161616161616161616161616161616161616161\n\
+             30 9 write 9.0.1 0 6161\n\
+             69 9 setacl 9.0.1 8 31\n\
+             69 7 write 7.0.1 0 62\n\
+             70 7 write 7.0.1 0 62\n",
+    output: "done\n\
+             made 9.0.1\n\
+             made 7.0.1\n\
+             denied read\n\
+             done\n\
+             done\n\
+             done\n\
+             over-budget 64 164 200\n\
+             done\n",
+    error: "",
+};
+
+/// Two changes at one moment are both paid for, and a budget may be spent to its last byte.
+const TWO_WRITES_AT_ONE_MOMENT: Row = Row {
+    name: "two_writes_at_one_moment",
+    script: "window 100\n\
+             0 0 setbudget 7.0 129\n\
+             5 7 create 0\n\
+             10 7 write 7.0.1 0 61\n\
+             10 7 write 7.0.1 0 62\n\
+             10 7 write 7.0.1 0 63\n\
+             10 7 read 7.0.1 0 1 at 10\n",
+    output: "done\n\
+             made 7.0.1\n\
+             done\n\
+             done\n\
+             over-budget 129 65 129\n\
+             data 62 by 0 since 5\n",
+    error: "",
+};
+
+/// A deletion costs all three values that it ends, and draws no serial anew.
+const DELETE_COST: Row = Row {
+    name: "delete_cost",
+    script: "window 100\n\
+             0 0 setbudget 7.0 207\n\
+             1 7 create 0\n\
+             2 7 delete 7.0.1\n\
+             2 0 setbudget 7.0 208\n\
+             2 7 delete 7.0.1\n\
+             2 7 create 0\n",
+    output: "done\n\
+             made 7.0.1\n\
+             over-budget 0 208 207\n\
+             done\n\
+             done\n\
+             made 7.0.2\n",
+    error: "",
+};
+
+/// A binding that is past costs 64 and the length of its name, until it is expired.
+const BINDING_COST: Row = Row {
+    name: "binding_cost",
+    script: "window 10\n\
+             0 0 setbudget 7.0 68\n\
+             1 7 create 0\n\
+             1 7 pcreate home 7.0.1\n\
+             2 7 pdelete 7.0 home\n\
+             2 7 pcreate home 7.0.1\n\
+             3 7 pdelete 7.0 home\n\
+             12 7 pdelete 7.0 home\n",
+    output: "done\n\
+             made 7.0.1\n\
+             done\n\
+             done\n\
+             done\n\
+             over-budget 68 68 68\n\
+             done\n",
+    error: "",
+};
+
+/// Who may write can fill the budget of that purse and of no other. Once a value is expired, its
+/// creator can take his right away. docs/SCRIPTS.md has it as an example.
+const CAMPAIGN_FILLING_A_BUDGET: Row = Row {
+    name: "campaign_filling_a_budget",
+    script: "window 50\n\
+             0 0 setbudget 7.0 200\n\
+             1 7 create 0\n\
+             1 7 create 1\n\
+             2 7 setacl 7.0.1 9 2\n\
+             3 9 write 7.0.1 0 61\n\
+             4 9 write 7.0.1 0 62\n\
+             5 7 setacl 7.0.1 9 0\n\
+             5 7 write 7.1.1 0 61\n\
+             52 7 setacl 7.0.1 9 0\n\
+             53 9 write 7.0.1 0 62\n",
+    output: "done\n\
+             made 7.0.1\n\
+             made 7.1.1\n\
+             done\n\
+             done\n\
+             over-budget 144 65 200\n\
+             over-budget 144 96 200\n\
+             done\n\
+             done\n\
+             denied write\n",
+    error: "",
+};
+
+/// Who could recover at a moment can read it later, as long as the horizon isn't beyond it.
+const CAMPAIGN_PROBING_MOMENTS: Row = Row {
+    name: "campaign_probing_moments",
+    script: "window 20\n\
+             1 7 create 0\n\
+             2 7 setacl 7.0.1 9 17\n\
+             5 7 write 7.0.1 0 61\n\
+             6 7 setacl 7.0.1 9 1\n\
+             7 7 write 7.0.1 0 62\n\
+             10 9 read 7.0.1 0 1 at 5\n\
+             10 9 read 7.0.1 0 1 at 6\n\
+             10 9 read 7.0.1 0 1 at 1\n\
+             10 9 read 7.0.1 0 1 at 11\n\
+             26 9 read 7.0.1 0 1 at 5\n\
+             27 9 read 7.0.1 0 1 at 7\n",
+    output: "made 7.0.1\n\
+             done\n\
+             done\n\
+             done\n\
+             done\n\
+             data 61 by 1 since 2\n\
+             denied recover\n\
+             denied read\n\
+             future\n\
+             too-old 6\n\
+             denied recover\n",
+    error: "",
+};
+
+/// Who is given all rights can take the creator's entry away and end the object. Each moment before
+/// is still read by the ACL that was in force then.
+const CAMPAIGN_DELETES_AND_GRANTS: Row = Row {
+    name: "campaign_deletes_and_grants",
+    script: "window 100\n\
+             1 7 create 0\n\
+             2 7 setacl 7.0.1 9 31\n\
+             3 9 setacl 7.0.1 7 0\n\
+             4 7 read 7.0.1 0 1\n\
+             4 9 delete 7.0.1\n\
+             5 7 read 7.0.1 0 1\n\
+             5 7 read 7.0.1 0 1 at 3\n\
+             5 7 read 7.0.1 0 1 at 2\n\
+             5 9 read 7.0.1 0 1 at 3\n\
+             5 9 read 7.0.1 0 1\n",
+    output: "made 7.0.1\n\
+             done\n\
+             done\n\
+             denied read\n\
+             done\n\
+             no-object\n\
+             denied read\n\
+             data empty by 0 since 2\n\
+             data empty by 0 since 3\n\
+             denied read\n",
     error: "",
 };
 

@@ -80,7 +80,7 @@ fn row_of_serials_spent(rt: HostRuntime) -> Result<(), Fail> {
 }
 
 /// Scripts that aren't rows: what each writes to standard output and to standard error.
-const SCRIPTS: [(&[u8], &str, &str); 25] = [
+const SCRIPTS: [(&[u8], &str, &str); 30] = [
     // The last line may lack its line feed, and digits may be in either case.
     (b"window 0", "", ""),
     (b"window 18446744073709551615\n", "", ""),
@@ -184,6 +184,44 @@ const SCRIPTS: [(&[u8], &str, &str); 25] = [
         "made 7.0.1\ndone\ndone\ndenied read\nnames 0 end\ndone\n",
         "",
     ),
+    // The administrator alone sets budgets. What a purse spends is told after all else.
+    (
+        b"window 9\n1 7 setbudget 7.0 0\n1 9 setbudget 7.0 4294967295\n1 0 setbudget 7.0 0\n\
+          1 7 create 0\n1 9 write 7.0.1 0 61\n1 7 write 7.0.1 4096 61\n1 7 setacl 7.0.1 9 0\n\
+          1 7 pcreate a 7.0.1\n1 7 delete 7.0.1\n1 7 setattr 7.0.1 61\n1 0 pdelete 7.0 a\n",
+        "denied admin\ndenied admin\ndone\nmade 7.0.1\ndenied write\ntoo-long\nno-entry\ndone\n\
+         named\nover-budget 0 64 0\nover-budget 0 65 0\n",
+        "",
+    ),
+    // The greatest budget, and one below what is spent already. Each purse has its own.
+    (
+        b"window 9\n1 0 setbudget 7.15 4294967295\n1 7 create 15\n1 7 append 7.15.1 61\n\
+          1 0 setbudget 7.15 63\n1 0 setbudget 7.14 0\n1 7 append 7.15.1 61\n\
+          1 7 read 7.15.1 0 9\n1 0 setbudget 7.15 129\n1 7 append 7.15.1 61\n",
+        "done\nmade 7.15.1\ndone\ndone\ndone\nover-budget 64 65 63\n\
+         data 61 by 0 since 1\ndone\ndone\n",
+        "",
+    ),
+    // What ended below the horizon or at it costs nothing; a charge alone may still be too much.
+    (
+        b"window 9\n0 0 setbudget 7.0 64\n0 7 create 0\n0 7 write 7.0.1 0 61\n\
+          0 7 write 7.0.1 0 62\n0 7 setattr 7.0.1 62\n1 7 setattr 7.0.1 empty\n",
+        "done\nmade 7.0.1\ndone\nover-budget 0 65 64\ndone\nover-budget 0 65 64\n",
+        "",
+    ),
+    (
+        b"window 0\n5 0 setbudget 7.0 64\n5 7 create 0\n5 7 write 7.0.1 0 61\n\
+          5 7 setattr 7.0.1 62\n5 7 truncate 7.0.1 0\n",
+        "done\nmade 7.0.1\ndone\ndone\nover-budget 0 65 64\n",
+        "",
+    ),
+    // A smaller window gives what was spent back.
+    (
+        b"window 9\n1 0 setbudget 7.0 64\n1 7 create 0\n1 7 setattr 7.0.1 61\n\
+          2 7 write 7.0.1 0 61\n2 0 setwindow 1\n2 7 write 7.0.1 0 61\n",
+        "done\nmade 7.0.1\ndone\nover-budget 64 64 64\ndone\ndone\n",
+        "",
+    ),
     // What is wrong in a line.
     (b"\n", "", "s4d: line 1: bad line\n"),
     (b"window 9\r\n", "", "s4d: line 1: bad line\n"),
@@ -237,6 +275,24 @@ fn long_bytes(rt: HostRuntime) -> Result<(), Fail> {
         let (output, _) = written(alloc, script.as_bytes())?;
         assert_eq!(rt; output.as_slice(), wanted.as_bytes(), "{verb} {count}");
     }
+    Ok(())
+}
+
+/// Until it is told otherwise, a purse may spend 65536.
+#[test]
+fn budget_at_first(rt: HostRuntime) -> Result<(), Fail> {
+    let alloc = rt.alloc();
+    let mut script = String::from_str(alloc, "window 9\n1 7 create 0\n")?;
+    let mut wanted = String::from_str(alloc, "made 7.0.1\n")?;
+    // No bytes cost 64, and 4096 bytes cost 4160.
+    for _ in 0..16 {
+        script.push_str("1 7 write 7.0.1 4095 61\n")?;
+        wanted.push_str("done\n")?;
+    }
+    script.push_str("1 7 write 7.0.1 4095 61\n1 7 create 1\n1 7 append 7.1.1 61\n")?;
+    wanted.push_str("over-budget 62464 4160 65536\nmade 7.1.1\ndone\n")?;
+    let (output, _) = written(alloc, script.as_bytes())?;
+    assert_eq!(rt; output.as_slice(), wanted.as_bytes());
     Ok(())
 }
 
