@@ -129,3 +129,22 @@ fn a_budget_may_be_met_and_no_more(rt: HostRuntime) -> Result<(), Fail> {
     assert!(rt; !ledger.room(&home, 0));
     Ok(())
 }
+
+#[test]
+fn a_budget_that_has_room_stays_as_it_was(rt: HostRuntime) -> Result<(), Fail> {
+    let mut ledger = Ledger::new(rt.alloc());
+    let home = purse(7, 0)?;
+    let other = purse(7, 1)?;
+    ledger.reserve_budget(&home)?;
+    assert_eq!(rt; ledger.budget(&home), 65536);
+    assert_eq!(rt; ledger.budget(&other), 65536);
+    ledger.set_budget(&home, 200)?;
+    ledger.reserve_budget(&home)?;
+    ledger.reserve_budget(&other)?;
+    assert_eq!(rt; ledger.budget(&home), 200);
+    assert_eq!(rt; ledger.budget(&other), 65536);
+    ledger.set_budget(&other, u32::MAX)?;
+    assert_eq!(rt; ledger.budget(&home), 200);
+    assert_eq!(rt; ledger.budget(&other), 4294967295);
+    Ok(())
+}
