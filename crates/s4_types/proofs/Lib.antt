@@ -8,3 +8,4 @@ pub mod Applying
 pub mod Windows
 pub mod OfSpending
 pub mod Entries
+pub mod AuditExamples

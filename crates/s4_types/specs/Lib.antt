@@ -15,3 +15,5 @@ pub mod Spending
 pub mod Answer
 pub mod Play
 pub mod Applied
+pub mod Audit
+pub mod SameAudit

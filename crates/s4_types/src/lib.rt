@@ -3,6 +3,7 @@
 #![tactic(auto)]
 
 mod acl;
+mod audit;
 mod bytes;
 mod laws;
 mod memory;
@@ -17,6 +18,7 @@ mod rights;
 mod version;
 
 pub use acl::{Acl, AclEntry};
+pub use audit::{AuditLine, AuditLines, AuditPage};
 pub use bytes::Bytes;
 pub use laws::{
     horizons_depend_on_wide_changes, horizons_never_go_back, purses_depend_on_their_records,
@@ -33,5 +35,7 @@ pub use request::{After, Request};
 pub use rights::{Right, Rights};
 pub use version::{Item, Version};
 
+#[cfg(test)]
+mod audit_tests;
 #[cfg(test)]
 mod tests;
