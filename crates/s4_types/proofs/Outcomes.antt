@@ -9,13 +9,13 @@ use Rattle.s4_types.specs.declared.rights.Right.TheVariants as right
 use Rattle.s4_types.specs.Names.{object_in}
 use Rattle.s4_types.specs.declared.rights.Right.{Right}
 use Rattle.s4_types.specs.declared.request.Request.{Request}
-use Rattle.s4_types.specs.declared.request.Request.TheVariants.{Create, Delete, Read, Write, Append, Truncate, GetAttr, SetAttr, GetAclByUser, GetAclByIndex, SetAcl, PCreate, PDelete, PList, PMount, SetWindow, SetBudget}
+use Rattle.s4_types.specs.declared.request.Request.TheVariants.{Create, Delete, Read, Write, Append, Truncate, GetAttr, SetAttr, GetAclByUser, GetAclByIndex, SetAcl, PCreate, PDelete, PList, PMount, SetWindow, SetBudget, ReadAudit}
 use Rattle.s4_types.specs.declared.reply.Grant.{Grant}
 use Rattle.s4_types.specs.declared.reply.Grant.TheVariants as grant
 use Rattle.s4_types.specs.declared.reply.Refusal.{Refusal}
 use Rattle.s4_types.specs.declared.reply.Refusal.TheVariants.{Denied, NoObject, Future, TooOld, TooLong, AclFull, NoEntry, NamesSpent, NoPartition, Exists, PartsFull, Named, OverBudget, NoMemory}
 use Rattle.s4_types.specs.declared.reply.Reply.{Reply}
-use Rattle.s4_types.specs.declared.reply.Reply.TheVariants.{Done, Made, Data, Attr, Entry, Mounted, Names, Refused}
+use Rattle.s4_types.specs.declared.reply.Reply.TheVariants.{Done, Made, Data, Attr, Entry, Mounted, Names, Audit, Refused}
 use Rattle.s4_types.specs.declared.record.Record.{Record}
 use Rattle.s4_types.specs.Rights.{has}
 use Rattle.s4_types.specs.Kinds.{is_refused, at_of, purse_of}
@@ -145,57 +145,58 @@ plain-found caller purse needed None = of (may_know caller purse.creator)
     of true = refl
     of false = refl
 
-told-by-kind : (h : List Record) (t : ℕ) (caller : Caller) (request : Request) → is_told (outcome_by_kind h t caller request) ≡ true
-told-by-kind h t caller (Create number) =
+told-by-kind : (base : Base) (h : List Record) (t : ℕ) (caller : Caller) (request : Request) → is_told (outcome_by_kind base h t caller request) ≡ true
+told-by-kind base h t caller (Create number) =
     let purse : Purse = record { creator = caller.who; number = number } in
     told-test (nat_le 65535 (drawn purse h)) NamesSpent (Ok (Made (object_in purse (drawn purse h + 1)))) refl refl
-told-by-kind h t caller (Delete o) =
+told-by-kind base h t caller (Delete o) =
     told-then (judge h t caller o right.Delete None) (refuse_if (has_name o t h) Named >> Ok Done) (plain-judge h t caller o right.Delete None)
     (told-test (has_name o t h) Named (Ok Done) refl refl)
-told-by-kind h t caller (Read o offset length at) =
+told-by-kind base h t caller (Read o offset length at) =
     told-bind (judge h t caller o right.Read at) (λ g. Ok (Data g (take length (drop offset (data_of o (moment_of t at) h))))) (plain-judge h t caller o right.Read at) (λ g. refl)
-told-by-kind h t caller (Write o offset bytes) =
+told-by-kind base h t caller (Write o offset bytes) =
     told-test (nat_lt 4096 (offset + length bytes)) TooLong (judge h t caller o right.Write None >> Ok Done) refl
     (told-then (judge h t caller o right.Write None) (Ok Done) (plain-judge h t caller o right.Write None) refl)
-told-by-kind h t caller (Append o bytes) =
+told-by-kind base h t caller (Append o bytes) =
     told-test (nat_lt 4096 (length bytes)) TooLong (judge h t caller o right.Write None >> (refuse_if (nat_lt 4096 (length (data_of o t h) + length bytes)) TooLong >> Ok Done)) refl
     (told-then (judge h t caller o right.Write None) (refuse_if (nat_lt 4096 (length (data_of o t h) + length bytes)) TooLong >> Ok Done) (plain-judge h t caller o right.Write None)
     (told-test (nat_lt 4096 (length (data_of o t h) + length bytes)) TooLong (Ok Done) refl refl))
-told-by-kind h t caller (Truncate o length) =
+told-by-kind base h t caller (Truncate o length) =
     told-test (nat_lt 4096 length) TooLong (judge h t caller o right.Write None >> Ok Done) refl
     (told-then (judge h t caller o right.Write None) (Ok Done) (plain-judge h t caller o right.Write None) refl)
-told-by-kind h t caller (GetAttr o at) =
+told-by-kind base h t caller (GetAttr o at) =
     told-bind (judge h t caller o right.Read at) (λ g. Ok (Attr g (attributes_of o (moment_of t at) h))) (plain-judge h t caller o right.Read at) (λ g. refl)
-told-by-kind h t caller (SetAttr o bytes) =
+told-by-kind base h t caller (SetAttr o bytes) =
     told-test (nat_lt 256 (length bytes)) TooLong (judge h t caller o right.Write None >> Ok Done) refl
     (told-then (judge h t caller o right.Write None) (Ok Done) (plain-judge h t caller o right.Write None) refl)
-told-by-kind h t caller (GetAclByUser o user at) =
+told-by-kind base h t caller (GetAclByUser o user at) =
     let next : Grant → Result Reply Refusal = λ g. entry_by_user g user (entry_of user (acl_of o (moment_of t at) h)) in
     told-bind (judge h t caller o right.Read at) next (plain-judge h t caller o right.Read at) (λ g. told-user g user (entry_of user (acl_of o (moment_of t at) h)))
-told-by-kind h t caller (GetAclByIndex o index at) =
+told-by-kind base h t caller (GetAclByIndex o index at) =
     let next : Grant → Result Reply Refusal = λ g. entry_by_index g index (slice_get (acl_of o (moment_of t at) h) index) in
     told-bind (judge h t caller o right.Read at) next (plain-judge h t caller o right.Read at) (λ g. told-index g index (slice_get (acl_of o (moment_of t at) h) index))
-told-by-kind h t caller (SetAcl o user rights) =
+told-by-kind base h t caller (SetAcl o user rights) =
     told-then (judge h t caller o right.Control None) (settable user rights (acl_of o t h) >> Ok Done) (plain-judge h t caller o right.Control None)
     (told-then (settable user rights (acl_of o t h)) (Ok Done) (plain-settable user rights (acl_of o t h)) refl)
-told-by-kind h t caller (PCreate name o) =
+told-by-kind base h t caller (PCreate name o) =
     let taken : Bool = is_some (bound_at o.purse name t h) in
     let full : Bool = nat_le 64 (bound_count o.purse t h) in
     told-then (judge h t caller o right.Control None) (refuse_if taken Exists >> (refuse_if full PartsFull >> Ok Done)) (plain-judge h t caller o right.Control None)
     (told-test taken Exists (refuse_if full PartsFull >> Ok Done) refl (told-test full PartsFull (Ok Done) refl refl))
-told-by-kind h t caller (PDelete purse name) =
+told-by-kind base h t caller (PDelete purse name) =
     let next : ℕ → Result Reply Refusal = λ serial. judge h t caller (object_in purse serial) right.Control None >> Ok Done in
     told-bind (found_bound caller purse right.Control (bound_at purse name t h)) next (plain-found caller purse right.Control (bound_at purse name t h))
     (λ serial. told-then (judge h t caller (object_in purse serial) right.Control None) (Ok Done) (plain-judge h t caller (object_in purse serial) right.Control None) refl)
-told-by-kind h t caller (PList range after at) = refl
-told-by-kind h t caller (PMount purse name at) =
+told-by-kind base h t caller (PList range after at) = refl
+told-by-kind base h t caller (PMount purse name at) =
     let found : Result ℕ Refusal = found_bound caller purse right.Read (bound_at purse name (moment_of t at) h) in
     let last : ℕ → Grant → Result Reply Refusal = λ serial grant. Ok (Mounted grant (object_in purse serial)) in
     let next : ℕ → Result Reply Refusal = λ serial. judge h t caller (object_in purse serial) right.Read at >>= last serial in
     told-bind found next (plain-found caller purse right.Read (bound_at purse name (moment_of t at) h))
     (λ serial. told-bind (judge h t caller (object_in purse serial) right.Read at) (last serial) (plain-judge h t caller (object_in purse serial) right.Read at) (λ g. refl))
-told-by-kind h t caller (SetWindow ticks) = told-test (not (caller.who == 0)) (Denied right.Admin) (Ok Done) refl refl
-told-by-kind h t caller (SetBudget purse budget) = told-test (not (caller.who == 0)) (Denied right.Admin) (Ok Done) refl refl
+told-by-kind base h t caller (SetWindow ticks) = told-test (not (caller.who == 0)) (Denied right.Admin) (Ok Done) refl refl
+told-by-kind base h t caller (SetBudget purse budget) = told-test (not (caller.who == 0)) (Denied right.Admin) (Ok Done) refl refl
+told-by-kind base h t caller (ReadAudit range skip) = refl
 
 plain-affordable : (base : Base) (h : List Record) (t : ℕ) (request : Request) (purse : Option Purse) → is_plain (affordable base h t request purse) ≡ true
 plain-affordable base h t request None = refl
@@ -212,8 +213,8 @@ told-once (Err r) test e f = e
 
 pub told-outcome : (base : Base) (h : List Record) (t : ℕ) (caller : Caller) (request : Request) → is_told (outcome base h t caller request) ≡ true
 told-outcome base h t caller request =
-    told-then (timely (horizon_at base h t) t (at_of request)) (outcome_by_kind h t caller request >>= λ reply. affordable base h t request (purse_of caller request) >> Ok reply) (plain-timely (horizon_at base h t) t (at_of request))
-    (told-once (outcome_by_kind h t caller request) (affordable base h t request (purse_of caller request)) (told-by-kind h t caller request) (plain-affordable base h t request (purse_of caller request)))
+    told-then (timely (horizon_at base h t) t (at_of request)) (outcome_by_kind base h t caller request >>= λ reply. affordable base h t request (purse_of caller request) >> Ok reply) (plain-timely (horizon_at base h t) t (at_of request))
+    (told-once (outcome_by_kind base h t caller request) (affordable base h t request (purse_of caller request)) (told-by-kind base h t caller request) (plain-affordable base h t request (purse_of caller request)))
 
 -- AN ANSWER THAT IS NO REFUSAL
 
@@ -227,11 +228,11 @@ first-kept (Ok x) next e = refl
 first-kept (Err r) next e = cc
 
 -- an answer that is no refusal is what comes of the request by its kind
-pub answer-by-kind : (base : Base) (h : List Record) (t : ℕ) (caller : Caller) (request : Request) → is_refused (answer base h t caller request) ≡ false → answer base h t caller request ≡ reply_of (outcome_by_kind h t caller request)
+pub answer-by-kind : (base : Base) (h : List Record) (t : ℕ) (caller : Caller) (request : Request) → is_refused (answer base h t caller request) ≡ false → answer base h t caller request ≡ reply_of (outcome_by_kind base h t caller request)
 answer-by-kind base h t caller request e =
-    let paid : Result Reply Refusal = outcome_by_kind h t caller request >>= λ reply. affordable base h t request (purse_of caller request) >> Ok reply in
+    let paid : Result Reply Refusal = outcome_by_kind base h t caller request >>= λ reply. affordable base h t request (purse_of caller request) >> Ok reply in
     let first : answer base h t caller request ≡ reply_of paid = first-kept (timely (horizon_at base h t) t (at_of request)) paid e in
-    first ∙ last-kept (outcome_by_kind h t caller request) (affordable base h t request (purse_of caller request)) (sym (ap is_refused first) ∙ e)
+    first ∙ last-kept (outcome_by_kind base h t caller request) (affordable base h t request (purse_of caller request)) (sym (ap is_refused first) ∙ e)
 
 replied : (r : Result Reply Refusal) → is_told r ≡ true → is_no_memory (reply_of r) ≡ false
 replied (Ok Done) e = refl
@@ -241,6 +242,7 @@ replied (Ok (Attr g bytes)) e = refl
 replied (Ok (Entry g index user rights)) e = refl
 replied (Ok (Mounted g o)) e = refl
 replied (Ok (Names lines more)) e = refl
+replied (Ok (Audit lines more)) e = refl
 replied (Ok (Refused r)) e = cc
 replied (Err NoMemory) e = cc
 replied (Err (Denied right)) e = refl

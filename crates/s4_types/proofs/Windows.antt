@@ -2,7 +2,7 @@
 use Rattle.std.proofs.Common.{◌≡◌, ℕ, ◌≤◌, cond, List, [], ◌∷◌, ◌++◌, sym, ◌∙◌, ap, subst, filter, arith}
 use Rattle.std.proofs.lemmas.List.Sums.{fold-append}
 use Rattle.s4_types.specs.declared.request.Request.{Request}
-use Rattle.s4_types.specs.declared.request.Request.TheVariants.{Create, Delete, Read, Write, Append, Truncate, GetAttr, SetAttr, GetAclByUser, GetAclByIndex, SetAcl, PCreate, PDelete, PList, PMount, SetWindow, SetBudget}
+use Rattle.s4_types.specs.declared.request.Request.TheVariants.{Create, Delete, Read, Write, Append, Truncate, GetAttr, SetAttr, GetAclByUser, GetAclByIndex, SetAcl, PCreate, PDelete, PList, PMount, SetWindow, SetBudget, ReadAudit}
 use Rattle.s4_types.specs.declared.record.Record.{Record}
 use Rattle.s4_types.specs.Base.{Base}
 use Rattle.s4_types.specs.Kinds.{concerns_all}
@@ -44,6 +44,7 @@ by-later g m (PDelete purse name) t u e f = later-still g t u (omega (arith, e, 
 by-later g m (PList range after at) t u e f = later-still g t u (omega (arith, e, f))
 by-later g m (PMount purse name at) t u e f = later-still g t u (omega (arith, e, f))
 by-later g m (SetBudget purse budget) t u e f = later-still g t u (omega (arith, e, f))
+by-later g m (ReadAudit range skip) t u e f = later-still g t u (omega (arith, e, f))
 
 pub horizon_at-later : (base : Base) (h : List Record) (r : Record) (t u : ℕ) → t ≤ r.moment → r.moment ≤ u → horizon_at base h t ≤ horizon_at base (h ++ r ∷ []) u
 horizon_at-later base h r t u e f = subst (λ g. horizon_of (guarded_at base h) t ≤ horizon_of g u) (sym (guarded-snoc base h r)) (by_test (concerns_all r)

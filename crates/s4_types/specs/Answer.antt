@@ -8,15 +8,16 @@ use Rattle.s4_types.specs.declared.rights.Right.{Right}
 use Rattle.s4_types.specs.declared.rights.Right.TheVariants as right
 use Rattle.std.specs.Ordering.{is_lt}
 use Rattle.s4_types.specs.declared.request.Request.{Request}
-use Rattle.s4_types.specs.declared.request.Request.TheVariants.{Create, Delete, Read, Write, Append, Truncate, GetAttr, SetAttr, GetAclByUser, GetAclByIndex, SetAcl, PCreate, PDelete, PList, PMount, SetWindow, SetBudget}
+use Rattle.s4_types.specs.declared.request.Request.TheVariants.{Create, Delete, Read, Write, Append, Truncate, GetAttr, SetAttr, GetAclByUser, GetAclByIndex, SetAcl, PCreate, PDelete, PList, PMount, SetWindow, SetBudget, ReadAudit}
 use Rattle.s4_types.specs.declared.reply.Grant.{Grant}
 use Rattle.s4_types.specs.declared.reply.NameLine.{NameLine}
 use Rattle.s4_types.specs.declared.request.After.{After}
 use Rattle.s4_types.specs.declared.reply.Refusal.{Refusal}
 use Rattle.s4_types.specs.declared.reply.Refusal.TheVariants.{Denied, Future, TooOld, TooLong, AclFull, NoEntry, NamesSpent, NoPartition, Exists, PartsFull, Named, OverBudget}
 use Rattle.s4_types.specs.declared.reply.Reply.{Reply}
-use Rattle.s4_types.specs.declared.reply.Reply.TheVariants.{Done, Made, Data, Attr, Entry, Mounted, Names}
+use Rattle.s4_types.specs.declared.reply.Reply.TheVariants.{Done, Made, Data, Attr, Entry, Mounted, Names, Audit}
 use Rattle.s4_types.specs.declared.record.Record.{Record}
+use Rattle.s4_types.specs.declared.audit.AuditPage.{AuditPage}
 use Rattle.s4_types.specs.Names.{object_in}
 use Rattle.s4_types.specs.Kinds.{at_of, purse_of}
 use Rattle.s4_types.specs.Serials.{drawn}
@@ -29,6 +30,7 @@ use Rattle.s4_types.specs.Judgement.{Found, entry_of, denied_absent, judge}
 use Rattle.s4_types.specs.Outcome.{◌>>=◌, ◌>>◌, refuse_if, reply_of}
 use Rattle.s4_types.specs.Base.{Base}
 use Rattle.s4_types.specs.Horizon.{horizon_at}
+use Rattle.s4_types.specs.Audit.{audit_page}
 
 -- TESTS
 
@@ -212,6 +214,16 @@ administered caller = do
   refuse_if (not (caller.who == 0)) (Denied right.Admin)
   Ok Done
 
+-- AUDITS
+
+abbrev pub audited : AuditPage → Reply
+audited page = Audit page.lines page.more
+
+-- anyone may ask: what the caller may not see is left out, and so is what lies below the horizon
+abbrev pub audit_read : Base → List Record → ℕ → Caller → ℕ → ℕ → Result Reply Refusal
+audit_read base h t caller range skip =
+    Ok (audited (audit_page caller range skip (horizon_at base h t) h))
+
 -- BUDGETS
 
 -- what each value costs that the request makes past, where it is carried out
@@ -241,30 +253,31 @@ affordable base h t request (Some purse) = within (budget_of purse h) (spent_at 
 -- ALL REQUESTS
 
 -- by the request's kind: its tests in a row, and what it is told where none fails
-abbrev pub outcome_by_kind : List Record → ℕ → Caller → Request → Result Reply Refusal
-outcome_by_kind h t caller (Create number) = created h (record { creator = caller.who; number = number })
-outcome_by_kind h t caller (Delete o) = deleted h t caller o
-outcome_by_kind h t caller (Read o offset length at) = data_read h t caller o offset length at
-outcome_by_kind h t caller (Write o offset bytes) = data_written h t caller o offset bytes
-outcome_by_kind h t caller (Append o bytes) = data_appended h t caller o bytes
-outcome_by_kind h t caller (Truncate o length) = data_truncated h t caller o length
-outcome_by_kind h t caller (GetAttr o at) = attributes_read h t caller o at
-outcome_by_kind h t caller (SetAttr o bytes) = attributes_set h t caller o bytes
-outcome_by_kind h t caller (GetAclByUser o user at) = entry_read_by_user h t caller o user at
-outcome_by_kind h t caller (GetAclByIndex o index at) = entry_read_by_index h t caller o index at
-outcome_by_kind h t caller (SetAcl o user rights) = acl_set h t caller o user rights
-outcome_by_kind h t caller (PCreate name o) = name_bound h t caller name o
-outcome_by_kind h t caller (PDelete purse name) = name_unbound h t caller purse name
-outcome_by_kind h t caller (PList range after at) = names_listed h t caller range after at
-outcome_by_kind h t caller (PMount purse name at) = name_mounted h t caller purse name at
-outcome_by_kind h t caller (SetWindow ticks) = administered caller
-outcome_by_kind h t caller (SetBudget purse budget) = administered caller
+abbrev pub outcome_by_kind : Base → List Record → ℕ → Caller → Request → Result Reply Refusal
+outcome_by_kind base h t caller (Create number) = created h (record { creator = caller.who; number = number })
+outcome_by_kind base h t caller (Delete o) = deleted h t caller o
+outcome_by_kind base h t caller (Read o offset length at) = data_read h t caller o offset length at
+outcome_by_kind base h t caller (Write o offset bytes) = data_written h t caller o offset bytes
+outcome_by_kind base h t caller (Append o bytes) = data_appended h t caller o bytes
+outcome_by_kind base h t caller (Truncate o length) = data_truncated h t caller o length
+outcome_by_kind base h t caller (GetAttr o at) = attributes_read h t caller o at
+outcome_by_kind base h t caller (SetAttr o bytes) = attributes_set h t caller o bytes
+outcome_by_kind base h t caller (GetAclByUser o user at) = entry_read_by_user h t caller o user at
+outcome_by_kind base h t caller (GetAclByIndex o index at) = entry_read_by_index h t caller o index at
+outcome_by_kind base h t caller (SetAcl o user rights) = acl_set h t caller o user rights
+outcome_by_kind base h t caller (PCreate name o) = name_bound h t caller name o
+outcome_by_kind base h t caller (PDelete purse name) = name_unbound h t caller purse name
+outcome_by_kind base h t caller (PList range after at) = names_listed h t caller range after at
+outcome_by_kind base h t caller (PMount purse name at) = name_mounted h t caller purse name at
+outcome_by_kind base h t caller (SetWindow ticks) = administered caller
+outcome_by_kind base h t caller (SetBudget purse budget) = administered caller
+outcome_by_kind base h t caller (ReadAudit range skip) = audit_read base h t caller range skip
 
 -- a moment that the request names is looked at first, since no request that names one has a limit on its size; the budget is looked at last
 abbrev pub outcome : Base → List Record → ℕ → Caller → Request → Result Reply Refusal
 outcome base h t caller request = do
   timely (horizon_at base h t) t (at_of request)
-  reply ← outcome_by_kind h t caller request
+  reply ← outcome_by_kind base h t caller request
   affordable base h t request (purse_of caller request)
   Ok reply
 

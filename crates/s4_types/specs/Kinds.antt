@@ -3,7 +3,7 @@ use Rattle.std.specs.Prelude.{ℕ, Bool, true, false, not, ◌&&◌, ◌==◌, O
 use Rattle.s4_types.specs.declared.principal.Caller.{Caller}
 use Rattle.s4_types.specs.declared.object.Purse.{Purse}
 use Rattle.s4_types.specs.declared.request.Request.{Request}
-use Rattle.s4_types.specs.declared.request.Request.TheVariants.{Create, Delete, Read, Write, Append, Truncate, GetAttr, SetAttr, GetAclByUser, GetAclByIndex, SetAcl, PCreate, PDelete, PList, PMount, SetWindow, SetBudget}
+use Rattle.s4_types.specs.declared.request.Request.TheVariants.{Create, Delete, Read, Write, Append, Truncate, GetAttr, SetAttr, GetAclByUser, GetAclByIndex, SetAcl, PCreate, PDelete, PList, PMount, SetWindow, SetBudget, ReadAudit}
 use Rattle.s4_types.specs.declared.reply.Reply.{Reply}
 use Rattle.s4_types.specs.declared.reply.Reply.TheVariants.{Refused}
 use Rattle.s4_types.specs.declared.record.Record.{Record}
@@ -17,6 +17,7 @@ only_reads (GetAclByUser o user at) = true
 only_reads (GetAclByIndex o index at) = true
 only_reads (PList range after at) = true
 only_reads (PMount purse name at) = true
+only_reads (ReadAudit range skip) = true
 only_reads _ = false
 
 -- whether the request makes an object, where it is carried out
@@ -43,6 +44,7 @@ purse_of caller (PList range after at) = None
 purse_of caller (PMount purse name at) = Some purse
 purse_of caller (SetWindow ticks) = None
 purse_of caller (SetBudget purse budget) = Some purse
+purse_of caller (ReadAudit range skip) = None
 
 -- whether the request is about all purses: the administrator's alone may be
 abbrev pub is_wide : Caller → Request → Bool
@@ -62,6 +64,7 @@ at_of _ = None
 -- the principal in whose range a request without a purse lies: the one that it names, or else the caller
 abbrev pub principal_of : Caller → Request → ℕ
 principal_of caller (PList range after at) = range
+principal_of caller (ReadAudit range skip) = range
 principal_of caller _ = caller.who
 
 -- the creator of the purse, or else that principal

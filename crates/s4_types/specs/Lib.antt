@@ -12,8 +12,8 @@ pub mod Base
 pub mod Horizon
 pub mod Serials
 pub mod Spending
+pub mod Audit
 pub mod Answer
 pub mod Play
 pub mod Applied
-pub mod Audit
 pub mod SameAudit
