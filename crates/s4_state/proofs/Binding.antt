@@ -170,7 +170,7 @@ bound-laid m name o p n old e f =
 
 module _ {chains : Chains Version} {found : ObjectId → Option Kept} {serials : Purse → ℕ} {table : Table} {h : List Record} (s : StandsFor chains found serials table h) {base : Base} {r : Record} (n : IsNext base h r) (granted : is_refused r.reply ≡ false) where
   module _ (name : List ℕ) (o : ObjectId) (asked : r.request ≡ PCreate name o) where
-    bound-accepted : is_refused (told-of h r.moment r.caller (PCreate name o)) ≡ false
+    bound-accepted : is_refused (told-of base h r.moment r.caller (PCreate name o)) ≡ false
     bound-accepted = accepted-asked n granted (PCreate name o) asked
 
     abbrev bound-record : Record
@@ -178,7 +178,7 @@ module _ {chains : Chains Version} {found : ObjectId → Option Kept} {serials :
 
     bound-is : r ≡ bound-record
     bound-is =
-        let told' : r.reply ≡ Done = told-asked n granted (PCreate name o) asked ∙ bound-done h r.moment r.caller name o bound-accepted in
+        let told' : r.reply ≡ Done = told-asked n granted (PCreate name o) asked ∙ bound-done base h r.moment r.caller name o bound-accepted in
         λ i. record { moment = r.moment; caller = r.caller; request = asked i; reply = told' i }
 
     pub stands_bound : IsSound (h ++ r ∷ []) → (new : Chains Version) (table' : Table) → Holds new table' → KeepsOthers chains new table → ((p : Purse) (m : List ℕ) → chain_at table' p m ≡ chain_at table p m)
@@ -211,7 +211,7 @@ module _ {chains : Chains Version} {found : ObjectId → Option Kept} {serials :
     pub unbound_before : object_of (current_of (bindings_in chains table o.purse name)) ≡ None
     unbound_before = ap object_of
         (ap current_of (s.partitions.bindings o.purse name) ∙ current-bound o.purse name (last_of h) r.moment (Rattle.s4_types.specs.Bindings.bindings o.purse name h) n.later (s.sound.bindings o.purse name)
-        ∙ none (in_force_by r.moment (Rattle.s4_types.specs.Bindings.bindings o.purse name h)) (was_unbound h r.moment r.caller name o bound-accepted))
+        ∙ none (in_force_by r.moment (Rattle.s4_types.specs.Bindings.bindings o.purse name h)) (was_unbound base h r.moment r.caller name o bound-accepted))
       where
         none : (x : Option (Value ℕ)) → is_some (option_map (λ v. v.value) x) ≡ false → option_map (as_version o.purse name) x ≡ None
         none None e = refl
@@ -220,7 +220,7 @@ module _ {chains : Chains Version} {found : ObjectId → Option Kept} {serials :
   -- A NAME IS BOUND NO LONGER
 
   module _ (purse : Purse) (name : List ℕ) (asked : r.request ≡ PDelete purse name) where
-    unbound-accepted : is_refused (told-of h r.moment r.caller (PDelete purse name)) ≡ false
+    unbound-accepted : is_refused (told-of base h r.moment r.caller (PDelete purse name)) ≡ false
     unbound-accepted = accepted-asked n granted (PDelete purse name) asked
 
     abbrev unbound-record : Record
@@ -228,11 +228,11 @@ module _ {chains : Chains Version} {found : ObjectId → Option Kept} {serials :
 
     unbound-is : r ≡ unbound-record
     unbound-is =
-        let told' : r.reply ≡ Done = told-asked n granted (PDelete purse name) asked ∙ unbound-done h r.moment r.caller purse name unbound-accepted in
+        let told' : r.reply ≡ Done = told-asked n granted (PDelete purse name) asked ∙ unbound-done base h r.moment r.caller purse name unbound-accepted in
         λ i. record { moment = r.moment; caller = r.caller; request = asked i; reply = told' i }
 
     pub bound_before : is_some (serial_now (bindings_in chains table purse name)) ≡ true
-    bound_before = ap is_some (serial-now s purse name r.moment n.later) ∙ was_bound h r.moment r.caller purse name unbound-accepted
+    bound_before = ap is_some (serial-now s purse name r.moment n.later) ∙ was_bound base h r.moment r.caller purse name unbound-accepted
 
     ended-laid : (values : List (Value ℕ)) → BindingsStand (last_of h) values → is_some (option_map (λ v. v.value) (in_force_by r.moment values)) ≡ true
         → with_end r.moment (laid_by (λ serial. 64 + length name) (λ serial. item.Bind (object_in purse serial)) values) ≡ laid_by (λ serial. 64 + length name) (λ serial. item.Bind (object_in purse serial)) (model.with_end r.moment values)
@@ -271,7 +271,7 @@ module _ {chains : Chains Version} {found : ObjectId → Option Kept} {serials :
         ap (λ b. if b then with_end r.moment (bindings_on p m h) else bindings_on p m h) e
         ∙ subst (λ x. with_end r.moment (bindings_on x m h) ≡ laid-on x m (model.with_end r.moment (model-bindings x m))) (purse_is purse p parts.0)
         (subst (λ y. with_end r.moment (bindings_on purse y h) ≡ laid-on purse y (model.with_end r.moment (model-bindings purse y))) (name_is name m parts.1)
-        (ended-laid (model-bindings purse name) (s.sound.bindings purse name) (was_bound h r.moment r.caller purse name unbound-accepted)))
+        (ended-laid (model-bindings purse name) (s.sound.bindings purse name) (was_bound base h r.moment r.caller purse name unbound-accepted)))
         ∙ sym (ap (laid-on p m) (bindings-snoc p m h unbound-record ∙ twice (same_purse purse p) (same_name name m) (model.with_end r.moment (model-bindings p m)) (model-bindings p m) ∙ ap (λ b. cond b (model.with_end r.moment (model-bindings p m)) (model-bindings p m)) e)))
         (λ e. ap (λ b. if b then with_end r.moment (bindings_on p m h) else bindings_on p m h) e
         ∙ sym (ap (laid-on p m) (bindings-snoc p m h unbound-record ∙ twice (same_purse purse p) (same_name name m) (model.with_end r.moment (model-bindings p m)) (model-bindings p m) ∙ ap (λ b. cond b (model.with_end r.moment (model-bindings p m)) (model-bindings p m)) e)))))

@@ -5,7 +5,7 @@ use Rattle.std.proofs.lemmas.List.Sums.{sum_by-cons}
 use Rattle.s4_types.specs.declared.object.Purse.{Purse}
 use Rattle.s4_types.specs.declared.object.ObjectId.{ObjectId}
 use Rattle.s4_types.specs.declared.request.Request.{Request}
-use Rattle.s4_types.specs.declared.request.Request.TheVariants.{Create, Delete, Read, Write, Append, Truncate, GetAttr, SetAttr, GetAclByUser, GetAclByIndex, SetAcl, PCreate, PDelete, PList, PMount, SetWindow, SetBudget}
+use Rattle.s4_types.specs.declared.request.Request.TheVariants.{Create, Delete, Read, Write, Append, Truncate, GetAttr, SetAttr, GetAclByUser, GetAclByIndex, SetAcl, PCreate, PDelete, PList, PMount, SetWindow, SetBudget, ReadAudit}
 use Rattle.s4_types.specs.declared.reply.Reply.TheVariants.{Done}
 use Rattle.s4_types.specs.declared.record.Record.{Record}
 use Rattle.s4_types.specs.declared.version.Item.{Item}
@@ -224,16 +224,17 @@ module _ (f : ℕ → ℕ → ℕ) {base : Base} {h : List Record} {r : Record} 
     by-kind (GetAclByIndex o index at) asked = reading (GetAclByIndex o index at) asked (λ p. refl)
     by-kind (SetAcl o user rights) asked = acl-charges o user rights asked
     by-kind (PCreate name o) asked =
-        still-charges (PCreate name o) o asked (told-asked n granted (PCreate name o) asked ∙ bound-done h m r.caller name o (accepted-asked n granted (PCreate name o) asked))
+        still-charges (PCreate name o) o asked (told-asked n granted (PCreate name o) asked ∙ bound-done base h m r.caller name o (accepted-asked n granted (PCreate name o) asked))
         (λ p. refl) refl (λ q. refl) (λ q old. refl) (λ q old. refl) (λ q old. refl) refl
     by-kind (PDelete purse name) asked =
-        still-charges (PDelete purse name) (object_in purse 0) asked (told-asked n granted (PDelete purse name) asked ∙ unbound-done h m r.caller purse name (accepted-asked n granted (PDelete purse name) asked))
+        still-charges (PDelete purse name) (object_in purse 0) asked (told-asked n granted (PDelete purse name) asked ∙ unbound-done base h m r.caller purse name (accepted-asked n granted (PDelete purse name) asked))
         (λ p. refl) refl (λ q. refl) (λ q old. refl) (λ q old. refl) (λ q old. refl) (sym (one (binding_cost name)))
     by-kind (PList range after at) asked = reading (PList range after at) asked (λ p. refl)
     by-kind (PMount purse name at) asked = reading (PMount purse name at) asked (λ p. refl)
     by-kind (SetWindow ticks) asked = reading (SetWindow ticks) asked (λ p. refl)
+    by-kind (ReadAudit range skip) asked = reading (ReadAudit range skip) asked (λ p. refl)
     by-kind (SetBudget purse budget) asked =
-        still-charges (SetBudget purse budget) (object_in purse 0) asked (told-asked n granted (SetBudget purse budget) asked ∙ budget-done h m r.caller purse budget (accepted-asked n granted (SetBudget purse budget) asked))
+        still-charges (SetBudget purse budget) (object_in purse 0) asked (told-asked n granted (SetBudget purse budget) asked ∙ budget-done base h m r.caller purse budget (accepted-asked n granted (SetBudget purse budget) asked))
         (λ p. refl) refl (λ q. refl) (λ q old. refl) (λ q old. refl) (λ q old. refl) refl
 
   pub charges : Charges f h r

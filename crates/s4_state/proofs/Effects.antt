@@ -166,12 +166,12 @@ then-both b x y z e = e ∙ sym (ap (λ c. if c then x else y) (&&-true b))
 -- THE KINDS OF CHANGES
 
 module _ {base : Base} {h : List Record} {r : Record} (s : IsSound h) (n : IsNext base h r) (granted : is_refused r.reply ≡ false) (o : ObjectId) (request : Request) (asked : r.request ≡ request) (of_o : changed_by request ≡ Some o) where
-  accepted : is_refused (told h r.moment r.caller request) ≡ false
+  accepted : is_refused (told base h r.moment r.caller request) ≡ false
   accepted = accepted-asked n granted request asked
 
   -- the object lives
   lives : lives_at r.moment o h ≡ true
-  lives = changed-lives h r.moment r.caller request o accepted of_o
+  lives = changed-lives base h r.moment r.caller request o accepted of_o
 
   alive : (was_made o h ≡ true) × (was_deleted o h ≡ false)
   alive =
@@ -190,7 +190,7 @@ module _ {base : Base} {h : List Record} {r : Record} (s : IsSound h) (n : IsNex
 
   is-plain : r ≡ record { moment = r.moment; caller = r.caller; request = request; reply = Done }
   is-plain =
-      let is : r.reply ≡ Done = told-asked n granted request asked ∙ changed-done h r.moment r.caller request o accepted of_o in
+      let is : r.reply ≡ Done = told-asked n granted request asked ∙ changed-done base h r.moment r.caller request o accepted of_o in
       λ i. record { moment = r.moment; caller = r.caller; request = asked i; reply = is i }
 
   pub live-data : IsLive DataFits (versions data_track o h)
@@ -266,7 +266,7 @@ module _ {base : Base} {h : List Record} {r : Record} (s : IsSound h) (n : IsNex
   write_fits offset bytes asked =
       let live = live-data s n granted o (Write o offset bytes) asked refl in
       let is = current-data s n granted o (Write o offset bytes) asked refl in
-      data-fit h r.moment r.caller (Write o offset bytes) o (accepted-asked n granted (Write o offset bytes) asked)
+      data-fit base h r.moment r.caller (Write o offset bytes) o (accepted-asked n granted (Write o offset bytes) asked)
       (data_of o r.moment h) (written offset bytes (data_of o r.moment h)) (ap (λ b. when b (written offset bytes (data_of o r.moment h))) (object_self o)) refl (subst DataFits is live.fits)
 
   pub append_puts : (bytes : List ℕ) → r.request ≡ Append o bytes → PutsOn h r o which.Data (item.Data (data_of o r.moment h ++ bytes))

@@ -11,12 +11,12 @@ use Rattle.s4_types.specs.declared.acl.AclEntry.{AclEntry}
 use Rattle.s4_types.specs.declared.rights.Right.{Right}
 use Rattle.s4_types.specs.declared.rights.Right.TheVariants as right
 use Rattle.s4_types.specs.declared.request.Request.{Request}
-use Rattle.s4_types.specs.declared.request.Request.TheVariants.{Create, Delete, Read, Write, Append, Truncate, GetAttr, SetAttr, GetAclByUser, GetAclByIndex, SetAcl, PCreate, PDelete, PList, PMount, SetWindow, SetBudget}
+use Rattle.s4_types.specs.declared.request.Request.TheVariants.{Create, Delete, Read, Write, Append, Truncate, GetAttr, SetAttr, GetAclByUser, GetAclByIndex, SetAcl, PCreate, PDelete, PList, PMount, SetWindow, SetBudget, ReadAudit}
 use Rattle.s4_types.specs.declared.reply.Grant.{Grant}
 use Rattle.s4_types.specs.declared.reply.Refusal.{Refusal}
 use Rattle.s4_types.specs.declared.reply.Refusal.TheVariants.{Denied, TooLong, AclFull, NoEntry, NamesSpent, Exists, PartsFull, Named}
 use Rattle.s4_types.specs.declared.reply.Reply.{Reply}
-use Rattle.s4_types.specs.declared.reply.Reply.TheVariants.{Done, Made, Data, Attr, Entry, Mounted, Names, Refused}
+use Rattle.s4_types.specs.declared.reply.Reply.TheVariants.{Done, Made, Data, Attr, Entry, Mounted, Names, Audit, Refused}
 use Rattle.s4_types.specs.declared.record.Record.{Record}
 use Rattle.s4_types.specs.Names.{same_object, object_in}
 use Rattle.s4_types.specs.Kinds.{is_refused, is_create}
@@ -34,8 +34,8 @@ use Rattle.s4_types.specs.Base.{Base}
 use Rattle.s4_state.specs.Sound.{IsNext, DataFits, AttributesFit, AclFits}
 
 -- what the request is told by its kind, the time and the budget aside
-abbrev pub told : List Record → ℕ → Caller → Request → Reply
-told h t caller request = reply_of (outcome_by_kind h t caller request)
+abbrev pub told : Base → List Record → ℕ → Caller → Request → Reply
+told base h t caller request = reply_of (outcome_by_kind base h t caller request)
 
 -- MAKING
 
@@ -65,6 +65,7 @@ nothing-made o (Ok (Attr g bytes)) e = refl
 nothing-made o (Ok (Entry g index user rights)) e = refl
 nothing-made o (Ok (Mounted g p)) e = refl
 nothing-made o (Ok (Names lines more)) e = refl
+nothing-made o (Ok (Audit lines more)) e = refl
 nothing-made o (Ok (Refused r)) e = refl
 nothing-made o (Err r) e = refl
 
@@ -76,41 +77,42 @@ nothing-index : (g : Grant) (index : ℕ) (entry : Option AclEntry) → makes_no
 nothing-index g index None = refl
 nothing-index g index (Some entry) = refl
 
-pub makes_nothing-outcome : (h : List Record) (t : ℕ) (caller : Caller) (request : Request) → is_create request ≡ false → makes_nothing (outcome_by_kind h t caller request) ≡ true
-makes_nothing-outcome h t caller (Create number) e = cc
-makes_nothing-outcome h t caller (Delete p) e = nothing-then (judge h t caller p right.Delete None) _ (nothing-then (refuse_if (has_name p t h) Named) (Ok Done) refl)
-makes_nothing-outcome h t caller (Read p offset length at) e =
+pub makes_nothing-outcome : (base : Base) (h : List Record) (t : ℕ) (caller : Caller) (request : Request) → is_create request ≡ false → makes_nothing (outcome_by_kind base h t caller request) ≡ true
+makes_nothing-outcome base h t caller (Create number) e = cc
+makes_nothing-outcome base h t caller (Delete p) e = nothing-then (judge h t caller p right.Delete None) _ (nothing-then (refuse_if (has_name p t h) Named) (Ok Done) refl)
+makes_nothing-outcome base h t caller (Read p offset length at) e =
     nothing-bind (judge h t caller p right.Read at) (λ g. Ok (Data g (take length (drop offset (data_of p (moment_of t at) h))))) (λ g. refl)
-makes_nothing-outcome h t caller (Write p offset bytes) e =
+makes_nothing-outcome base h t caller (Write p offset bytes) e =
     nothing-then (refuse_if (nat_lt 4096 (offset + length bytes)) TooLong) _ (nothing-then (judge h t caller p right.Write None) (Ok Done) refl)
-makes_nothing-outcome h t caller (Append p bytes) e =
+makes_nothing-outcome base h t caller (Append p bytes) e =
     nothing-then (refuse_if (nat_lt 4096 (length bytes)) TooLong) _ (nothing-then (judge h t caller p right.Write None) _
     (nothing-then (refuse_if (nat_lt 4096 (length (data_of p t h) + length bytes)) TooLong) (Ok Done) refl))
-makes_nothing-outcome h t caller (Truncate p length) e =
+makes_nothing-outcome base h t caller (Truncate p length) e =
     nothing-then (refuse_if (nat_lt 4096 length) TooLong) _ (nothing-then (judge h t caller p right.Write None) (Ok Done) refl)
-makes_nothing-outcome h t caller (GetAttr p at) e =
+makes_nothing-outcome base h t caller (GetAttr p at) e =
     nothing-bind (judge h t caller p right.Read at) (λ g. Ok (Attr g (attributes_of p (moment_of t at) h))) (λ g. refl)
-makes_nothing-outcome h t caller (SetAttr p bytes) e =
+makes_nothing-outcome base h t caller (SetAttr p bytes) e =
     nothing-then (refuse_if (nat_lt 256 (length bytes)) TooLong) _ (nothing-then (judge h t caller p right.Write None) (Ok Done) refl)
-makes_nothing-outcome h t caller (GetAclByUser p user at) e =
+makes_nothing-outcome base h t caller (GetAclByUser p user at) e =
     nothing-bind (judge h t caller p right.Read at) (λ g. entry_by_user g user (entry_of user (acl_of p (moment_of t at) h))) (λ g. nothing-user g user (entry_of user (acl_of p (moment_of t at) h)))
-makes_nothing-outcome h t caller (GetAclByIndex p index at) e =
+makes_nothing-outcome base h t caller (GetAclByIndex p index at) e =
     nothing-bind (judge h t caller p right.Read at) (λ g. entry_by_index g index (slice_get (acl_of p (moment_of t at) h) index)) (λ g. nothing-index g index (slice_get (acl_of p (moment_of t at) h) index))
-makes_nothing-outcome h t caller (SetAcl p user rights) e =
+makes_nothing-outcome base h t caller (SetAcl p user rights) e =
     nothing-then (judge h t caller p right.Control None) _ (nothing-then (settable user rights (acl_of p t h)) (Ok Done) refl)
-makes_nothing-outcome h t caller (PCreate name p) e =
+makes_nothing-outcome base h t caller (PCreate name p) e =
     nothing-then (judge h t caller p right.Control None) _ (nothing-then (refuse_if (is_some (bound_at p.purse name t h)) Exists) _
     (nothing-then (refuse_if (nat_le 64 (bound_count p.purse t h)) PartsFull) (Ok Done) refl))
-makes_nothing-outcome h t caller (PDelete purse name) e =
+makes_nothing-outcome base h t caller (PDelete purse name) e =
     nothing-bind (found_bound caller purse right.Control (bound_at purse name t h)) (λ serial. judge h t caller (object_in purse serial) right.Control None >> Ok Done)
     (λ serial. nothing-then (judge h t caller (object_in purse serial) right.Control None) (Ok Done) refl)
-makes_nothing-outcome h t caller (PList range after at) e =
+makes_nothing-outcome base h t caller (PList range after at) e =
     refl
-makes_nothing-outcome h t caller (PMount purse name at) e =
+makes_nothing-outcome base h t caller (PMount purse name at) e =
     nothing-bind (found_bound caller purse right.Read (bound_at purse name (moment_of t at) h)) (λ serial. judge h t caller (object_in purse serial) right.Read at >>= λ g. Ok (Mounted g (object_in purse serial)))
     (λ serial. nothing-bind (judge h t caller (object_in purse serial) right.Read at) (λ g. Ok (Mounted g (object_in purse serial))) (λ g. refl))
-makes_nothing-outcome h t caller (SetWindow ticks) e = nothing-then (refuse_if (not (caller.who == 0)) (Denied right.Admin)) (Ok Done) refl
-makes_nothing-outcome h t caller (SetBudget purse budget) e = nothing-then (refuse_if (not (caller.who == 0)) (Denied right.Admin)) (Ok Done) refl
+makes_nothing-outcome base h t caller (SetWindow ticks) e = nothing-then (refuse_if (not (caller.who == 0)) (Denied right.Admin)) (Ok Done) refl
+makes_nothing-outcome base h t caller (SetBudget purse budget) e = nothing-then (refuse_if (not (caller.who == 0)) (Denied right.Admin)) (Ok Done) refl
+makes_nothing-outcome base h t caller (ReadAudit range skip) e = refl
 
 clash : {A : Type 0} (b : Bool) → b ≡ false → b ≡ true → A
 clash true e f = absurd (no e)
@@ -122,8 +124,8 @@ clash false e f = absurd (no f)
     no : false ≡ true → ⊥
     no g = cc
 
-next-made : (h : List Record) (caller : Caller) (number : ℕ) (o : ObjectId) → is_made o (told h 0 caller (Create number)) ≡ true → IsNextOf h caller (Create number) o
-next-made h caller number o e =
+next-made : (base : Base) (h : List Record) (caller : Caller) (number : ℕ) (o : ObjectId) → is_made o (told base h 0 caller (Create number)) ≡ true → IsNextOf h caller (Create number) o
+next-made base h caller number o e =
     let purse : Purse = record { creator = caller.who; number = number } in
     let of : (b : Bool) → is_made o (reply_of (refuse_if b NamesSpent >> Ok (Made (object_in purse (drawn purse h + 1))))) ≡ true → IsNextOf h caller (Create number) o
     = λ b. elim b as (λ b. is_made o (reply_of (refuse_if b NamesSpent >> Ok (Made (object_in purse (drawn purse h + 1))))) ≡ true → IsNextOf h caller (Create number) o) [
@@ -132,24 +134,25 @@ next-made h caller number o e =
     ] in
     of (nat_le 65535 (drawn purse h)) e
 
-pub made_is : (h : List Record) (t : ℕ) (caller : Caller) (request : Request) (o : ObjectId) → is_made o (told h t caller request) ≡ true → IsNextOf h caller request o
-made_is h t caller (Create number) o e = next-made h caller number o e
-made_is h t caller (Delete p) o e = clash _ (nothing-made o _ (makes_nothing-outcome h t caller (Delete p) refl)) e
-made_is h t caller (Read p offset length at) o e = clash _ (nothing-made o _ (makes_nothing-outcome h t caller (Read p offset length at) refl)) e
-made_is h t caller (Write p offset bytes) o e = clash _ (nothing-made o _ (makes_nothing-outcome h t caller (Write p offset bytes) refl)) e
-made_is h t caller (Append p bytes) o e = clash _ (nothing-made o _ (makes_nothing-outcome h t caller (Append p bytes) refl)) e
-made_is h t caller (Truncate p length) o e = clash _ (nothing-made o _ (makes_nothing-outcome h t caller (Truncate p length) refl)) e
-made_is h t caller (GetAttr p at) o e = clash _ (nothing-made o _ (makes_nothing-outcome h t caller (GetAttr p at) refl)) e
-made_is h t caller (SetAttr p bytes) o e = clash _ (nothing-made o _ (makes_nothing-outcome h t caller (SetAttr p bytes) refl)) e
-made_is h t caller (GetAclByUser p user at) o e = clash _ (nothing-made o _ (makes_nothing-outcome h t caller (GetAclByUser p user at) refl)) e
-made_is h t caller (GetAclByIndex p index at) o e = clash _ (nothing-made o _ (makes_nothing-outcome h t caller (GetAclByIndex p index at) refl)) e
-made_is h t caller (SetAcl p user rights) o e = clash _ (nothing-made o _ (makes_nothing-outcome h t caller (SetAcl p user rights) refl)) e
-made_is h t caller (PCreate name p) o e = clash _ (nothing-made o _ (makes_nothing-outcome h t caller (PCreate name p) refl)) e
-made_is h t caller (PDelete purse name) o e = clash _ (nothing-made o _ (makes_nothing-outcome h t caller (PDelete purse name) refl)) e
-made_is h t caller (PList range after at) o e = clash _ (nothing-made o (outcome_by_kind h t caller (PList range after at)) (makes_nothing-outcome h t caller (PList range after at) refl)) e
-made_is h t caller (PMount purse name at) o e = clash _ (nothing-made o _ (makes_nothing-outcome h t caller (PMount purse name at) refl)) e
-made_is h t caller (SetWindow ticks) o e = clash _ (nothing-made o _ (makes_nothing-outcome h t caller (SetWindow ticks) refl)) e
-made_is h t caller (SetBudget purse budget) o e = clash _ (nothing-made o _ (makes_nothing-outcome h t caller (SetBudget purse budget) refl)) e
+pub made_is : (base : Base) (h : List Record) (t : ℕ) (caller : Caller) (request : Request) (o : ObjectId) → is_made o (told base h t caller request) ≡ true → IsNextOf h caller request o
+made_is base h t caller (Create number) o e = next-made base h caller number o e
+made_is base h t caller (Delete p) o e = clash _ (nothing-made o _ (makes_nothing-outcome base h t caller (Delete p) refl)) e
+made_is base h t caller (Read p offset length at) o e = clash _ (nothing-made o _ (makes_nothing-outcome base h t caller (Read p offset length at) refl)) e
+made_is base h t caller (Write p offset bytes) o e = clash _ (nothing-made o _ (makes_nothing-outcome base h t caller (Write p offset bytes) refl)) e
+made_is base h t caller (Append p bytes) o e = clash _ (nothing-made o _ (makes_nothing-outcome base h t caller (Append p bytes) refl)) e
+made_is base h t caller (Truncate p length) o e = clash _ (nothing-made o _ (makes_nothing-outcome base h t caller (Truncate p length) refl)) e
+made_is base h t caller (GetAttr p at) o e = clash _ (nothing-made o _ (makes_nothing-outcome base h t caller (GetAttr p at) refl)) e
+made_is base h t caller (SetAttr p bytes) o e = clash _ (nothing-made o _ (makes_nothing-outcome base h t caller (SetAttr p bytes) refl)) e
+made_is base h t caller (GetAclByUser p user at) o e = clash _ (nothing-made o _ (makes_nothing-outcome base h t caller (GetAclByUser p user at) refl)) e
+made_is base h t caller (GetAclByIndex p index at) o e = clash _ (nothing-made o _ (makes_nothing-outcome base h t caller (GetAclByIndex p index at) refl)) e
+made_is base h t caller (SetAcl p user rights) o e = clash _ (nothing-made o _ (makes_nothing-outcome base h t caller (SetAcl p user rights) refl)) e
+made_is base h t caller (PCreate name p) o e = clash _ (nothing-made o _ (makes_nothing-outcome base h t caller (PCreate name p) refl)) e
+made_is base h t caller (PDelete purse name) o e = clash _ (nothing-made o _ (makes_nothing-outcome base h t caller (PDelete purse name) refl)) e
+made_is base h t caller (PList range after at) o e = clash _ (nothing-made o (outcome_by_kind base h t caller (PList range after at)) (makes_nothing-outcome base h t caller (PList range after at) refl)) e
+made_is base h t caller (PMount purse name at) o e = clash _ (nothing-made o _ (makes_nothing-outcome base h t caller (PMount purse name at) refl)) e
+made_is base h t caller (SetWindow ticks) o e = clash _ (nothing-made o _ (makes_nothing-outcome base h t caller (SetWindow ticks) refl)) e
+made_is base h t caller (SetBudget purse budget) o e = clash _ (nothing-made o _ (makes_nothing-outcome base h t caller (SetBudget purse budget) refl)) e
+made_is base h t caller (ReadAudit range skip) o e = clash _ (nothing-made o (outcome_by_kind base h t caller (ReadAudit range skip)) (makes_nothing-outcome base h t caller (ReadAudit range skip) refl)) e
 
 create-deletes : (request : Request) (o : ObjectId) → is_create request ≡ true → is_deleted o request ≡ false
 create-deletes (Create number) o e = refl
@@ -169,6 +172,7 @@ create-deletes (PList range after at) o e = cc
 create-deletes (PMount purse name at) o e = cc
 create-deletes (SetWindow ticks) o e = cc
 create-deletes (SetBudget purse budget) o e = cc
+create-deletes (ReadAudit range skip) o e = cc
 
 pub create_deletes_none : (request : Request) (o : ObjectId) → is_create request ≡ true → is_deleted o request ≡ false
 create_deletes_none = create-deletes
@@ -193,39 +197,40 @@ changed_by (SetAttr p bytes) = Some p
 changed_by (SetAcl p user rights) = Some p
 changed_by _ = None
 
-pub changed-lives : (h : List Record) (t : ℕ) (caller : Caller) (request : Request) (o : ObjectId) → is_refused (told h t caller request) ≡ false → changed_by request ≡ Some o → lives_at t o h ≡ true
-changed-lives h t caller (Create number) o e f = cc
-changed-lives h t caller (Read p offset length at) o e f = cc
-changed-lives h t caller (GetAttr p at) o e f = cc
-changed-lives h t caller (GetAclByUser p user at) o e f = cc
-changed-lives h t caller (GetAclByIndex p index at) o e f = cc
-changed-lives h t caller (PCreate name p) o e f = cc
-changed-lives h t caller (PDelete purse name) o e f = cc
-changed-lives h t caller (PList range after at) o e f = cc
-changed-lives h t caller (PMount purse name at) o e f = cc
-changed-lives h t caller (SetWindow ticks) o e f = cc
-changed-lives h t caller (SetBudget purse budget) o e f = cc
-changed-lives h t caller (Delete p) o e f =
+pub changed-lives : (base : Base) (h : List Record) (t : ℕ) (caller : Caller) (request : Request) (o : ObjectId) → is_refused (told base h t caller request) ≡ false → changed_by request ≡ Some o → lives_at t o h ≡ true
+changed-lives base h t caller (Create number) o e f = cc
+changed-lives base h t caller (Read p offset length at) o e f = cc
+changed-lives base h t caller (GetAttr p at) o e f = cc
+changed-lives base h t caller (GetAclByUser p user at) o e f = cc
+changed-lives base h t caller (GetAclByIndex p index at) o e f = cc
+changed-lives base h t caller (PCreate name p) o e f = cc
+changed-lives base h t caller (PDelete purse name) o e f = cc
+changed-lives base h t caller (PList range after at) o e f = cc
+changed-lives base h t caller (PMount purse name at) o e f = cc
+changed-lives base h t caller (SetWindow ticks) o e f = cc
+changed-lives base h t caller (SetBudget purse budget) o e f = cc
+changed-lives base h t caller (ReadAudit range skip) o e f = cc
+changed-lives base h t caller (Delete p) o e f =
     let is : p ≡ o = cc in
     subst (λ q. lives_at t q h ≡ true) is (granted-lives p t h caller right.Delete (passes_judgement (judge h t caller p right.Delete None) (refuse_if (has_name p t h) Named >> Ok Done) e).0)
-changed-lives h t caller (Write p offset bytes) o e f =
+changed-lives base h t caller (Write p offset bytes) o e f =
     let is : p ≡ o = cc in
     subst (λ q. lives_at t q h ≡ true) is (granted-lives p t h caller right.Write (passes_judgement (judge h t caller p right.Write None) (Ok Done)
     (passes_test (nat_lt 4096 (offset + length bytes)) TooLong (judge h t caller p right.Write None >> Ok Done) e).1).0)
-changed-lives h t caller (Append p bytes) o e f =
+changed-lives base h t caller (Append p bytes) o e f =
     let is : p ≡ o = cc in
     let rest : Result Reply Refusal = refuse_if (nat_lt 4096 (length (data_of p t h) + length bytes)) TooLong >> Ok Done in
     subst (λ q. lives_at t q h ≡ true) is (granted-lives p t h caller right.Write (passes_judgement (judge h t caller p right.Write None) rest
     (passes_test (nat_lt 4096 (length bytes)) TooLong (judge h t caller p right.Write None >> rest) e).1).0)
-changed-lives h t caller (Truncate p length) o e f =
+changed-lives base h t caller (Truncate p length) o e f =
     let is : p ≡ o = cc in
     subst (λ q. lives_at t q h ≡ true) is (granted-lives p t h caller right.Write (passes_judgement (judge h t caller p right.Write None) (Ok Done)
     (passes_test (nat_lt 4096 length) TooLong (judge h t caller p right.Write None >> Ok Done) e).1).0)
-changed-lives h t caller (SetAttr p bytes) o e f =
+changed-lives base h t caller (SetAttr p bytes) o e f =
     let is : p ≡ o = cc in
     subst (λ q. lives_at t q h ≡ true) is (granted-lives p t h caller right.Write (passes_judgement (judge h t caller p right.Write None) (Ok Done)
     (passes_test (nat_lt 256 (length bytes)) TooLong (judge h t caller p right.Write None >> Ok Done) e).1).0)
-changed-lives h t caller (SetAcl p user rights) o e f =
+changed-lives base h t caller (SetAcl p user rights) o e f =
     let is : p ≡ o = cc in
     subst (λ q. lives_at t q h ≡ true) is (granted-lives p t h caller right.Control (passes_judgement (judge h t caller p right.Control None) (settable user rights (acl_of p t h) >> Ok Done) e).0)
 
@@ -254,6 +259,7 @@ deleted-changed (PList range after at) o e = cc
 deleted-changed (PMount purse name at) o e = cc
 deleted-changed (SetWindow ticks) o e = cc
 deleted-changed (SetBudget purse budget) o e = cc
+deleted-changed (ReadAudit range skip) o e = cc
 
 pub data-changed : (request : Request) (o : ObjectId) (old new : List ℕ) → data_effect o request old ≡ Some new → changed_by request ≡ Some o
 data-changed (Write p offset bytes) o old new e = same-changed p o (some-when (same_object p o) (written offset bytes old) new e).0
@@ -273,6 +279,7 @@ data-changed (PList range after at) o old new e = cc
 data-changed (PMount purse name at) o old new e = cc
 data-changed (SetWindow ticks) o old new e = cc
 data-changed (SetBudget purse budget) o old new e = cc
+data-changed (ReadAudit range skip) o old new e = cc
 
 pub attributes-changed : (request : Request) (o : ObjectId) (old new : List ℕ) → attribute_effect o request old ≡ Some new → changed_by request ≡ Some o
 attributes-changed (SetAttr p bytes) o old new e = same-changed p o (some-when (same_object p o) bytes new e).0
@@ -292,6 +299,7 @@ attributes-changed (PList range after at) o old new e = cc
 attributes-changed (PMount purse name at) o old new e = cc
 attributes-changed (SetWindow ticks) o old new e = cc
 attributes-changed (SetBudget purse budget) o old new e = cc
+attributes-changed (ReadAudit range skip) o old new e = cc
 
 pub acl-changed : (request : Request) (o : ObjectId) (old new : List AclEntry) → acl_effect o request old ≡ Some new → changed_by request ≡ Some o
 acl-changed (SetAcl p user rights) o old new e = same-changed p o (some-when (same_object p o) (acl_with user rights old) new e).0
@@ -311,6 +319,7 @@ acl-changed (PList range after at) o old new e = cc
 acl-changed (PMount purse name at) o old new e = cc
 acl-changed (SetWindow ticks) o old new e = cc
 acl-changed (SetBudget purse budget) o old new e = cc
+acl-changed (ReadAudit range skip) o old new e = cc
 
 -- LENGTHS
 
@@ -322,13 +331,13 @@ length-written offset bytes old l m =
     simp (length-append, length-take, length-replicate, length-drop) (omega arith)
 
 -- the data that a request leaves fit, where they are those in force
-pub data-fit : (h : List Record) (t : ℕ) (caller : Caller) (request : Request) (o : ObjectId) → is_refused (told h t caller request) ≡ false
+pub data-fit : (base : Base) (h : List Record) (t : ℕ) (caller : Caller) (request : Request) (o : ObjectId) → is_refused (told base h t caller request) ≡ false
     → (old new : List ℕ) → data_effect o request old ≡ Some new → old ≡ data_of o t h → DataFits old → DataFits new
-data-fit h t caller (Write p offset bytes) o e old new f is fits =
+data-fit base h t caller (Write p offset bytes) o e old new f is fits =
     let short : nat_lt 4096 (offset + length bytes) ≡ false = (passes_test (nat_lt 4096 (offset + length bytes)) TooLong (judge h t caller p right.Write None >> Ok Done) e).0 in
     let low : offset + length bytes ≤ 4096 = grind arith in
     subst DataFits (some-when (same_object p o) (written offset bytes old) new f).1 (length-written offset bytes old low fits)
-data-fit h t caller (Append p bytes) o e old new f is fits =
+data-fit base h t caller (Append p bytes) o e old new f is fits =
     let rest : Result Reply Refusal = refuse_if (nat_lt 4096 (length (data_of p t h) + length bytes)) TooLong >> Ok Done in
     let short : nat_lt 4096 (length (data_of p t h) + length bytes) ≡ false
     = (passes_test (nat_lt 4096 (length (data_of p t h) + length bytes)) TooLong (Ok Done)
@@ -337,47 +346,49 @@ data-fit h t caller (Append p bytes) o e old new f is fits =
     let same : length old ≡ length (data_of p t h) = ap length is ∙ ap (λ q. length (data_of q t h)) (sym (object_is p o both'.0)) in
     let low : length (data_of p t h) + length bytes ≤ 4096 = grind arith in
     subst DataFits both'.1 (simp length-append (omega arith))
-data-fit h t caller (Truncate p n) o e old new f is fits =
+data-fit base h t caller (Truncate p n) o e old new f is fits =
     let short : nat_lt 4096 n ≡ false = (passes_test (nat_lt 4096 n) TooLong (judge h t caller p right.Write None >> Ok Done) e).0 in
     let low : n ≤ 4096 = grind arith in
     subst DataFits (some-when (same_object p o) (of_length n old) new f).1 (rw (length-of_length n old) low)
-data-fit h t caller (Create number) o e old new f is fits = cc
-data-fit h t caller (Delete p) o e old new f is fits = cc
-data-fit h t caller (Read p offset length at) o e old new f is fits = cc
-data-fit h t caller (GetAttr p at) o e old new f is fits = cc
-data-fit h t caller (SetAttr p bytes) o e old new f is fits = cc
-data-fit h t caller (GetAclByUser p user at) o e old new f is fits = cc
-data-fit h t caller (GetAclByIndex p index at) o e old new f is fits = cc
-data-fit h t caller (SetAcl p user rights) o e old new f is fits = cc
-data-fit h t caller (PCreate name p) o e old new f is fits = cc
-data-fit h t caller (PDelete purse name) o e old new f is fits = cc
-data-fit h t caller (PList range after at) o e old new f is fits = cc
-data-fit h t caller (PMount purse name at) o e old new f is fits = cc
-data-fit h t caller (SetWindow ticks) o e old new f is fits = cc
-data-fit h t caller (SetBudget purse budget) o e old new f is fits = cc
+data-fit base h t caller (Create number) o e old new f is fits = cc
+data-fit base h t caller (Delete p) o e old new f is fits = cc
+data-fit base h t caller (Read p offset length at) o e old new f is fits = cc
+data-fit base h t caller (GetAttr p at) o e old new f is fits = cc
+data-fit base h t caller (SetAttr p bytes) o e old new f is fits = cc
+data-fit base h t caller (GetAclByUser p user at) o e old new f is fits = cc
+data-fit base h t caller (GetAclByIndex p index at) o e old new f is fits = cc
+data-fit base h t caller (SetAcl p user rights) o e old new f is fits = cc
+data-fit base h t caller (PCreate name p) o e old new f is fits = cc
+data-fit base h t caller (PDelete purse name) o e old new f is fits = cc
+data-fit base h t caller (PList range after at) o e old new f is fits = cc
+data-fit base h t caller (PMount purse name at) o e old new f is fits = cc
+data-fit base h t caller (SetWindow ticks) o e old new f is fits = cc
+data-fit base h t caller (SetBudget purse budget) o e old new f is fits = cc
+data-fit base h t caller (ReadAudit range skip) o e old new f is fits = cc
 
-pub attributes-fit : (h : List Record) (t : ℕ) (caller : Caller) (request : Request) (o : ObjectId) → is_refused (told h t caller request) ≡ false
+pub attributes-fit : (base : Base) (h : List Record) (t : ℕ) (caller : Caller) (request : Request) (o : ObjectId) → is_refused (told base h t caller request) ≡ false
     → (old new : List ℕ) → attribute_effect o request old ≡ Some new → AttributesFit new
-attributes-fit h t caller (SetAttr p bytes) o e old new f =
+attributes-fit base h t caller (SetAttr p bytes) o e old new f =
     let short : nat_lt 256 (length bytes) ≡ false = (passes_test (nat_lt 256 (length bytes)) TooLong (judge h t caller p right.Write None >> Ok Done) e).0 in
     let low : length bytes ≤ 256 = grind arith in
     subst AttributesFit (some-when (same_object p o) bytes new f).1 low
-attributes-fit h t caller (Create number) o e old new f = cc
-attributes-fit h t caller (Delete p) o e old new f = cc
-attributes-fit h t caller (Read p offset length at) o e old new f = cc
-attributes-fit h t caller (Write p offset bytes) o e old new f = cc
-attributes-fit h t caller (Append p bytes) o e old new f = cc
-attributes-fit h t caller (Truncate p length) o e old new f = cc
-attributes-fit h t caller (GetAttr p at) o e old new f = cc
-attributes-fit h t caller (GetAclByUser p user at) o e old new f = cc
-attributes-fit h t caller (GetAclByIndex p index at) o e old new f = cc
-attributes-fit h t caller (SetAcl p user rights) o e old new f = cc
-attributes-fit h t caller (PCreate name p) o e old new f = cc
-attributes-fit h t caller (PDelete purse name) o e old new f = cc
-attributes-fit h t caller (PList range after at) o e old new f = cc
-attributes-fit h t caller (PMount purse name at) o e old new f = cc
-attributes-fit h t caller (SetWindow ticks) o e old new f = cc
-attributes-fit h t caller (SetBudget purse budget) o e old new f = cc
+attributes-fit base h t caller (Create number) o e old new f = cc
+attributes-fit base h t caller (Delete p) o e old new f = cc
+attributes-fit base h t caller (Read p offset length at) o e old new f = cc
+attributes-fit base h t caller (Write p offset bytes) o e old new f = cc
+attributes-fit base h t caller (Append p bytes) o e old new f = cc
+attributes-fit base h t caller (Truncate p length) o e old new f = cc
+attributes-fit base h t caller (GetAttr p at) o e old new f = cc
+attributes-fit base h t caller (GetAclByUser p user at) o e old new f = cc
+attributes-fit base h t caller (GetAclByIndex p index at) o e old new f = cc
+attributes-fit base h t caller (SetAcl p user rights) o e old new f = cc
+attributes-fit base h t caller (PCreate name p) o e old new f = cc
+attributes-fit base h t caller (PDelete purse name) o e old new f = cc
+attributes-fit base h t caller (PList range after at) o e old new f = cc
+attributes-fit base h t caller (PMount purse name at) o e old new f = cc
+attributes-fit base h t caller (SetWindow ticks) o e old new f = cc
+attributes-fit base h t caller (SetBudget purse budget) o e old new f = cc
+attributes-fit base h t caller (ReadAudit range skip) o e old new f = cc
 
 -- the entries that a SetAcl leaves, where it may be carried out
 entries-fit : (user rights : ℕ) (acl : List AclEntry) → is_ok (settable user rights acl) ≡ true → AclFits acl → AclFits (acl_with user rights acl)
@@ -394,30 +405,31 @@ entries-fit user rights acl e fits = of (rights == 0) (names user acl) (nat_le 1
         let low : length acl < 16 = grind arith in
         omega arith
 
-pub acl-fit : (h : List Record) (t : ℕ) (caller : Caller) (request : Request) (o : ObjectId) → is_refused (told h t caller request) ≡ false
+pub acl-fit : (base : Base) (h : List Record) (t : ℕ) (caller : Caller) (request : Request) (o : ObjectId) → is_refused (told base h t caller request) ≡ false
     → (old new : List AclEntry) → acl_effect o request old ≡ Some new → old ≡ acl_of o t h → AclFits old → AclFits new
-acl-fit h t caller (SetAcl p user rights) o e old new f is fits =
+acl-fit base h t caller (SetAcl p user rights) o e old new f is fits =
     let both' = some-when (same_object p o) (acl_with user rights old) new f in
     let same : acl_of p t h ≡ old = ap (λ q. acl_of q t h) (object_is p o both'.0) ∙ sym is in
     let passes : is_ok (settable user rights (acl_of p t h)) ≡ true
     = (passes_judgement (settable user rights (acl_of p t h)) (Ok Done) (passes_judgement (judge h t caller p right.Control None) (settable user rights (acl_of p t h) >> Ok Done) e).1).0 in
     subst AclFits both'.1 (entries-fit user rights old (subst (λ acl. is_ok (settable user rights acl) ≡ true) same passes) fits)
-acl-fit h t caller (Create number) o e old new f is fits = cc
-acl-fit h t caller (Delete p) o e old new f is fits = cc
-acl-fit h t caller (Read p offset length at) o e old new f is fits = cc
-acl-fit h t caller (Write p offset bytes) o e old new f is fits = cc
-acl-fit h t caller (Append p bytes) o e old new f is fits = cc
-acl-fit h t caller (Truncate p length) o e old new f is fits = cc
-acl-fit h t caller (GetAttr p at) o e old new f is fits = cc
-acl-fit h t caller (SetAttr p bytes) o e old new f is fits = cc
-acl-fit h t caller (GetAclByUser p user at) o e old new f is fits = cc
-acl-fit h t caller (GetAclByIndex p index at) o e old new f is fits = cc
-acl-fit h t caller (PCreate name p) o e old new f is fits = cc
-acl-fit h t caller (PDelete purse name) o e old new f is fits = cc
-acl-fit h t caller (PList range after at) o e old new f is fits = cc
-acl-fit h t caller (PMount purse name at) o e old new f is fits = cc
-acl-fit h t caller (SetWindow ticks) o e old new f is fits = cc
-acl-fit h t caller (SetBudget purse budget) o e old new f is fits = cc
+acl-fit base h t caller (Create number) o e old new f is fits = cc
+acl-fit base h t caller (Delete p) o e old new f is fits = cc
+acl-fit base h t caller (Read p offset length at) o e old new f is fits = cc
+acl-fit base h t caller (Write p offset bytes) o e old new f is fits = cc
+acl-fit base h t caller (Append p bytes) o e old new f is fits = cc
+acl-fit base h t caller (Truncate p length) o e old new f is fits = cc
+acl-fit base h t caller (GetAttr p at) o e old new f is fits = cc
+acl-fit base h t caller (SetAttr p bytes) o e old new f is fits = cc
+acl-fit base h t caller (GetAclByUser p user at) o e old new f is fits = cc
+acl-fit base h t caller (GetAclByIndex p index at) o e old new f is fits = cc
+acl-fit base h t caller (PCreate name p) o e old new f is fits = cc
+acl-fit base h t caller (PDelete purse name) o e old new f is fits = cc
+acl-fit base h t caller (PList range after at) o e old new f is fits = cc
+acl-fit base h t caller (PMount purse name at) o e old new f is fits = cc
+acl-fit base h t caller (SetWindow ticks) o e old new f is fits = cc
+acl-fit base h t caller (SetBudget purse budget) o e old new f is fits = cc
+acl-fit base h t caller (ReadAudit range skip) o e old new f is fits = cc
 
 -- TELLING
 
@@ -439,65 +451,67 @@ told-done (Ok (Attr g bytes)) e f = cc
 told-done (Ok (Entry g index user rights)) e f = cc
 told-done (Ok (Mounted g o)) e f = cc
 told-done (Ok (Names lines more)) e f = cc
+told-done (Ok (Audit lines more)) e f = cc
 told-done (Ok (Refused r)) e f = cc
 told-done (Err r) e f = cc
 
-only_done-outcome : (h : List Record) (t : ℕ) (caller : Caller) (request : Request) (o : ObjectId) → changed_by request ≡ Some o → only_done (outcome_by_kind h t caller request) ≡ true
-only_done-outcome h t caller (Create number) o e = cc
-only_done-outcome h t caller (Read p offset length at) o e = cc
-only_done-outcome h t caller (GetAttr p at) o e = cc
-only_done-outcome h t caller (GetAclByUser p user at) o e = cc
-only_done-outcome h t caller (GetAclByIndex p index at) o e = cc
-only_done-outcome h t caller (PCreate name p) o e = cc
-only_done-outcome h t caller (PDelete purse name) o e = cc
-only_done-outcome h t caller (PList range after at) o e = cc
-only_done-outcome h t caller (PMount purse name at) o e = cc
-only_done-outcome h t caller (SetWindow ticks) o e = cc
-only_done-outcome h t caller (SetBudget purse budget) o e = cc
-only_done-outcome h t caller (Delete p) o e = done-then (judge h t caller p right.Delete None) _ (done-then (refuse_if (has_name p t h) Named) (Ok Done) refl)
-only_done-outcome h t caller (Write p offset bytes) o e =
+only_done-outcome : (base : Base) (h : List Record) (t : ℕ) (caller : Caller) (request : Request) (o : ObjectId) → changed_by request ≡ Some o → only_done (outcome_by_kind base h t caller request) ≡ true
+only_done-outcome base h t caller (Create number) o e = cc
+only_done-outcome base h t caller (Read p offset length at) o e = cc
+only_done-outcome base h t caller (GetAttr p at) o e = cc
+only_done-outcome base h t caller (GetAclByUser p user at) o e = cc
+only_done-outcome base h t caller (GetAclByIndex p index at) o e = cc
+only_done-outcome base h t caller (PCreate name p) o e = cc
+only_done-outcome base h t caller (PDelete purse name) o e = cc
+only_done-outcome base h t caller (PList range after at) o e = cc
+only_done-outcome base h t caller (PMount purse name at) o e = cc
+only_done-outcome base h t caller (SetWindow ticks) o e = cc
+only_done-outcome base h t caller (SetBudget purse budget) o e = cc
+only_done-outcome base h t caller (ReadAudit range skip) o e = cc
+only_done-outcome base h t caller (Delete p) o e = done-then (judge h t caller p right.Delete None) _ (done-then (refuse_if (has_name p t h) Named) (Ok Done) refl)
+only_done-outcome base h t caller (Write p offset bytes) o e =
     done-then (refuse_if (nat_lt 4096 (offset + length bytes)) TooLong) _ (done-then (judge h t caller p right.Write None) (Ok Done) refl)
-only_done-outcome h t caller (Append p bytes) o e =
+only_done-outcome base h t caller (Append p bytes) o e =
     done-then (refuse_if (nat_lt 4096 (length bytes)) TooLong) _ (done-then (judge h t caller p right.Write None) _
     (done-then (refuse_if (nat_lt 4096 (length (data_of p t h) + length bytes)) TooLong) (Ok Done) refl))
-only_done-outcome h t caller (Truncate p length) o e =
+only_done-outcome base h t caller (Truncate p length) o e =
     done-then (refuse_if (nat_lt 4096 length) TooLong) _ (done-then (judge h t caller p right.Write None) (Ok Done) refl)
-only_done-outcome h t caller (SetAttr p bytes) o e =
+only_done-outcome base h t caller (SetAttr p bytes) o e =
     done-then (refuse_if (nat_lt 256 (length bytes)) TooLong) _ (done-then (judge h t caller p right.Write None) (Ok Done) refl)
-only_done-outcome h t caller (SetAcl p user rights) o e =
+only_done-outcome base h t caller (SetAcl p user rights) o e =
     done-then (judge h t caller p right.Control None) _ (done-then (settable user rights (acl_of p t h)) (Ok Done) refl)
 
 -- an accepted change is told Done
-pub changed-done : (h : List Record) (t : ℕ) (caller : Caller) (request : Request) (o : ObjectId) → is_refused (told h t caller request) ≡ false → changed_by request ≡ Some o → told h t caller request ≡ Done
-changed-done h t caller request o e f = told-done (outcome_by_kind h t caller request) (only_done-outcome h t caller request o f) e
+pub changed-done : (base : Base) (h : List Record) (t : ℕ) (caller : Caller) (request : Request) (o : ObjectId) → is_refused (told base h t caller request) ≡ false → changed_by request ≡ Some o → told base h t caller request ≡ Done
+changed-done base h t caller request o e f = told-done (outcome_by_kind base h t caller request) (only_done-outcome base h t caller request o f) e
 
 -- and so is an accepted binding, and the end of one
 done-bind : {A : Type 0} (first : Result A Refusal) (next : A → Result Reply Refusal) → ((x : A) → only_done (next x) ≡ true) → only_done (first >>= next) ≡ true
 done-bind (Ok x) next e = e x
 done-bind (Err r) next e = refl
 
-pub bound-done : (h : List Record) (t : ℕ) (caller : Caller) (name : List ℕ) (o : ObjectId) → is_refused (told h t caller (PCreate name o)) ≡ false → told h t caller (PCreate name o) ≡ Done
-bound-done h t caller name o e = told-done (outcome_by_kind h t caller (PCreate name o))
+pub bound-done : (base : Base) (h : List Record) (t : ℕ) (caller : Caller) (name : List ℕ) (o : ObjectId) → is_refused (told base h t caller (PCreate name o)) ≡ false → told base h t caller (PCreate name o) ≡ Done
+bound-done base h t caller name o e = told-done (outcome_by_kind base h t caller (PCreate name o))
     (done-then (judge h t caller o right.Control None) _ (done-then (refuse_if (is_some (bound_at o.purse name t h)) Exists) _
     (done-then (refuse_if (nat_le 64 (bound_count o.purse t h)) PartsFull) (Ok Done) refl))) e
 
-pub unbound-done : (h : List Record) (t : ℕ) (caller : Caller) (purse : Purse) (name : List ℕ) → is_refused (told h t caller (PDelete purse name)) ≡ false → told h t caller (PDelete purse name) ≡ Done
-unbound-done h t caller purse name e = told-done (outcome_by_kind h t caller (PDelete purse name))
+pub unbound-done : (base : Base) (h : List Record) (t : ℕ) (caller : Caller) (purse : Purse) (name : List ℕ) → is_refused (told base h t caller (PDelete purse name)) ≡ false → told base h t caller (PDelete purse name) ≡ Done
+unbound-done base h t caller purse name e = told-done (outcome_by_kind base h t caller (PDelete purse name))
     (done-bind (found_bound caller purse right.Control (bound_at purse name t h)) (λ serial. judge h t caller (object_in purse serial) right.Control None >> Ok Done)
     (λ serial. done-then (judge h t caller (object_in purse serial) right.Control None) (Ok Done) refl)) e
 
 -- and so is a budget
-pub budget-done : (h : List Record) (t : ℕ) (caller : Caller) (purse : Purse) (budget : ℕ) → is_refused (told h t caller (SetBudget purse budget)) ≡ false → told h t caller (SetBudget purse budget) ≡ Done
-budget-done h t caller purse budget e = told-done (outcome_by_kind h t caller (SetBudget purse budget)) (done-then (refuse_if (not (caller.who == 0)) (Denied right.Admin)) (Ok Done) refl) e
+pub budget-done : (base : Base) (h : List Record) (t : ℕ) (caller : Caller) (purse : Purse) (budget : ℕ) → is_refused (told base h t caller (SetBudget purse budget)) ≡ false → told base h t caller (SetBudget purse budget) ≡ Done
+budget-done base h t caller purse budget e = told-done (outcome_by_kind base h t caller (SetBudget purse budget)) (done-then (refuse_if (not (caller.who == 0)) (Denied right.Admin)) (Ok Done) refl) e
 
 -- a name that is bound anew wasn't bound, and one that is bound no longer was
-pub was_unbound : (h : List Record) (t : ℕ) (caller : Caller) (name : List ℕ) (o : ObjectId) → is_refused (told h t caller (PCreate name o)) ≡ false → is_some (bound_at o.purse name t h) ≡ false
-was_unbound h t caller name o e =
+pub was_unbound : (base : Base) (h : List Record) (t : ℕ) (caller : Caller) (name : List ℕ) (o : ObjectId) → is_refused (told base h t caller (PCreate name o)) ≡ false → is_some (bound_at o.purse name t h) ≡ false
+was_unbound base h t caller name o e =
     let last : Result Reply Refusal = refuse_if (nat_le 64 (bound_count o.purse t h)) PartsFull >> Ok Done in
     (passes_test (is_some (bound_at o.purse name t h)) Exists last (passes_judgement (judge h t caller o right.Control None) (refuse_if (is_some (bound_at o.purse name t h)) Exists >> last) e).1).0
 
-pub was_bound : (h : List Record) (t : ℕ) (caller : Caller) (purse : Purse) (name : List ℕ) → is_refused (told h t caller (PDelete purse name)) ≡ false → is_some (bound_at purse name t h) ≡ true
-was_bound h t caller purse name e = of (bound_at purse name t h) e
+pub was_bound : (base : Base) (h : List Record) (t : ℕ) (caller : Caller) (purse : Purse) (name : List ℕ) → is_refused (told base h t caller (PDelete purse name)) ≡ false → is_some (bound_at purse name t h) ≡ true
+was_bound base h t caller purse name e = of (bound_at purse name t h) e
   where
     of : (found : Option ℕ) → is_refused (reply_of (found_bound caller purse right.Control found >>= λ serial. judge h t caller (object_in purse serial) right.Control None >> Ok Done)) ≡ false → is_some found ≡ true
     of (Some serial) f = refl
@@ -513,19 +527,20 @@ made-accepted o (Attr g bytes) e = cc
 made-accepted o (Entry g index user rights) e = cc
 made-accepted o (Mounted g p) e = cc
 made-accepted o (Names lines more) e = cc
+made-accepted o (Audit lines more) e = cc
 made-accepted o (Refused r) e = cc
 
 module _ {base : Base} {h : List Record} {r : Record} (n : IsNext base h r) (granted : is_refused r.reply ≡ false) where
   -- its reply is what comes of it by its kind
-  pub told-accepted : r.reply ≡ told h r.moment r.caller r.request
+  pub told-accepted : r.reply ≡ told base h r.moment r.caller r.request
   told-accepted = n.answered ∙ answer-by-kind base h r.moment r.caller r.request (sym (ap is_refused n.answered) ∙ granted)
 
-  pub accepted-by-kind : is_refused (told h r.moment r.caller r.request) ≡ false
+  pub accepted-by-kind : is_refused (told base h r.moment r.caller r.request) ≡ false
   accepted-by-kind = sym (ap is_refused told-accepted) ∙ granted
 
   -- where the request is known
-  pub told-asked : (request : Request) → r.request ≡ request → r.reply ≡ told h r.moment r.caller request
-  told-asked request asked = told-accepted ∙ ap (told h r.moment r.caller) asked
+  pub told-asked : (request : Request) → r.request ≡ request → r.reply ≡ told base h r.moment r.caller request
+  told-asked request asked = told-accepted ∙ ap (told base h r.moment r.caller) asked
 
-  pub accepted-asked : (request : Request) → r.request ≡ request → is_refused (told h r.moment r.caller request) ≡ false
+  pub accepted-asked : (request : Request) → r.request ≡ request → is_refused (told base h r.moment r.caller request) ≡ false
   accepted-asked request asked = sym (ap is_refused (told-asked request asked)) ∙ granted

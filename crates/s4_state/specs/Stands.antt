@@ -47,7 +47,7 @@ Stands chains parts h = StandsFor (chains parts.store) (get object_cmp parts.obj
 
 -- what is kept stands for the history beside it
 abbrev pub IsKept : {S : Type 0} → (S → Chains Version) → Parts S → Type 0
-IsKept chains parts = Stands chains parts parts.history.items
+IsKept chains parts = Stands chains parts parts.history.records
 
 -- the record makes no object, and draws no serial
 pub record MakesNone (r : Record) : Type 0 where

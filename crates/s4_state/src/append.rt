@@ -32,10 +32,10 @@ pub fn apply<S: Store<Version>>(
 ) -> Result<(), NoMemory>
     requires kept { IsKept S.chains parts.old }
     requires asked { added.now.request ≡ request.Append object.now bytes.now }
-    requires next { IsNext (opened parts.old.window) parts.old.history.items added.now }
+    requires next { IsNext (opened parts.old.window) parts.old.history.records added.now }
     requires granted { is_refused added.now.reply ≡ false }
-    requires sound { IsSound (parts.old.history.items ++ added.now ∷ []) }
-    ensures ok { OnOk result (Stands S.chains parts.new (parts.old.history.items ++ added.now ∷ [])) }
+    requires sound { IsSound (parts.old.history.records ++ added.now ∷ []) }
+    ensures ok { OnOk result (Stands S.chains parts.new (parts.old.history.records ++ added.now ∷ [])) }
     ensures err { OnErr result (IsKept S.chains parts.new) }
     ensures history { parts.new.history ≡ parts.old.history }
     ensures window { parts.new.window ≡ parts.old.window }

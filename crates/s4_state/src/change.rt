@@ -19,11 +19,11 @@ pub fn put<S: Store<Version>>(
     item: Item,
 ) -> Result<(), NoMemory>
     requires kept { IsKept S.chains parts.old }
-    requires made { was_made object.now parts.old.history.items ≡ true }
+    requires made { was_made object.now parts.old.history.records ≡ true }
     requires small { IsSmall item }
-    requires puts { PutsOn parts.old.history.items added.now object.now which item }
-    requires sound { IsSound (parts.old.history.items ++ added.now ∷ []) }
-    ensures ok { OnOk result (Stands S.chains parts.new (parts.old.history.items ++ added.now ∷ [])) }
+    requires puts { PutsOn parts.old.history.records added.now object.now which item }
+    requires sound { IsSound (parts.old.history.records ++ added.now ∷ []) }
+    ensures ok { OnOk result (Stands S.chains parts.new (parts.old.history.records ++ added.now ∷ [])) }
     ensures err { OnErr result (IsKept S.chains parts.new) }
     ensures history { parts.new.history ≡ parts.old.history }
     ensures window { parts.new.window ≡ parts.old.window }

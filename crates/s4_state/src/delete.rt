@@ -16,10 +16,10 @@ use s4_types::{ObjectId, Record, Version};
 pub fn apply<S: Store<Version>>(parts: &mut Parts<S>, added: &Record, object: &ObjectId)
     requires kept { IsKept S.chains parts.old }
     requires asked { added.now.request ≡ request.Delete object.now }
-    requires next { IsNext (opened parts.old.window) parts.old.history.items added.now }
+    requires next { IsNext (opened parts.old.window) parts.old.history.records added.now }
     requires granted { is_refused added.now.reply ≡ false }
-    requires sound { IsSound (parts.old.history.items ++ added.now ∷ []) }
-    ensures stands { Stands S.chains parts.new (parts.old.history.items ++ added.now ∷ []) }
+    requires sound { IsSound (parts.old.history.records ++ added.now ∷ []) }
+    ensures stands { Stands S.chains parts.new (parts.old.history.records ++ added.now ∷ []) }
     ensures history { parts.new.history ≡ parts.old.history }
     ensures window { parts.new.window ≡ parts.old.window }
 {

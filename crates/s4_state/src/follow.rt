@@ -19,9 +19,9 @@ pub fn follow<S: Store<Version>>(
     added: &Record,
 ) -> Result<(), NoMemory>
     requires kept { IsKept S.chains parts.old }
-    requires next { IsNext (opened parts.old.window) parts.old.history.items added.now }
-    requires sound { IsSound (parts.old.history.items ++ added.now ∷ []) }
-    ensures ok { OnOk result (Stands S.chains parts.new (parts.old.history.items ++ added.now ∷ [])) }
+    requires next { IsNext (opened parts.old.window) parts.old.history.records added.now }
+    requires sound { IsSound (parts.old.history.records ++ added.now ∷ []) }
+    ensures ok { OnOk result (Stands S.chains parts.new (parts.old.history.records ++ added.now ∷ [])) }
     ensures err { OnErr result (IsKept S.chains parts.new) }
     ensures history { parts.new.history ≡ parts.old.history }
     ensures window { parts.new.window ≡ parts.old.window }
@@ -42,7 +42,8 @@ pub fn follow<S: Store<Version>>(
         | Request::PList { .. }
         | Request::PMount { .. }
         | Request::SetWindow { .. }
-        | Request::SetBudget { .. } => Ok(()),
+        | Request::SetBudget { .. }
+        | Request::ReadAudit { .. } => Ok(()),
         Request::Write {
             object,
             offset,

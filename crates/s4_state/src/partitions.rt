@@ -27,10 +27,10 @@ pub fn bind<S: Store<Version>>(
 ) -> Result<(), NoMemory>
     requires kept { IsKept S.chains parts.old }
     requires asked { added.now.request ≡ request.PCreate name.now object.now }
-    requires next { IsNext (opened parts.old.window) parts.old.history.items added.now }
+    requires next { IsNext (opened parts.old.window) parts.old.history.records added.now }
     requires granted { is_refused added.now.reply ≡ false }
-    requires sound { IsSound (parts.old.history.items ++ added.now ∷ []) }
-    ensures ok { OnOk result (Stands S.chains parts.new (parts.old.history.items ++ added.now ∷ [])) }
+    requires sound { IsSound (parts.old.history.records ++ added.now ∷ []) }
+    ensures ok { OnOk result (Stands S.chains parts.new (parts.old.history.records ++ added.now ∷ [])) }
     ensures err { OnErr result (IsKept S.chains parts.new) }
     ensures history { parts.new.history ≡ parts.old.history }
     ensures window { parts.new.window ≡ parts.old.window }
@@ -46,10 +46,10 @@ pub fn bind<S: Store<Version>>(
 pub fn unbind<S: Store<Version>>(parts: &mut Parts<S>, added: &Record, purse: &Purse, name: &Name)
     requires kept { IsKept S.chains parts.old }
     requires asked { added.now.request ≡ request.PDelete purse.now name.now }
-    requires next { IsNext (opened parts.old.window) parts.old.history.items added.now }
+    requires next { IsNext (opened parts.old.window) parts.old.history.records added.now }
     requires granted { is_refused added.now.reply ≡ false }
-    requires sound { IsSound (parts.old.history.items ++ added.now ∷ []) }
-    ensures stands { Stands S.chains parts.new (parts.old.history.items ++ added.now ∷ []) }
+    requires sound { IsSound (parts.old.history.records ++ added.now ∷ []) }
+    ensures stands { Stands S.chains parts.new (parts.old.history.records ++ added.now ∷ []) }
     ensures history { parts.new.history ≡ parts.old.history }
     ensures window { parts.new.window ≡ parts.old.window }
 {
@@ -67,9 +67,9 @@ pub fn page<S: Store<Version>>(
     at: &Option<Moment>,
 ) -> Result<Page, NoMemory>
     requires kept { IsKept S.chains parts.now }
-    requires later { last_of parts.now.history.items ≤ moment }
-    ensures lines { IfOk result (λ page. page.lines ≡ take 64 (flat_map (lines_in parts.now.history.items moment caller range after.now at.now) purse_numbers)) }
-    ensures more { IfOk result (λ page. page.more ≡ nat_lt 64 (length (flat_map (lines_in parts.now.history.items moment caller range after.now at.now) purse_numbers))) }
+    requires later { last_of parts.now.history.records ≤ moment }
+    ensures lines { IfOk result (λ page. page.lines ≡ take 64 (flat_map (lines_in parts.now.history.records moment caller range after.now at.now) purse_numbers)) }
+    ensures more { IfOk result (λ page. page.more ≡ nat_lt 64 (length (flat_map (lines_in parts.now.history.records moment caller range after.now at.now) purse_numbers))) }
 {
     let mountable = Mountable {
         parts,
@@ -91,9 +91,9 @@ struct Mountable<'a, S> {
 }
 
 impl<S: Store<Version>> Visible for Mountable<'_, S> {
-    ghost shown = { λ v o. granted v.parts.now.history.items v.moment v.caller v.at o };
+    ghost shown = { λ v o. granted v.parts.now.history.records v.moment v.caller v.at o };
 
-    ghost is_ready = { λ v. IsKept S.chains v.parts.now × (last_of v.parts.now.history.items ≤ v.moment) };
+    ghost is_ready = { λ v. IsKept S.chains v.parts.now × (last_of v.parts.now.history.records ≤ v.moment) };
 
     fn grant(&self, object: &ObjectId) -> Option<Grant> {
         self.parts

@@ -16,11 +16,12 @@ ghost use Rattle.s4_state.specs.Weights.{cost_now};
 
 use crate::objects::{Kept, Which};
 use crate::values::{bytes_of, held_of};
+use s4_audit::Audit;
 use s4_judge::{Held, judge_now, judge_past};
 use s4_names::Names;
 use s4_store::Store;
 use s4_types::{
-    Acl, Caller, Grant, Moment, Name, ObjectId, Purse, Record, Refusal, Right, Serial, Version,
+    Acl, Caller, Grant, Moment, Name, ObjectId, Purse, Refusal, Right, Serial, Version,
 };
 use std::collections::BTreeMap;
 
@@ -36,7 +37,7 @@ pub struct Parts<S> {
     pub objects: BTreeMap<ObjectId, Kept>,
     pub names: Names,
     pub partitions: s4_parts::Parts,
-    pub history: Vec<Record>,
+    pub history: Audit,
 }
 
 impl<S: Store<Version>> Parts<S> {
@@ -52,8 +53,8 @@ impl<S: Store<Version>> Parts<S> {
     /// The object that the next Create in the purse makes, if a serial is left.
     pub fn next_object(&self, purse: &Purse) -> Option<ObjectId>
         requires { IsKept S.chains self.now }
-        ensures some { IfSome result (λ o. o ≡ object_in purse.now (drawn purse.now self.now.history.items + 1)) }
-        ensures left { is_some result ≡ not (nat_le 65535 (drawn purse.now self.now.history.items)) }
+        ensures some { IfSome result (λ o. o ≡ object_in purse.now (drawn purse.now self.now.history.records + 1)) }
+        ensures left { is_some result ≡ not (nat_le 65535 (drawn purse.now self.now.history.records)) }
     {
         let drawn = self.names.drawn(purse);
         if drawn == u16::MAX {
@@ -69,7 +70,7 @@ impl<S: Store<Version>> Parts<S> {
     /// The object that a name in the purse is bound to, now or at a moment.
     pub fn bound(&self, purse: &Purse, name: &Name, at: Option<Moment>) -> Option<ObjectId>
         requires { IsKept S.chains self.now }
-        ensures { (t : ℕ) → last_of self.now.history.items ≤ t → result ≡ option_map (object_in purse.now) (bound_at purse.now name.now (moment_of t at) self.now.history.items) }
+        ensures { (t : ℕ) → last_of self.now.history.records ≤ t → result ≡ option_map (object_in purse.now) (bound_at purse.now name.now (moment_of t at) self.now.history.records) }
     {
         self.partitions.mount(&self.store, purse, name, at)
     }
@@ -77,7 +78,7 @@ impl<S: Store<Version>> Parts<S> {
     /// How many names are bound in the purse.
     pub fn bound_count(&self, purse: &Purse) -> usize
         requires { IsKept S.chains self.now }
-        ensures { (t : ℕ) → last_of self.now.history.items ≤ t → result ≡ bound_count purse.now t self.now.history.items }
+        ensures { (t : ℕ) → last_of self.now.history.records ≤ t → result ≡ bound_count purse.now t self.now.history.records }
     {
         self.partitions.bound_names(purse)
     }
@@ -85,7 +86,7 @@ impl<S: Store<Version>> Parts<S> {
     /// Whether the object has a bound name.
     pub fn has_name(&self, object: &ObjectId) -> bool
         requires { IsKept S.chains self.now }
-        ensures { (t : ℕ) → last_of self.now.history.items ≤ t → result ≡ has_name object.now t self.now.history.items }
+        ensures { (t : ℕ) → last_of self.now.history.records ≤ t → result ≡ has_name object.now t self.now.history.records }
     {
         self.partitions.named(object)
     }
@@ -93,7 +94,7 @@ impl<S: Store<Version>> Parts<S> {
     /// The version in force on one of an object's tracks, now or at a moment.
     pub fn version(&self, object: &ObjectId, which: Which, at: Option<Moment>) -> Option<&Version>
         requires { IsKept S.chains self.now }
-        ensures { (t : ℕ) → last_of self.now.history.items ≤ t → option_copied result ≡ version_at which object.now (moment_of t at) self.now.history.items }
+        ensures { (t : ℕ) → last_of self.now.history.records ≤ t → option_copied result ≡ version_at which object.now (moment_of t at) self.now.history.records }
     {
         match self.kept(object) {
             Some(kept) => kept.track(which).version(&self.store, at),
@@ -105,7 +106,7 @@ impl<S: Store<Version>> Parts<S> {
     /// the cost of a value without bytes or entries.
     pub fn cost(&self, object: &ObjectId, which: Which) -> u32
         requires { IsKept S.chains self.now }
-        ensures { (t : ℕ) → last_of self.now.history.items ≤ t → result ≡ cost_now which object.now t self.now.history.items }
+        ensures { (t : ℕ) → last_of self.now.history.records ≤ t → result ≡ cost_now which object.now t self.now.history.records }
     {
         match self.version(object, which, None) {
             Some(version) => version.cost,
@@ -116,7 +117,7 @@ impl<S: Store<Version>> Parts<S> {
     /// The data in force, nothing where the object doesn't live.
     pub fn data(&self, object: &ObjectId, at: Option<Moment>) -> &[u8]
         requires { IsKept S.chains self.now }
-        ensures { (t : ℕ) → last_of self.now.history.items ≤ t → result.now ≡ data_of object.now (moment_of t at) self.now.history.items }
+        ensures { (t : ℕ) → last_of self.now.history.records ≤ t → result.now ≡ data_of object.now (moment_of t at) self.now.history.records }
     {
         bytes_of(self.version(object, Which::Data, at))
     }
@@ -124,7 +125,7 @@ impl<S: Store<Version>> Parts<S> {
     /// The attributes in force, nothing where the object doesn't live.
     pub fn attributes(&self, object: &ObjectId, at: Option<Moment>) -> &[u8]
         requires { IsKept S.chains self.now }
-        ensures { (t : ℕ) → last_of self.now.history.items ≤ t → result.now ≡ attributes_of object.now (moment_of t at) self.now.history.items }
+        ensures { (t : ℕ) → last_of self.now.history.records ≤ t → result.now ≡ attributes_of object.now (moment_of t at) self.now.history.records }
     {
         bytes_of(self.version(object, Which::Attributes, at))
     }
@@ -132,7 +133,7 @@ impl<S: Store<Version>> Parts<S> {
     /// The ACL in force and since when, where the object lives.
     pub fn held(&self, object: &ObjectId, at: Option<Moment>) -> Option<Held<'_>>
         requires { IsKept S.chains self.now }
-        ensures { (t : ℕ) → last_of self.now.history.items ≤ t → shown_held result ≡ held_at object.now (moment_of t at) self.now.history.items }
+        ensures { (t : ℕ) → last_of self.now.history.records ≤ t → shown_held result ≡ held_at object.now (moment_of t at) self.now.history.records }
     {
         held_of(self.version(object, Which::Acl, at))
     }
@@ -140,7 +141,7 @@ impl<S: Store<Version>> Parts<S> {
     /// The ACL in force, without entries where the object doesn't live.
     pub fn acl(&self, object: &ObjectId, at: Option<Moment>) -> Acl
         requires { IsKept S.chains self.now }
-        ensures { (t : ℕ) → last_of self.now.history.items ≤ t → result ≡ acl_of object.now (moment_of t at) self.now.history.items }
+        ensures { (t : ℕ) → last_of self.now.history.records ≤ t → result ≡ acl_of object.now (moment_of t at) self.now.history.records }
     {
         match self.held(object, at) {
             Some(held) => held.acl.copy(),
@@ -157,7 +158,7 @@ impl<S: Store<Version>> Parts<S> {
         at: Option<Moment>,
     ) -> Result<Grant, Refusal>
         requires { IsKept S.chains self.now }
-        ensures { (t : ℕ) → last_of self.now.history.items ≤ t → result ≡ judge_of self.now.history.items t caller object.now right at }
+        ensures { (t : ℕ) → last_of self.now.history.records ≤ t → result ≡ judge_of self.now.history.records t caller object.now right at }
     {
         let names_a_moment = at.is_some();
         let held = self.held(object, at);

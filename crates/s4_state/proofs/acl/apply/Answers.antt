@@ -24,7 +24,7 @@ pub unwrap-acl-requires : goal.unwrap-acl-requires
 unwrap-acl-requires g c =
     let user = c.args.user in
     let rights = c.args.rights in
-    let acl = acl_of c.args.object.now c.args.added.now.moment c.args.parts.now.history.items in
+    let acl = acl_of c.args.object.now c.args.added.now.moment c.args.parts.now.history.records in
     subst IsOk (sym (c.set.ensures ∙ ap (acl_once_set user rights) (c.acl.ensures c.args.added.now.moment c.requires.next.later)
     ∙ passes (settable user rights acl) (acl_with user rights acl)
     (set_acl_settable c.requires.kept.sound c.requires.next c.requires.granted c.args.object.now user rights c.requires.asked))) refl
@@ -36,8 +36,8 @@ pub put-requires-clause-puts : goal.put-requires-clause-puts
 put-requires-clause-puts g c =
     let user = c.args.user in
     let rights = c.args.rights in
-    let acl = acl_of c.args.object.now c.args.added.now.moment c.args.parts.now.history.items in
-    subst (λ x. PutsOn c.args.parts.now.history.items c.args.added.now c.args.object.now which.Acl (item.Acl x))
+    let acl = acl_of c.args.object.now c.args.added.now.moment c.args.parts.now.history.records in
+    subst (λ x. PutsOn c.args.parts.now.history.records c.args.added.now c.args.object.now which.Acl (item.Acl x))
     (sym (ap shown (sym c.unwrap-acl.ensures ∙ c.set.ensures ∙ ap (acl_once_set user rights) (c.acl.ensures c.args.added.now.moment c.requires.next.later)
     ∙ passes (settable user rights acl) (acl_with user rights acl)
     (set_acl_settable c.requires.kept.sound c.requires.next c.requires.granted c.args.object.now user rights c.requires.asked))))

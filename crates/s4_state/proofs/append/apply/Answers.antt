@@ -10,7 +10,7 @@ put-requires-clause-made g c = changed_made c.requires.kept.sound c.requires.nex
 
 pub put-requires-clause-puts : goal.put-requires-clause-puts
 put-requires-clause-puts g c =
-    let h = c.args.parts.now.history.items in
+    let h = c.args.parts.now.history.records in
     let t = c.args.added.now.moment in
     let old = c.«data».ensures t c.requires.next.later in
     subst (λ bytes. PutsOn h c.args.added.now c.args.object.now which.Data (item.Data bytes))

@@ -10,5 +10,5 @@ put-requires-clause-made g c = changed_made c.requires.kept.sound c.requires.nex
 
 pub put-requires-clause-puts : goal.put-requires-clause-puts
 put-requires-clause-puts g c =
-    subst (λ bytes. PutsOn c.args.parts.now.history.items c.args.added.now c.args.object.now which.Attributes (item.Attr bytes)) (sym c.in_ok-copy.ensures)
+    subst (λ bytes. PutsOn c.args.parts.now.history.records c.args.added.now c.args.object.now which.Attributes (item.Attr bytes)) (sym c.in_ok-copy.ensures)
     (set_attributes_puts c.requires.kept.sound c.requires.next c.requires.granted c.args.object.now c.args.bytes.now c.requires.asked)

@@ -13,7 +13,7 @@ use Rattle.s4_state.proofs.create.apply.Goals as goal
 
 pub returns-in-Ok-clause-ok : goal.returns-in-Ok-clause-ok
 returns-in-Ok-clause-ok g c =
-    let h = c.args.parts.now.history.items in
+    let h = c.args.parts.now.history.records in
     let r = c.args.added.now in
     let before = c.args.parts.now in
     let k = c.in_ok-kept.kept in

@@ -9,10 +9,10 @@ use Rattle.s4_state.proofs.partitions.bind.Goals as goal
 use Rattle.s4_state.proofs.partitions.bind.Goals.{In_ok-reserve-2}
 
 -- what is kept stands once there is room for the name
-reserved : (g : Over) (c : In_ok-reserve-2 g) → StandsFor (g.S.Store.chains c.reserve-2.new.store) (get object_cmp c.args.parts.now.objects) (drawn_in c.args.parts.now.names) c.reserve-2.new.self c.args.parts.now.history.items
+reserved : (g : Over) (c : In_ok-reserve-2 g) → StandsFor (g.S.Store.chains c.reserve-2.new.store) (get object_cmp c.args.parts.now.objects) (drawn_in c.args.parts.now.names) c.reserve-2.new.self c.args.parts.now.history.records
 reserved g c =
     let e = c.in_ok-reserve-2.ensures in
-    stands_reserved (subst (λ m. StandsFor m (get object_cmp c.args.parts.now.objects) (drawn_in c.args.parts.now.names) c.args.parts.now.partitions c.args.parts.now.history.items) (sym c.in_ok-reserve.ensures.chains) c.requires.kept)
+    stands_reserved (subst (λ m. StandsFor m (get object_cmp c.args.parts.now.objects) (drawn_in c.args.parts.now.names) c.args.parts.now.partitions c.args.parts.now.history.records) (sym c.in_ok-reserve.ensures.chains) c.requires.kept)
     (g.S.Store.chains c.reserve-2.new.store) c.reserve-2.new.self e.holds e.names e.bindings e.others e.still e.own
 
 pub bind-requires-clause-unbound : goal.bind-requires-clause-unbound

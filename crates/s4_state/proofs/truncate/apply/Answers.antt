@@ -11,7 +11,7 @@ put-requires-clause-made g c = changed_made c.requires.kept.sound c.requires.nex
 
 pub put-requires-clause-puts : goal.put-requires-clause-puts
 put-requires-clause-puts g c =
-    let h = c.args.parts.now.history.items in
+    let h = c.args.parts.now.history.records in
     let old = c.«data».ensures c.args.added.now.moment c.requires.next.later in
     subst (λ bytes. PutsOn h c.args.added.now c.args.object.now which.Data (item.Data bytes))
     (sym (c.new.ensures ∙ c.in_ok-new.ensures ∙ ap (of_length c.args.length) old))

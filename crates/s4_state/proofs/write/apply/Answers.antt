@@ -14,14 +14,14 @@ pub put-requires-clause-small : goal.put-requires-clause-small
 put-requires-clause-small g c =
     let old = c.data-old.ensures c.args.added.now.moment c.requires.next.later in
     let is = c.new.ensures ∙ c.in_ok-new.ensures ∙ ap (λ bytes. written c.args.offset bytes c.data-old.result.now) c.as_slice.ensures ∙ ap (written c.args.offset c.args.bytes.now) old in
-    let fits : length (written c.args.offset c.args.bytes.now (data_of c.args.object.now c.args.added.now.moment c.args.parts.now.history.items)) ≤ 4096
+    let fits : length (written c.args.offset c.args.bytes.now (data_of c.args.object.now c.args.added.now.moment c.args.parts.now.history.records)) ≤ 4096
     = write_fits c.requires.kept.sound c.requires.next c.requires.granted c.args.object.now c.args.offset c.args.bytes.now c.requires.asked in
-    let len : length c.new.result ≡ length (written c.args.offset c.args.bytes.now (data_of c.args.object.now c.args.added.now.moment c.args.parts.now.history.items)) = ap length is in
+    let len : length c.new.result ≡ length (written c.args.offset c.args.bytes.now (data_of c.args.object.now c.args.added.now.moment c.args.parts.now.history.records)) = ap length is in
     record { small = omega arith }
 
 pub put-requires-clause-puts : goal.put-requires-clause-puts
 put-requires-clause-puts g c =
-    let h = c.args.parts.now.history.items in
+    let h = c.args.parts.now.history.records in
     let old = c.data-old.ensures c.args.added.now.moment c.requires.next.later in
     subst (λ bytes. PutsOn h c.args.added.now c.args.object.now which.Data (item.Data bytes))
     (sym (c.new.ensures ∙ c.in_ok-new.ensures ∙ ap (λ bytes. written c.args.offset bytes c.data-old.result.now) c.as_slice.ensures ∙ ap (written c.args.offset c.args.bytes.now) old))

@@ -19,9 +19,9 @@ now h t caller o needed (Some m) e = cc
 pub returns-then-names_a_moment : goal.returns-then-names_a_moment
 returns-then-names_a_moment g c t later =
     c.judge_past.ensures ∙ ap (judge_past c.args.caller c.args.object.now) (c.held-held.ensures t later)
-    ∙ past c.args.self.now.history.items t c.args.caller c.args.object.now c.args.right c.args.at (sym c.is_some-names_a_moment.ensures ∙ c.if-names_a_moment.true)
+    ∙ past c.args.self.now.history.records t c.args.caller c.args.object.now c.args.right c.args.at (sym c.is_some-names_a_moment.ensures ∙ c.if-names_a_moment.true)
 
 pub returns-else-names_a_moment : goal.returns-else-names_a_moment
 returns-else-names_a_moment g c t later =
     c.judge_now.ensures ∙ ap (judge_now c.args.caller c.args.object.now c.args.right) (c.held-held.ensures t later)
-    ∙ now c.args.self.now.history.items t c.args.caller c.args.object.now c.args.right c.args.at (sym c.is_some-names_a_moment.ensures ∙ c.if-names_a_moment.false)
+    ∙ now c.args.self.now.history.records t c.args.caller c.args.object.now c.args.right c.args.at (sym c.is_some-names_a_moment.ensures ∙ c.if-names_a_moment.false)
