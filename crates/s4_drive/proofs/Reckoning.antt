@@ -5,7 +5,7 @@ use Rattle.s4_types.specs.declared.object.Purse.{Purse}
 use Rattle.s4_types.specs.declared.object.ObjectId.{ObjectId}
 use Rattle.s4_types.specs.declared.record.Record.{Record}
 use Rattle.s4_types.specs.declared.request.Request.{Request}
-use Rattle.s4_types.specs.declared.request.Request.TheVariants.{Create, Delete, Read, Write, Append, Truncate, GetAttr, SetAttr, GetAclByUser, GetAclByIndex, SetAcl, PCreate, PDelete, PList, PMount, SetWindow, SetBudget}
+use Rattle.s4_types.specs.declared.request.Request.TheVariants.{Create, Delete, Read, Write, Append, Truncate, GetAttr, SetAttr, GetAclByUser, GetAclByIndex, SetAcl, PCreate, PDelete, PList, PMount, SetWindow, SetBudget, ReadAudit}
 use Rattle.s4_types.specs.declared.reply.Refusal.TheVariants.{OverBudget}
 use Rattle.s4_types.specs.Names.{object_in}
 use Rattle.s4_types.specs.Outcome.{refuse_if}
@@ -64,6 +64,7 @@ unbinding-counted horizon m (PList range after at) = either (nat_lt horizon m)
 unbinding-counted horizon m (PMount purse name at) = either (nat_lt horizon m)
 unbinding-counted horizon m (SetWindow ticks) = either (nat_lt horizon m)
 unbinding-counted horizon m (SetBudget purse budget) = either (nat_lt horizon m)
+unbinding-counted horizon m (ReadAudit range skip) = either (nat_lt horizon m)
 
 both-tests : (a b : Bool) (x : ℕ) → cond a (cond b x 0) 0 ≡ cond (a && b) x 0
 both-tests true b x = refl

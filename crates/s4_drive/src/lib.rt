@@ -5,6 +5,7 @@ mod acl;
 mod administrator;
 mod append;
 mod attributes;
+mod audit;
 mod create;
 mod delete;
 mod drive;

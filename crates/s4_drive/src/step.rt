@@ -3,6 +3,7 @@
 ghost use Rattle.std.specs.Prelude.{◌≡◌, ◌≤◌, IfOk};
 ghost use Rattle.s4_types.specs.Answer.{answer as answer_of, outcome as outcome_of, outcome_by_kind as outcome_by_kind_of};
 ghost use Rattle.s4_types.specs.Base.{opened};
+ghost use Rattle.s4_types.specs.Horizon.{horizon_at};
 ghost use Rattle.s4_types.specs.Play.{last_of};
 ghost use Rattle.s4_drive.specs.Stands.{LimitsStand};
 ghost use Rattle.s4_drive.specs.Step.{IsOutcome};
@@ -12,7 +13,8 @@ use crate::moments::timely;
 use crate::past::Past;
 use crate::read::Range;
 use crate::{
-    acl, administrator, append, attributes, create, delete, partitions, read, truncate, write,
+    acl, administrator, append, attributes, audit, create, delete, partitions, read, truncate,
+    write,
 };
 use s4_state::State;
 use s4_store::Store;
@@ -52,8 +54,9 @@ fn outcome<S: Store<Version>>(
     requires later { last_of state.now.history ≤ moment }
     ensures { IsOutcome result (outcome_of (opened state.now.window) state.now.history moment caller request.now) }
 {
-    timely(limits.window.horizon(moment), moment, request.at())?;
-    let reply = outcome_by_kind(alloc, state, moment, caller, request)?;
+    let horizon = limits.window.horizon(moment);
+    timely(horizon, moment, request.at())?;
+    let reply = outcome_by_kind(alloc, state, horizon, moment, caller, request)?;
     if let Some(purse) = request.purse(&caller) {
         let charge = Past::of(state, request).charge();
         afford(state, limits, moment, &purse, charge)?;
@@ -65,12 +68,14 @@ fn outcome<S: Store<Version>>(
 fn outcome_by_kind<S: Store<Version>>(
     alloc: Global,
     state: &State<S>,
+    horizon: Moment,
     moment: Moment,
     caller: Caller,
     request: &Request,
 ) -> Result<Reply, Refusal>
+    requires horizon { horizon ≡ horizon_at (opened state.now.window) state.now.history moment }
     requires later { last_of state.now.history ≤ moment }
-    ensures { IsOutcome result (outcome_by_kind_of state.now.history moment caller request.now) }
+    ensures { IsOutcome result (outcome_by_kind_of (opened state.now.window) state.now.history moment caller request.now) }
 {
     match request {
         Request::Create { number } => {
@@ -129,5 +134,8 @@ fn outcome_by_kind<S: Store<Version>>(
             partitions::mount_outcome(state, moment, caller, purse, name, at)
         }
         Request::SetWindow { .. } | Request::SetBudget { .. } => administrator::outcome(caller),
+        Request::ReadAudit { range, skip } => {
+            audit::outcome(state, horizon, &caller, *range, *skip)
+        }
     }
 }
