@@ -1,2 +1,5 @@
 pub mod Ending
 pub mod Looking
+pub mod Erasing
+pub mod Sweeping
+pub mod Expiring

@@ -1,5 +1,5 @@
 -- The values of one track as a chain holds them: oldest first, and each but the newest with an end.
-use Rattle.std.specs.Prelude.{ℕ, Bool, false, ◌+◌, ◌*◌, ◌^◌, ◌<◌, nat_le, Option, Some, None, is_some, List, [], ◌∷◌, ◌++◌, fold, length, if◌then◌else◌}
+use Rattle.std.specs.Prelude.{ℕ, Bool, ◌+◌, ◌*◌, ◌^◌, ◌<◌, ◌≤◌, ◌&&◌, nat_le, Option, Some, None, is_some, List, [], ◌∷◌, ◌++◌, fold, map, filter_map, length, if◌then◌else◌}
 use Rattle.s4_store.specs.Chains.{newest_of}
 use Rattle.s4_types.specs.declared.version.Version.{Version}
 use Rattle.s4_types.specs.Versions.{ends_by}
@@ -70,3 +70,67 @@ current_of vs = endless (newest_of vs)
 abbrev pub version_in : Option ℕ → List Version → Option Version
 version_in None vs = current_of vs
 version_in (Some m) vs = in_force m vs
+
+-- ERASING
+
+-- whether the value is past, began at or after the first moment, and ended at or before the second
+abbrev pub is_within : ℕ → ℕ → Version → Bool
+is_within from to v = nat_le from v.begin && ends_by to v.end
+
+-- the value without its item
+abbrev pub erased : Version → Version
+erased v = record v { item = None }
+
+abbrev pub flushed_one : ℕ → ℕ → Version → Version
+flushed_one from to v = if is_within from to v then erased v else v
+
+-- the values as a flush of these moments leaves them
+abbrev pub flushed : ℕ → ℕ → List Version → List Version
+flushed from to vs = map (flushed_one from to) vs
+
+-- whether a flush of these moments has yet to erase the value
+abbrev pub is_erasable : ℕ → ℕ → Version → Bool
+is_erasable from to v = is_within from to v && is_some v.item
+
+-- the end and the cost, where there is an end
+abbrev pub told_by : ℕ → Option ℕ → Option (ℕ × ℕ)
+told_by cost None = None
+told_by cost (Some end) = Some (end, cost)
+
+abbrev pub told_of : Version → Option (ℕ × ℕ)
+told_of v = told_by v.cost v.end
+
+-- the end and the cost of the oldest value that is yet to be erased
+abbrev pub first_told : ℕ → ℕ → List Version → Option (ℕ × ℕ)
+first_told from to [] = None
+first_told from to (v ∷ vs) = if is_erasable from to v then told_of v else first_told from to vs
+
+-- the values, the oldest of those that are yet to be erased without its item
+abbrev pub with_first_erased : ℕ → ℕ → List Version → List Version
+with_first_erased from to [] = []
+with_first_erased from to (v ∷ vs) = if is_erasable from to v then erased v ∷ vs else v ∷ with_first_erased from to vs
+
+-- the ends and the costs of all values that are yet to be erased, oldest first
+abbrev pub told_if : ℕ → ℕ → Version → Option (ℕ × ℕ)
+told_if from to v = if is_erasable from to v then told_of v else None
+
+abbrev pub told : ℕ → ℕ → List Version → List (ℕ × ℕ)
+told from to vs = filter_map (told_if from to) vs
+
+-- EXPIRY
+
+-- whether the value is past, and its end is at most the horizon
+abbrev pub is_expired : ℕ → Version → Bool
+is_expired horizon v = ends_by horizon v.end
+
+-- an end, and then one that isn't below it or none
+abbrev pub EndsBefore : Option ℕ → Option ℕ → Type 0
+EndsBefore None later = ⊥
+EndsBefore (Some end) None = Unit {0}
+EndsBefore (Some end) (Some later) = end ≤ later
+
+-- the ends never go down, and each value but the newest has one
+abbrev pub IsInOrder : List Version → Type 0
+IsInOrder [] = Unit {0}
+IsInOrder (v ∷ []) = Unit {0}
+IsInOrder (v ∷ w ∷ vs) = EndsBefore v.end w.end × IsInOrder (w ∷ vs)

@@ -1,12 +1,14 @@
 //! One track: a chain of a store, and what is done to it.
 
-ghost use Rattle.std.specs.Prelude.{◌≡◌, ◌+◌, ◌<◌, ◌++◌, ◌∷◌, [], nat_le};
+ghost use Rattle.std.specs.Prelude.{◌≡◌, ◌+◌, ◌<◌, ◌++◌, ◌∷◌, [], nat_le, min, take, drop, count_by};
+ghost use Rattle.std.specs.List.{list_any, prefix_len};
 ghost use Rattle.std.specs.Option.{option_copied};
 ghost use Rattle.std.specs.FinMap as finmap;
 ghost use Rattle.s4_store.specs.Chains.{items_of, IsOpen, StillOpen};
 ghost use Rattle.s4_types.specs.Versions.{ends_by};
-ghost use Rattle.s4_tracks.specs.Chain.{IsSmall, begun, in_force, current_of, latest as latest_of, version_in, with_end, with_put, cost_of as cost};
+ghost use Rattle.s4_tracks.specs.Chain.{IsSmall, begun, in_force, current_of, latest as latest_of, version_in, with_end, with_put, cost_of as cost, first_told, with_first_erased, is_expired, IsInOrder};
 
+use crate::eraser::Eraser;
 use s4_store::{Chain, Store};
 use s4_types::{Item, Moment, Version};
 
@@ -118,6 +120,56 @@ impl Track {
         self.end(store, moment);
         self.begin(store, moment, item);
     }
+
+    /// Erases the oldest past value that begins at or after `from`, ends at or before `to` and isn't
+    /// erased yet, and tells its end and its cost. None where there is none. Takes no memory. It looks
+    /// from the oldest value on; to erase all of them an [`Eraser`] keeps its place.
+    pub fn erase_next<S: Store<Version>>(
+        &self,
+        store: &mut S,
+        from: Moment,
+        to: Moment,
+    ) -> Option<(Moment, u32)>
+        requires { IsOpen (S.chains store.old) self.now.chain }
+        ensures told { result ≡ first_told from to (items_of (S.chains store.old) self.now.chain) }
+        ensures chains { S.chains store.new ≡ finmap.insert (S.chains store.old) self.now.chain (with_first_erased from to (items_of (S.chains store.old) self.now.chain)) }
+        ensures still { StillOpen (S.chains store.old) (S.chains store.new) }
+        ensures room { S.room store.new ≡ S.room store.old }
+    {
+        let mut eraser = Eraser::new(self, from, to);
+        eraser.erase_next(store)
+    }
+
+    /// Frees at most so many values from the oldest on, as long as they have ended by the horizon, and
+    /// tells how many it freed. Where the values stand in the order of their ends that is the smaller
+    /// of the two numbers. It looks at those that it frees, and at one more. Takes no memory.
+    pub fn expire<S: Store<Version>>(&self, store: &mut S, horizon: Moment, most: u64) -> u64
+        requires { IsOpen (S.chains store.old) self.now.chain }
+        ensures freed { result ≡ min most (prefix_len (is_expired horizon) (items_of (S.chains store.old) self.now.chain)) }
+        ensures all { IsInOrder (items_of (S.chains store.old) self.now.chain) → result ≡ min most (count_by (is_expired horizon) (items_of (S.chains store.old) self.now.chain)) }
+        ensures chains { S.chains store.new ≡ finmap.insert (S.chains store.old) self.now.chain (drop result (items_of (S.chains store.old) self.now.chain)) }
+        ensures still { StillOpen (S.chains store.old) (S.chains store.new) }
+        ensures room { S.room store.new ≡ S.room store.old + result }
+    {
+        for freed in 0..most {
+            if !self.begins_expired(store, horizon) {
+                return freed;
+            }
+            store.drop_oldest(self.chain);
+        }
+        most
+    }
+
+    // Whether the oldest value has ended by the horizon.
+    fn begins_expired<S: Store<Version>>(&self, store: &S, horizon: Moment) -> bool
+        requires { IsOpen (S.chains store.now) self.now.chain }
+        ensures { result ≡ list_any (is_expired horizon) (take 1 (items_of (S.chains store.now) self.now.chain)) }
+    {
+        if store.len(self.chain) == 0 {
+            return false;
+        }
+        is_by(store.get(self.chain, 0).end, horizon)
+    }
 }
 
 /// What a value costs once it is past: 64 and its length, or 64 and 16 for each entry of an ACL. For
@@ -134,7 +186,7 @@ pub fn cost_of(item: &Item) -> u32
 }
 
 // Whether there is an end, and it is at most the moment.
-fn is_by(end: Option<Moment>, moment: Moment) -> bool
+pub(crate) fn is_by(end: Option<Moment>, moment: Moment) -> bool
     ensures { result ≡ ends_by moment end }
 {
     match end {

@@ -1,10 +1,7 @@
-use Rattle.std.proofs.Common.{◌≡◌, ◌≢◌, ℕ, ◌+◌, ◌-◌, ◌<◌, sym, ◌∙◌, ap, subst, arith, length, List, [], refl, Some}
-use Rattle.std.specs.Prelude.{slice_set}
+use Rattle.std.proofs.Common.{◌≡◌, ◌≢◌, ◌-◌, sym, ◌∙◌, ap, arith, Some}
 use Rattle.std.specs.FinMap as finmap
-use Rattle.std.proofs.lemmas.List.{length-set}
-use Rattle.s4_types.specs.declared.version.Version.{Version}
-use Rattle.s4_store.specs.Chains.{Chains, items_of, IsOpen}
-use Rattle.s4_store.specs.Laws.{insert_same, insert_twice, items_here, open_here}
+use Rattle.s4_store.specs.Chains.{items_of}
+use Rattle.s4_store.specs.Laws.{insert_same, open_here}
 use Rattle.s4_tracks.specs.Chain.{with_end}
 use Rattle.s4_tracks.proofs.Ending.{within_still, ended_in, none_end, ended_before, empty_is}
 use Rattle.s4_tracks.proofs.track.Track.end.Goals as goal

@@ -1,0 +1,11 @@
+-- What a sweep leaves of the values of a track.
+use Rattle.std.specs.Prelude.{◌≡◌, ℕ, true, List, ◌++◌}
+use Rattle.std.specs.List.{list_all}
+use Rattle.s4_types.specs.declared.version.Version.{Version}
+use Rattle.s4_tracks.specs.Chain.{is_expired}
+
+-- what is held is all but some of the oldest values, and these are expired
+pub record IsSwept (horizon : ℕ) (held all : List Version) : Type 0 where
+  pub gone : List Version
+  pub whole : all ≡ gone ++ held
+  pub expired : list_all (is_expired horizon) gone ≡ true
