@@ -215,3 +215,25 @@ fn granted_reads_look_into_the_store(rt: HostRuntime) -> Result<(), Fail> {
     }
     Ok(())
 }
+
+#[test]
+fn spending_goes_once_the_horizon_is_there(rt: HostRuntime) -> Result<(), Fail> {
+    let alloc = rt.alloc();
+    let o = object(7, 0, 1)?;
+    let maker = caller(7)?;
+    let mut drive = Drive::new(alloc, PlainStore::new(alloc), 100);
+    for (moment, request, horizon, spent) in [
+        (5, create(0)?, 0, 0),
+        (10, write(alloc, o, 0, b"a")?, 0, 64),
+        (10, write(alloc, o, 0, b"b")?, 0, 129),
+        (109, read(o, 0, 1), 9, 129),
+        (110, read(o, 0, 1), 10, 0),
+    ] {
+        let moment = Moment::new(moment);
+        assert!(rt; drive.last() <= moment);
+        drive.step(moment, maker, &request);
+        assert_eq!(rt; drive.horizon(), Moment::new(horizon));
+        assert_eq!(rt; drive.spent(&o.purse), spent, "at {moment:?}");
+    }
+    Ok(())
+}
