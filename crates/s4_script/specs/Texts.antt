@@ -1,6 +1,7 @@
 -- What a reply's line says, and the text of a line that isn't taken.
 use Rattle.std.specs.Prelude.{ℕ, Bool, true, false, List, [], ◌∷◌, ◌++◌, length, flat_map, codes, decimal}
 use Rattle.hex.specs.Hex.{encode_lower}
+use Rattle.s4_types.specs.declared.audit.AuditLine.{AuditLine}
 use Rattle.s4_types.specs.declared.object.ObjectId.{ObjectId}
 use Rattle.s4_types.specs.declared.reply.Grant.{Grant}
 use Rattle.s4_types.specs.declared.reply.Grant.TheVariants as grant
@@ -63,7 +64,7 @@ line_text line = codes "name " ++ line.name ++ codes " " ++ object_text line.obj
 abbrev pub lines_text : List NameLine → List ℕ
 lines_text lines = flat_map (λ line. 10 ∷ line_text line) lines
 
--- whether more partitions follow a page
+-- whether more follows a page
 abbrev pub end_text : Bool → List ℕ
 end_text true = codes "more"
 end_text false = codes "end"
@@ -72,7 +73,32 @@ end_text false = codes "end"
 abbrev pub names_text : List NameLine → Bool → List ℕ
 names_text lines more = codes "names " ++ decimal (length lines) ++ codes " " ++ end_text more ++ lines_text lines
 
--- a reply as its line, without the end of the line; a page of partitions is more lines, parted by line feeds
+-- whether a record lies in all ranges, or in one
+abbrev pub width_text : Bool → List ℕ
+width_text true = codes "wide"
+width_text false = codes "range"
+
+-- when a request was made, by whom, and as which client
+abbrev pub asked_text : AuditLine → List ℕ
+asked_text line = decimal line.moment ++ codes " " ++ decimal line.who ++ codes " " ++ decimal line.client
+
+-- the number of the request's kind, where its record lies, and the number of the refusal, 0 where there is none
+abbrev pub answered_text : AuditLine → List ℕ
+answered_text line = decimal line.code ++ codes " " ++ width_text line.is_wide ++ codes " " ++ decimal line.reply
+
+-- a record as its line
+abbrev pub record_text : AuditLine → List ℕ
+record_text line = codes "record " ++ asked_text line ++ codes " " ++ answered_text line
+
+-- a line feed, and then a record's line, for each of them
+abbrev pub records_text : List AuditLine → List ℕ
+records_text lines = flat_map (λ line. 10 ∷ record_text line) lines
+
+-- a page of an audit: how many records there are on it, whether more follow, and then the line of each
+abbrev pub audit_text : List AuditLine → Bool → List ℕ
+audit_text lines more = codes "audit " ++ decimal (length lines) ++ codes " " ++ end_text more ++ records_text lines
+
+-- a reply as its line, without the end of the line; a page of partitions or of records is more lines, parted by line feeds
 abbrev pub reply_text : Reply → List ℕ
 reply_text reply.Done = codes "done"
 reply_text (reply.Made object) = codes "made " ++ object_text object
@@ -81,6 +107,7 @@ reply_text (reply.Attr granted bytes) = codes "attr " ++ bytes_text bytes ++ cod
 reply_text (reply.Entry granted index user rights) = codes "entry " ++ decimal index ++ codes " " ++ decimal user ++ codes " " ++ decimal rights ++ codes " " ++ grant_text granted
 reply_text (reply.Mounted granted object) = codes "mounted " ++ object_text object ++ codes " " ++ grant_text granted
 reply_text (reply.Names lines more) = names_text lines more
+reply_text (reply.Audit lines more) = audit_text lines more
 reply_text (reply.Refused why) = refusal_text why
 
 -- why a line isn't taken

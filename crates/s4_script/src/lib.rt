@@ -4,6 +4,7 @@
 
 mod error;
 mod line;
+mod records;
 mod replies;
 mod requests;
 mod words;

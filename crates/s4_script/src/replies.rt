@@ -5,10 +5,11 @@ ghost use Rattle.std.specs.Fmt.{DisplaysOnOk};
 ghost use Rattle.hex.specs.Hex.{encode_lower};
 ghost use Rattle.s4_script.specs.Texts.{bytes_text, grant_text, line_text, lines_text, names_text, object_text, refusal_text, reply_text, right_text};
 
+use crate::records::AuditText;
 use s4_types::{Grant, Name, NameLine, ObjectId, Refusal, Reply, Right};
 use std::fmt;
 
-/// A reply as its line, or as its lines where it is a page of partitions.
+/// A reply as its line, or as its lines where it is a page of partitions or of records.
 #[derive(Clone, Copy)]
 pub struct ReplyText<'a>(pub &'a Reply);
 
@@ -49,6 +50,7 @@ impl fmt::Display for ReplyText<'_> {
                 write!(f, "mounted {} {}", ObjectText(*object), GrantText(*grant))
             }
             Reply::Names { lines, more } => write!(f, "{}", NamesText(lines.as_slice(), *more)),
+            Reply::Audit { lines, more } => write!(f, "{}", AuditText(lines.as_slice(), *more)),
             Reply::Refused(refusal) => write!(f, "{}", RefusalText(*refusal)),
         }
     }

@@ -25,6 +25,7 @@ pub fn parse_request(alloc: Global, verb: &str, words: &[&str]) -> Result<Reques
         ("pmount", [purse, name, at @ ..]) => pmount(purse, name, at),
         ("setwindow", [ticks]) => set_window(ticks),
         ("setbudget", [purse, budget]) => set_budget(purse, budget),
+        ("audit", [range, skip]) => audit(range, skip),
         _ => Err(ParseError::Bad),
     }
 }
@@ -156,5 +157,12 @@ fn set_budget(purse: &str, budget: &str) -> Result<Request, ParseError> {
     Ok(Request::SetBudget {
         purse: words::purse(purse)?,
         budget: words::number(budget)?,
+    })
+}
+
+fn audit(range: &str, skip: &str) -> Result<Request, ParseError> {
+    Ok(Request::ReadAudit {
+        range: words::principal(range)?,
+        skip: words::number(skip)?,
     })
 }

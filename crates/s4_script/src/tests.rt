@@ -1,7 +1,7 @@
 use crate::{Line, ParseError, ReplyText, parse_line, parse_window};
 use s4_types::{
-    Bytes, Caller, Grant, Moment, Name, NameLine, NameLines, ObjectId, Principal, Purse, PurseNo,
-    Refusal, Reply, Request, Right, Rights, Serial,
+    AuditLine, AuditLines, Bytes, Caller, Grant, Moment, Name, NameLine, NameLines, ObjectId,
+    Principal, Purse, PurseNo, Refusal, Reply, Request, Right, Rights, Serial,
 };
 use std::test::Fail;
 
@@ -44,7 +44,7 @@ fn good_lines(rt: HostRuntime) -> Result<(), Fail> {
 }
 
 /// Lines after the first that spell nothing.
-const BAD_LINES: [&str; 106] = [
+const BAD_LINES: [&str; 113] = [
     "0",
     "0 7",
     "0 7 ",
@@ -149,6 +149,13 @@ const BAD_LINES: [&str; 106] = [
     "0 0 setbudget 7.0 4294967296",
     "0 0 setbudget 1 7.0",
     "0 0 setbudget 7.0 1 at 0",
+    "0 7 audit",
+    "0 7 audit 9",
+    "0 7 audit 4294967295 0",
+    "0 7 audit 9.0 0",
+    "0 7 audit 9 -1",
+    "0 7 audit 9 4294967296",
+    "0 7 audit 9 0 at 0",
     "sweep 1",
     "used",
 ];
@@ -239,6 +246,38 @@ fn texts_of_pages(rt: HostRuntime) -> Result<(), Fail> {
         let text = ReplyText(&Reply::Names { lines, more }).to_string(alloc)?;
         assert_eq!(rt; text.as_str(), wanted);
     }
+    Ok(())
+}
+
+#[test]
+fn texts_of_audits(rt: HostRuntime) -> Result<(), Fail> {
+    let alloc = rt.alloc();
+    let mut lines = Vec::new(alloc);
+    let none = Reply::Audit {
+        lines: AuditLines::new(Vec::new(alloc)),
+        more: false,
+    };
+    let text = ReplyText(&none).to_string(alloc)?;
+    assert_eq!(rt; text.as_str(), "audit 0 end");
+    let mut line = AuditLine {
+        moment: Moment::new(u64::MAX),
+        who: Principal::administrator(),
+        client: u32::MAX,
+        code: 18,
+        is_wide: true,
+        reply: 0,
+    };
+    lines.push(line)?;
+    line.is_wide = false;
+    line.who = Principal::new(7).ok_or("a principal")?;
+    line.reply = 1;
+    lines.push(line)?;
+    let lines = AuditLines::new(lines);
+    let text = ReplyText(&Reply::Audit { lines, more: true }).to_string(alloc)?;
+    let wanted = "audit 2 more\n\
+                  record 18446744073709551615 0 4294967295 18 wide 0\n\
+                  record 18446744073709551615 7 4294967295 18 range 1";
+    assert_eq!(rt; text.as_str(), wanted);
     Ok(())
 }
 
