@@ -12,7 +12,7 @@ pub struct Row {
     pub error: &'static str,
 }
 
-pub const ROWS: [Row; 31] = [
+pub const ROWS: [Row; 32] = [
     EMPTY_SCRIPT,
     FIRST_REQUESTS,
     THREE_CALLS_AT_FIVE,
@@ -38,6 +38,7 @@ pub const ROWS: [Row; 31] = [
     TWO_WRITES_AT_ONE_MOMENT,
     DELETE_COST,
     BINDING_COST,
+    AUDIT,
     CAMPAIGN_FILLING_A_BUDGET,
     CAMPAIGN_PROBING_MOMENTS,
     CAMPAIGN_DELETES_AND_GRANTS,
@@ -1059,6 +1060,33 @@ const CAMPAIGN_PROBING_MOMENTS: Row = Row {
              future\n\
              too-old 6\n\
              denied recover\n",
+    error: "",
+};
+
+/// A tenant is shown his own records in a range, and the administrator all of them. A request's own
+/// record isn't in its reply, and what is skipped are records that would be shown.
+const AUDIT: Row = Row {
+    name: "audit",
+    script: "window 100\n\
+             5 7 read 9.0.1 0 1\n\
+             6 9 create 0\n\
+             7 7 read 9.0.1 0 1\n\
+             8 7 audit 9 0\n\
+             8 0 audit 9 0\n\
+             8 7 audit 9 2\n",
+    output: "denied read\n\
+             made 9.0.1\n\
+             denied read\n\
+             audit 2 end\n\
+             record 5 7 0 3 range 1\n\
+             record 7 7 0 3 range 1\n\
+             audit 4 end\n\
+             record 5 7 0 3 range 1\n\
+             record 6 9 0 1 range 0\n\
+             record 7 7 0 3 range 1\n\
+             record 8 7 0 20 range 0\n\
+             audit 1 end\n\
+             record 8 7 0 20 range 0\n",
     error: "",
 };
 
