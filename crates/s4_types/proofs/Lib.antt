@@ -9,3 +9,14 @@ pub mod Windows
 pub mod OfSpending
 pub mod Entries
 pub mod AuditExamples
+pub mod OfObjects
+pub mod SameAnswer
+pub mod Strangers
+pub mod Entryless
+pub mod Unnamed
+pub mod Far
+pub mod Pages
+pub mod KeptAnswer
+pub mod Sound
+pub mod Isolation
+pub mod StrikeExamples

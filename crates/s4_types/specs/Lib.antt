@@ -17,3 +17,4 @@ pub mod Answer
 pub mod Play
 pub mod Applied
 pub mod SameAudit
+pub mod Strike

@@ -1,17 +1,20 @@
 //! What holds of every history, whatever it holds.
 
-ghost use Rattle.std.specs.Prelude.{◌≡◌, ◌≤◌, ℕ, true, List, [], ◌∷◌, ◌++◌, filter};
+ghost use Rattle.std.specs.Prelude.{◌≡◌, ◌≤◌, ◌==◌, ℕ, true, false, List, [], ◌∷◌, ◌++◌, filter};
 ghost use Rattle.std.specs.Option.{option_map};
 ghost use Rattle.s4_types.specs.declared.object.Purse.{Purse};
 ghost use Rattle.s4_types.specs.declared.object.ObjectId.{ObjectId};
 ghost use Rattle.s4_types.specs.declared.record.Record.{Record};
+ghost use Rattle.s4_types.specs.declared.record.Step.{Step};
 ghost use Rattle.s4_types.specs.Applied.{applied, InOrder, AgreeOn};
 ghost use Rattle.s4_types.specs.Serials.{drawn};
 ghost use Rattle.s4_types.specs.Base.{Base};
 ghost use Rattle.s4_types.specs.Bindings.{bindings, bound_at, names_of};
 ghost use Rattle.s4_types.specs.Horizon.{horizon_at};
 ghost use Rattle.s4_types.specs.Kinds.{concerns_all};
+ghost use Rattle.s4_types.specs.Play.{play, replies, NeverDown};
 ghost use Rattle.s4_types.specs.Spending.{budget_of, spent_above, spent_at};
+ghost use Rattle.s4_types.specs.Strike.{is_near, strike, without_strangers, records_of};
 ghost use Rattle.s4_types.specs.Versions.{lives_at, versions, value_at, data_track, attribute_track, acl_track};
 
 /// Where an object lives, the value in force at a moment is what the accepted changes up to that moment leave, applied in
@@ -64,4 +67,18 @@ pub fn spending_depends_on_its_purse()
         → spent_above purse horizon h ≡ spent_above purse horizon k }
     ensures spent { (base : Base) (purse : Purse) (t : ℕ) (h k : List Record) → AgreeOn purse h k → filter concerns_all h ≡ filter concerns_all k
         → spent_at base purse h t ≡ spent_at base purse k t }
+{}
+
+/// A principal other than the administrator is answered as in the run from which its strangers are struck out: its
+/// records are the same, in the same order, and so are its replies. All records of the struck run are those of the
+/// whole one without the strangers'. Its moments never go down where those of the whole one don't
+/// (docs/MODEL.md, "Isolation").
+pub fn strangers_change_nothing()
+    ensures records { (base : Base) (who : ℕ) (steps : List Step) → (who == 0) ≡ false
+        → records_of who (play base (strike who steps)) ≡ records_of who (play base steps) }
+    ensures replies { (base : Base) (who : ℕ) (steps : List Step) → (who == 0) ≡ false
+        → replies (records_of who (play base (strike who steps))) ≡ replies (records_of who (play base steps)) }
+    ensures struck { (base : Base) (who : ℕ) (steps : List Step) → (who == 0) ≡ false
+        → play base (strike who steps) ≡ without_strangers who (is_near who steps) (play base steps) }
+    ensures moments { (from who : ℕ) (steps : List Step) → NeverDown from steps → NeverDown from (strike who steps) }
 {}

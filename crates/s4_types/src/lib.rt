@@ -22,7 +22,7 @@ pub use audit::{AuditLine, AuditLines, AuditPage};
 pub use bytes::Bytes;
 pub use laws::{
     horizons_depend_on_wide_changes, horizons_never_go_back, purses_depend_on_their_records,
-    spending_depends_on_its_purse, values_are_applied_in_order,
+    spending_depends_on_its_purse, strangers_change_nothing, values_are_applied_in_order,
 };
 pub use memory::NoMemory;
 pub use moment::Moment;

@@ -1,0 +1,118 @@
+-- A principal has no entry in the ACLs of a purse in which nobody named it.
+use Rattle.std.proofs.Common.{◌≡◌, ℕ, Bool, true, false, cond, not, ◌&&◌, ◌||◌, nat_le, ◌==◌, Option, Some, None, List, [], ◌∷◌, fold, find, refl, ap, sym, ◌∙◌}
+use Rattle.std.specs.Option.{option_map}
+use Rattle.s4_types.specs.declared.object.Purse.{Purse}
+use Rattle.s4_types.specs.declared.object.ObjectId.{ObjectId}
+use Rattle.s4_types.specs.declared.acl.AclEntry.{AclEntry}
+use Rattle.s4_types.specs.declared.record.Record.{Record}
+use Rattle.s4_types.specs.declared.request.Request.{Request}
+use Rattle.s4_types.specs.declared.request.Request.TheVariants.{SetAcl}
+use Rattle.s4_types.specs.Acl.{names, acl_with}
+use Rattle.s4_types.specs.Names.{same_object}
+use Rattle.s4_types.specs.Kinds.{concerns, is_accepted, is_about}
+use Rattle.s4_types.specs.Versions.{Value, versions, versions_after, after_change, makes, deletes, begun, with_value, with_effect, with_end, acl_track, acl_effect, lives_at}
+use Rattle.s4_types.specs.Judgement.{Held, held_of, held_at}
+use Rattle.s4_types.proofs.Booleans.{both}
+use Rattle.s4_types.proofs.SameNames.{object_is}
+use Rattle.s4_types.proofs.Entryless.{acl_with-lacks}
+use Rattle.s4_types.proofs.Strangers.{Each, not-true}
+
+-- RECORDS THAT NAME NOBODY ELSEWHERE
+
+-- whether the request is for an entry of the principal in a purse that isn't near
+abbrev pub names_elsewhere : ℕ → (Purse → Bool) → Request → Bool
+names_elsewhere who near (SetAcl o user rights) = (user == who) && not (near o.purse)
+names_elsewhere who near _ = false
+
+-- whether the record, if it stands for a change, gives the principal no entry in a purse that isn't near
+abbrev pub is_sound : ℕ → (Purse → Bool) → Record → Bool
+is_sound who near r = not (is_accepted r && names_elsewhere who near r.request)
+
+accepted-sound : (accepted elsewhere : Bool) → not (accepted && elsewhere) ≡ true → accepted ≡ true → elsewhere ≡ false
+accepted-sound true elsewhere e a = not-true elsewhere e
+accepted-sound false elsewhere e a = cc
+
+-- VALUES WITHOUT ITS ENTRY
+
+-- whether the ACL has no entry of the principal
+abbrev pub is_without : ℕ → Value (List AclEntry) → Bool
+is_without who v = not (names who v.value)
+
+-- an ACL, where there is one, has none
+abbrev OptionLacks : ℕ → Option (List AclEntry) → Type 0
+OptionLacks who None = Unit {0}
+OptionLacks who (Some acl) = names who acl ≡ false
+
+other-than : (user who : ℕ) (near : Purse → Bool) (changed o : ObjectId) → near o.purse ≡ false → ((user == who) && not (near changed.purse)) ≡ false → same_object changed o ≡ true → (user == who) ≡ false
+other-than user who near changed o n f e =
+    of (user == who) (sym (ap (λ b. (user == who) && not b) (ap (λ (x : ObjectId). near x.purse) (object_is changed o e) ∙ n)) ∙ f)
+  where
+    of : (b : Bool) → (b && true) ≡ false → b ≡ false
+    of true g = cc
+    of false g = refl
+
+effect-lacks : (who : ℕ) (near : Purse → Bool) (o : ObjectId) (request : Request) (acl : List AclEntry) → near o.purse ≡ false → names_elsewhere who near request ≡ false → names who acl ≡ false → OptionLacks who (acl_effect o request acl)
+effect-lacks who near o (SetAcl changed user rights) acl n f e = of (same_object changed o) (other-than user who near changed o n f)
+  where
+    of : (b : Bool) → (b ≡ true → (user == who) ≡ false) → OptionLacks who (cond b (Some (acl_with user rights acl)) None)
+    of true other = acl_with-lacks who user rights acl (other refl) e
+    of false other = tt
+effect-lacks who near o _ acl n f e = tt
+
+with_value-lacks : (who m : ℕ) (next : Option (List AclEntry)) (v : Value (List AclEntry)) (past : List (Value (List AclEntry))) → OptionLacks who next → Each (is_without who) (v ∷ past) → Each (is_without who) (with_value m next v past)
+with_value-lacks who m None v past f s = s
+with_value-lacks who m (Some acl) v past f s = (ap not f, s)
+
+with_effect-lacks : (who m : ℕ) (near : Purse → Bool) (o : ObjectId) (request : Request) (values : List (Value (List AclEntry))) → near o.purse ≡ false → names_elsewhere who near request ≡ false → Each (is_without who) values → Each (is_without who) (with_effect m (acl_track.effect o request) values)
+with_effect-lacks who m near o request [] n f s = tt
+with_effect-lacks who m near o request (v ∷ past) n f s =
+    with_value-lacks who m (acl_effect o request v.value) v past (effect-lacks who near o request v.value n f (not-true (names who v.value) s.0)) s
+
+with_end-lacks : (who m : ℕ) (values : List (Value (List AclEntry))) → Each (is_without who) values → Each (is_without who) (with_end m values)
+with_end-lacks who m [] s = tt
+with_end-lacks who m (v ∷ past) s = s
+
+-- the object stands in a purse that isn't near
+pub record IsAway (who : ℕ) (near : Purse → Bool) (purse : Purse) : Type 0 where
+  pub creator : (purse.creator == who) ≡ false
+  pub far : near purse ≡ false
+
+change-lacks : (who : ℕ) (near : Purse → Bool) (o : ObjectId) (r : Record) (values : List (Value (List AclEntry))) → IsAway who near o.purse → names_elsewhere who near r.request ≡ false → Each (is_without who) values → Each (is_without who) (after_change acl_track o values r)
+change-lacks who near o r values a f s = of (makes o r) (deletes o r)
+  where
+    of : (made ends : Bool) → Each (is_without who) (cond made (begun r.moment (acl_track.start o) ∷ values) (cond ends (with_end r.moment values) (with_effect r.moment (acl_track.effect o r.request) values)))
+    of true ends = (ap (λ b. not (b || false)) a.creator, s)
+    of false true = with_end-lacks who r.moment values s
+    of false false = with_effect-lacks who r.moment near o r.request values a.far f s
+
+fold-lacks : (who : ℕ) (near : Purse → Bool) (o : ObjectId) → IsAway who near o.purse → (h : List Record) → Each (is_sound who near) h → (values : List (Value (List AclEntry))) → Each (is_without who) values → Each (is_without who) (fold (versions_after acl_track o) values h)
+fold-lacks who near o a [] s values e = e
+fold-lacks who near o a (r ∷ h) s values e = fold-lacks who near o a h s.1 (versions_after acl_track o values r) (of (concerns o.purse r) refl)
+  where
+    of : (b : Bool) → concerns o.purse r ≡ b → Each (is_without who) (cond b (after_change acl_track o values r) values)
+    of true c =
+        change-lacks who near o r values a
+        (accepted-sound (is_accepted r) (names_elsewhere who near r.request) s.0 (both (is_accepted r) (is_about o.purse r.caller r.request) c).0) e
+    of false c = e
+
+-- IN FORCE
+
+-- an ACL in force, where there is one, has no entry of the principal
+abbrev pub HeldWithout : ℕ → Option Held → Type 0
+HeldWithout who None = Unit {0}
+HeldWithout who (Some held) = names who held.acl ≡ false
+
+find-lacks : (who m : ℕ) (values : List (Value (List AclEntry))) → Each (is_without who) values → HeldWithout who (option_map held_of (find (λ v. nat_le v.begin m) values))
+find-lacks who m [] s = tt
+find-lacks who m (v ∷ past) s = of (nat_le v.begin m) (find-lacks who m past s.1)
+  where
+    of : (b : Bool) → HeldWithout who (option_map held_of (find (λ v. nat_le v.begin m) past)) → HeldWithout who (option_map held_of (cond b (Some v) (find (λ v. nat_le v.begin m) past)))
+    of true rest = not-true (names who v.value) s.0
+    of false rest = rest
+
+pub held-lacks : (who : ℕ) (near : Purse → Bool) (o : ObjectId) (m : ℕ) (h : List Record) → IsAway who near o.purse → Each (is_sound who near) h → HeldWithout who (held_at o m h)
+held-lacks who near o m h a s = of (lives_at m o h)
+  where
+    of : (b : Bool) → HeldWithout who (option_map held_of (cond b (find (λ v. nat_le v.begin m) (versions acl_track o h)) None))
+    of true = find-lacks who m (versions acl_track o h) (fold-lacks who near o a h s [] tt)
+    of false = tt
