@@ -33,5 +33,7 @@ fn a_fresh_state_tells_of_nothing(rt: HostRuntime) -> Result<(), Fail> {
     assert_eq!(rt; judged.err(), Some(Refusal::NoObject));
     let page = state.page(Moment::new(5), caller, who, &None, &at)?;
     assert!(rt; page.lines.as_slice().is_empty() && !page.more);
+    let page = state.audit_page(&caller, who, 0, Moment::new(0))?;
+    assert!(rt; page.lines.as_slice().is_empty() && !page.more);
     Ok(())
 }
