@@ -20,7 +20,7 @@ use Rattle.s4_types.specs.Bindings.{bindings, names_of, with_name, bound_at, bou
 use Rattle.s4_types.specs.Versions.{Value, ends_by, in_force_by}
 use Rattle.s4_types.specs.Versions as model
 use Rattle.s4_types.specs.Base.{Base}
-use Rattle.s4_types.specs.Answer.{answer, moment_of}
+use Rattle.s4_types.specs.Answer.{moment_of}
 use Rattle.s4_types.specs.Play.{last_of}
 use Rattle.s4_types.proofs.Booleans.{by_test, both}
 use Rattle.s4_types.proofs.Snoc.{newest-snoc}

@@ -1,6 +1,6 @@
 -- What a record makes past weighs what its charge tells.
 use Rattle.std.proofs.Common.{◌≡◌, ℕ, ◌+◌, ◌≤◌, Bool, true, false, not, cond, Option, Some, None, List, [], ◌∷◌, ◌++◌, refl, sym, ◌∙◌, ap, subst, arith}
-use Rattle.std.specs.Prelude.{◌&&◌, ◌==◌, sum_by, if◌then◌else◌}
+use Rattle.std.specs.Prelude.{◌&&◌, sum_by, if◌then◌else◌}
 use Rattle.std.proofs.lemmas.List.Sums.{sum_by-cons}
 use Rattle.s4_types.specs.declared.object.Purse.{Purse}
 use Rattle.s4_types.specs.declared.object.ObjectId.{ObjectId}
@@ -10,10 +10,10 @@ use Rattle.s4_types.specs.declared.reply.Reply.TheVariants.{Done}
 use Rattle.s4_types.specs.declared.record.Record.{Record}
 use Rattle.s4_types.specs.declared.version.Item.{Item}
 use Rattle.s4_types.specs.declared.version.Item.TheVariants as item
-use Rattle.s4_types.specs.Names.{same_purse, same_object, object_in}
+use Rattle.s4_types.specs.Names.{same_purse, object_in}
 use Rattle.s4_types.specs.Kinds.{is_refused, only_reads, is_about, is_create, concerns}
 use Rattle.s4_types.specs.Base.{Base}
-use Rattle.s4_types.specs.Serials.{drawn, draws}
+use Rattle.s4_types.specs.Serials.{drawn}
 use Rattle.s4_types.specs.Spending.{binding_cost}
 use Rattle.s4_types.specs.Answer.{made_past, data_of, attributes_of, acl_of}
 use Rattle.s4_types.specs.Acl.{acl_with}
@@ -22,11 +22,10 @@ use Rattle.s4_types.specs.Versions.{Track, Value, versions, data_track, attribut
 use Rattle.s4_types.proofs.Booleans.{by_test, &&-false}
 use Rattle.s4_types.proofs.Snoc.{drawn-snoc}
 use Rattle.s4_tracks.specs.Chain.{with_put, with_end, cost_of}
-use Rattle.s4_state.specs.declared.objects.Which.{Which}
 use Rattle.s4_state.specs.declared.objects.Which.TheVariants as which
-use Rattle.s4_state.specs.Laid.{laid, versions_on}
+use Rattle.s4_state.specs.Laid.{laid}
 use Rattle.s4_state.specs.Sound.{IsSound, IsNext, TrackStands, DataFits, AttributesFit, AclFits, was_made, was_deleted}
-use Rattle.s4_state.specs.Stands.{MakesNone, PutsOn, EndsAll}
+use Rattle.s4_state.specs.Stands.{MakesNone, PutsOn}
 use Rattle.s4_state.specs.Weights.{weight_of, track_weight, object_weight, unbinding_weight, binding_weight, purse_weight}
 use Rattle.s4_state.proofs.Granting.{told-asked, accepted-asked, changed_by, bound-done, unbound-done, budget-done}
 use Rattle.s4_state.proofs.Effects.{IsLive, either-same, laid-end, laid-put, live-data, live-attributes, live-acl, current-data, current-attributes, current-acl, changed_made, write_puts, append_puts, truncate_puts, set_attributes_puts, set_acl_puts, delete_ends, create_makes, new_object}

@@ -1,10 +1,9 @@
 -- What the values in force cost, and that they are short.
-use Rattle.std.proofs.Common.{◌≡◌, ℕ, ◌+◌, ◌*◌, ◌≤◌, Bool, true, false, not, cond, Option, Some, None, List, [], length, refl, sym, ◌∙◌, ap, subst, arith}
-use Rattle.std.specs.Prelude.{◌&&◌, nat_le}
+use Rattle.std.proofs.Common.{◌≡◌, ℕ, ◌≤◌, Bool, true, false, not, cond, Option, Some, None, List, [], length, refl, sym, ◌∙◌, ap, subst, arith}
+use Rattle.std.specs.Prelude.{nat_le}
 use Rattle.std.specs.List.{find}
 use Rattle.std.specs.Option.{option_map}
 use Rattle.s4_types.specs.declared.object.ObjectId.{ObjectId}
-use Rattle.s4_types.specs.declared.acl.AclEntry.{AclEntry}
 use Rattle.s4_types.specs.declared.record.Record.{Record}
 use Rattle.s4_types.specs.declared.version.Version.{Version}
 use Rattle.s4_types.specs.declared.version.Item.TheVariants as item
@@ -15,11 +14,11 @@ use Rattle.s4_types.proofs.Booleans.{by_test, both}
 use Rattle.s4_state.specs.declared.objects.Which.{Which}
 use Rattle.s4_state.specs.declared.objects.Which.TheVariants as which
 use Rattle.s4_state.specs.Laid.{version_of, version_at}
-use Rattle.s4_state.specs.Sound.{IsSound, IsTrack, TrackStands, DataFits, AttributesFit, AclFits, was_made, was_deleted}
+use Rattle.s4_state.specs.Sound.{IsSound, TrackStands, DataFits, AttributesFit, AclFits, was_made, was_deleted}
 use Rattle.s4_state.specs.Weights.{cost_now}
 use Rattle.s4_state.proofs.Living.{lives_at-now}
 use Rattle.s4_state.proofs.Reading.{data-in-force, attributes-in-force, acl-in-force}
-use Rattle.s4_state.proofs.Effects.{IsLive, live-track}
+use Rattle.s4_state.proofs.Effects.{live-track}
 
 -- the cost of a version that is there
 abbrev pub cost_in : Option Version → ℕ

@@ -1,6 +1,6 @@
 -- What an accepted request tells of the object that it is about.
 use Rattle.std.proofs.Common.{◌≡◌, ℕ, ◌+◌, ◌≤◌, ◌<◌, Bool, true, false, not, cond, Option, Some, None, List, [], ◌∷◌, ◌++◌, refl, sym, ◌∙◌, ap, subst, arith, length, take, drop, length-append, length-drop}
-use Rattle.std.specs.Prelude.{◌==◌, nat_le, nat_lt, is_ok, is_some, flat_map, Result, Ok, Err, slice_get}
+use Rattle.std.specs.Prelude.{◌==◌, nat_le, nat_lt, is_ok, is_some, Result, Ok, Err, slice_get}
 use Rattle.std.specs.List.{find}
 use Rattle.std.specs.Option.{option_map}
 use Rattle.std.proofs.lemmas.List.{length-take, length-replicate}
@@ -24,7 +24,7 @@ use Rattle.s4_types.specs.Versions.{Value, versions, is_made, is_deleted, lives_
 use Rattle.s4_types.specs.Acl.{names, without_entry, replaced, acl_with}
 use Rattle.s4_types.specs.Judgement.{Found, entry_of, judge, judge_now, held_of}
 use Rattle.s4_types.specs.Outcome.{◌>>=◌, ◌>>◌, refuse_if, reply_of}
-use Rattle.s4_types.specs.Answer.{outcome_by_kind, moment_of, data_of, attributes_of, acl_of, entry_by_user, entry_by_index, settable, found_bound, lines_in, page_of, purse_numbers}
+use Rattle.s4_types.specs.Answer.{outcome_by_kind, moment_of, data_of, attributes_of, acl_of, entry_by_user, entry_by_index, settable, found_bound}
 use Rattle.s4_types.specs.Serials.{drawn}
 use Rattle.s4_types.specs.Bindings.{bound_at, bound_count, has_name}
 use Rattle.s4_types.proofs.SameNames.{object_is}
