@@ -1,6 +1,6 @@
 -- What the ledger tells is what the definitions tell of spending and budgets.
 use Rattle.std.proofs.Common.{◌≡◌, ℕ, zero, ◌+◌, ◌<◌, ◌≤◌, Bool, true, false, cond, Option, Some, None, List, refl, sym, ◌∙◌, ap, arith}
-use Rattle.std.specs.Prelude.{Result, Ok, Err, nat_lt, ◌&&◌, sum_by, if◌then◌else◌}
+use Rattle.std.specs.Prelude.{Ok, Err, nat_lt, ◌&&◌, sum_by, if◌then◌else◌}
 use Rattle.s4_types.specs.declared.object.Purse.{Purse}
 use Rattle.s4_types.specs.declared.object.ObjectId.{ObjectId}
 use Rattle.s4_types.specs.declared.record.Record.{Record}
@@ -14,7 +14,7 @@ use Rattle.s4_types.specs.Kinds.{concerns}
 use Rattle.s4_types.specs.Horizon.{Guarded, horizon_of, guarded_at, horizon_at, is_remembered}
 use Rattle.s4_types.specs.Play.{last_of}
 use Rattle.s4_types.specs.Serials.{drawn}
-use Rattle.s4_types.specs.Spending.{sum_to, past_cost, spent_on_object, spent_on_binding, spent_above, spent_at, binding_cost, unbinding_cost}
+use Rattle.s4_types.specs.Spending.{sum_to, past_cost, spent_on_object, spent_on_binding, spent_above, spent_at, unbinding_cost}
 use Rattle.s4_types.specs.Answer.{within}
 use Rattle.s4_types.specs.Versions.{Track, Value, versions, data_track, attribute_track, acl_track}
 use Rattle.s4_types.proofs.Booleans.{by_test}
@@ -78,7 +78,7 @@ binding-counted horizon p r =
 purse-counted : (horizon : ℕ) (p : Purse) (h : List Record) → purse_weight (counted horizon) p h ≡ spent_above p horizon h
 purse-counted horizon p h =
     let objects : sum_to (drawn p h) (λ serial. object_weight (counted horizon) h (object_in p serial)) ≡ sum_to (drawn p h) (λ serial. spent_on_object horizon h (object_in p serial))
-        = ap (sum_to (drawn p h)) (λ i serial. object-counted horizon h (object_in p serial) i) in
+    = ap (sum_to (drawn p h)) (λ i serial. object-counted horizon h (object_in p serial) i) in
     let names : sum_by (binding_weight (counted horizon) p) h ≡ sum_by (spent_on_binding p horizon) h = ap (λ f. sum_by f h) (λ i r. binding-counted horizon p r i) in
     omega (arith, objects, names)
 
