@@ -259,19 +259,22 @@ fn texts_of_audits(rt: HostRuntime) -> Result<(), Fail> {
     };
     let text = ReplyText(&none).to_string(alloc)?;
     assert_eq!(rt; text.as_str(), "audit 0 end");
-    let mut line = AuditLine {
+    lines.push(AuditLine {
         moment: Moment::new(u64::MAX),
         who: Principal::administrator(),
         client: u32::MAX,
         code: 18,
         is_wide: true,
         reply: 0,
-    };
-    lines.push(line)?;
-    line.is_wide = false;
-    line.who = Principal::new(7).ok_or("a principal")?;
-    line.reply = 1;
-    lines.push(line)?;
+    })?;
+    lines.push(AuditLine {
+        moment: Moment::new(u64::MAX),
+        who: Principal::new(7).ok_or("a principal")?,
+        client: u32::MAX,
+        code: 18,
+        is_wide: false,
+        reply: 1,
+    })?;
     let lines = AuditLines::new(lines);
     let text = ReplyText(&Reply::Audit { lines, more: true }).to_string(alloc)?;
     let wanted = "audit 2 more\n\
