@@ -1,5 +1,6 @@
 -- What a drive holds beside its state stands for its history: the window, and the ledger.
-use Rattle.std.specs.Prelude.{◌≡◌, ℕ, ◌+◌, ◌<◌, ◌≤◌, nat_lt, true, Option, Some, None, List, [], ◌∷◌, length, sum, sum_by, if◌then◌else◌}
+use Rattle.std.specs.Prelude.{◌≡◌, ℕ, ◌+◌, ◌<◌, ◌≤◌, nat_lt, true, Option, Some, None, List, [], ◌∷◌, Contains, length, sum, sum_by, if◌then◌else◌}
+use Rattle.std.specs.List.{AllByRecursion}
 use Rattle.s4_types.specs.declared.object.Purse.{Purse}
 use Rattle.s4_types.specs.declared.record.Record.{Record}
 use Rattle.s4_types.specs.declared.request.Request.{Request}
@@ -45,6 +46,14 @@ charged weight m (Some purse) costs p = if same_purse purse p then sum_by (weigh
 -- the purse's budget has room for the costs, if there are any
 abbrev pub HasRoom : Purse → List ℕ → books.Books → Type 0
 HasRoom p costs ledger = 0 < length costs → books.spending p ledger.charges + sum costs ≤ books.budget_of p ledger.budgets
+
+-- there is a place for a charge of each cost to the purse, with that end
+abbrev pub HasPlaces : Purse → ℕ → List ℕ → List Charge → Type 0
+HasPlaces p end costs places = AllByRecursion (λ cost. Contains places (record { purse = p; end = end; cost = cost })) costs
+
+-- no cost is 0
+abbrev pub ArePositive : List ℕ → Type 0
+ArePositive costs = AllByRecursion (λ cost. 0 < cost) costs
 
 -- there is room for the budget that the request tells
 abbrev pub HasBudget : Request → List (Purse × ℕ) → Type 0

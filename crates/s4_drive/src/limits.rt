@@ -1,27 +1,25 @@
 //! How far back the past is told, and what it may cost.
 
-ghost use Rattle.std.specs.Prelude.{◌≡◌, ◌≤◌, ◌+◌, ℕ, List, Some, sum_by, OnOk, []};
+ghost use Rattle.std.specs.Prelude.{◌≡◌, ◌<◌, ◌≤◌, ◌+◌, ℕ, false, List, Some, sum_by, Contains, OnOk, []};
 ghost use Rattle.s4_types.specs.declared.object.Purse.{Purse};
 ghost use Rattle.s4_types.specs.declared.record.Record.{Record};
 ghost use Rattle.s4_types.specs.Answer.{within};
 ghost use Rattle.s4_types.specs.Base.{Base, opened};
 ghost use Rattle.s4_types.specs.Horizon.{horizon_of};
-ghost use Rattle.s4_types.specs.Kinds.{purse_of};
+ghost use Rattle.s4_types.specs.Kinds.{is_refused, purse_of};
 ghost use Rattle.s4_types.specs.Play.{last_of};
 ghost use Rattle.s4_types.specs.Spending.{spent_at, budget_of, budget_by};
+ghost use Rattle.s4_ledger.specs.declared.charge.Charge.{Charge};
 ghost use Rattle.s4_ledger.specs.Books as books;
-ghost use Rattle.s4_drive.specs.Stands.{LimitsStand, HasRoom, HasBudget, above, charge_weight, charged, costs_of};
+ghost use Rattle.s4_drive.specs.Stands.{LimitsStand, HasRoom, HasPlaces, HasBudget, ArePositive, above, charge_weight, charged, costs_of};
 
 use crate::past::Past;
 use s4_ledger::Ledger;
 use s4_state::State;
 use s4_store::Store;
-use s4_types::{Caller, Moment, NoMemory, Purse, Refusal, Request, Version};
+use s4_types::{Caller, Moment, NoMemory, Purse, Record, Refusal, Request, Version};
 use s4_window::Window;
 use std::alloc::Global;
-
-/// The most values that one request makes past.
-const MADE_PAST: usize = 3;
 
 /// The window in force, and the charges and budgets of all purses.
 #[derive(Drop)]
@@ -41,14 +39,21 @@ impl Limits {
         }
     }
 
-    /// Makes room for what the request may change.
-    pub fn reserve(&mut self, request: &Request) -> Result<(), NoMemory>
-        ensures charges { OnOk result (3 ≤ self.new.ledger.reserved) }
-        ensures budget { OnOk result (HasBudget request.now self.new.ledger.budgets) }
+    /// Makes room for what an accepted record changes here: places for the charges of what it makes
+    /// past, and an account for the budget that it sets. A refused one changes nothing here.
+    pub fn reserve(&mut self, added: &Record, past: Past) -> Result<(), NoMemory>
+        ensures places { is_refused added.now.reply ≡ false → OnOk result ((p : Purse) → purse_of added.now.caller added.now.request ≡ Some p
+            → HasPlaces p added.now.moment (costs_of past) self.new.ledger.places) }
+        ensures budget { is_refused added.now.reply ≡ false → OnOk result (HasBudget added.now.request self.new.ledger.budgets) }
         ensures stand { (base : Base) (h : List Record) → LimitsStand base h self.old → LimitsStand base h self.new }
     {
-        self.ledger.reserve(MADE_PAST)?;
-        match request {
+        if added.reply.is_refused() {
+            return Ok(());
+        }
+        if let Some(purse) = added.request.purse(&added.caller) {
+            reserve(&mut self.ledger, &purse, added.moment, past)?;
+        }
+        match &added.request {
             Request::SetBudget { purse, .. } => self.ledger.reserve_budget(purse),
             _ => Ok(()),
         }
@@ -61,7 +66,7 @@ impl Limits {
         ensures horizon { self.new.ledger.horizon ≡ horizon_of window moment }
         ensures charges { self.new.ledger.charges ≡ books.lasting (horizon_of window moment) self.old.ledger.charges }
         ensures budgets { self.new.ledger.budgets ≡ self.old.ledger.budgets }
-        ensures reserved { self.old.ledger.reserved ≤ self.new.ledger.reserved }
+        ensures places { (c : Charge) → horizon_of window moment < c.end → Contains self.old.ledger.places c → Contains self.new.ledger.places c }
     {
         self.window = window;
         self.ledger.advance(window.horizon(moment));
@@ -69,7 +74,9 @@ impl Limits {
 
     /// Charges what an accepted request made past to its purse, and sets the budget that it tells.
     pub fn accept(&mut self, moment: Moment, caller: &Caller, request: &Request, past: Past)
-        requires reserved { 3 ≤ self.old.ledger.reserved }
+        requires costs { ArePositive (costs_of past) }
+        requires places { (p : Purse) → purse_of caller.now request.now ≡ Some p → self.old.ledger.horizon < moment
+            → HasPlaces p moment (costs_of past) self.old.ledger.places }
         requires budget { HasBudget request.now self.old.ledger.budgets }
         requires room { (p : Purse) → purse_of caller.now request.now ≡ Some p → HasRoom p (costs_of past) self.old.ledger }
         ensures window { self.new.window ≡ self.old.window }
@@ -88,9 +95,32 @@ impl Limits {
     }
 }
 
+// Makes places for the charges of what was made past at the moment.
+fn reserve(ledger: &mut Ledger, purse: &Purse, moment: Moment, past: Past) -> Result<(), NoMemory>
+    ensures places { OnOk result (HasPlaces purse.now moment (costs_of past) ledger.new.places) }
+    ensures horizon { ledger.new.horizon ≡ ledger.old.horizon }
+    ensures charges { ledger.new.charges ≡ ledger.old.charges }
+    ensures budgets { (p : Purse) → books.budget_of p ledger.new.budgets ≡ books.budget_of p ledger.old.budgets }
+{
+    match past {
+        Past::Nothing => Ok(()),
+        Past::One(cost) => ledger.reserve(purse, moment, cost),
+        Past::Object {
+            data,
+            attributes,
+            acl,
+        } => {
+            ledger.reserve(purse, moment, data)?;
+            ledger.reserve(purse, moment, attributes)?;
+            ledger.reserve(purse, moment, acl)
+        }
+    }
+}
+
 // Charges what was made past at the moment to the purse.
 fn charge(ledger: &mut Ledger, purse: &Purse, moment: Moment, past: Past)
-    requires reserved { 3 ≤ ledger.old.reserved }
+    requires costs { ArePositive (costs_of past) }
+    requires places { ledger.old.horizon < moment → HasPlaces purse.now moment (costs_of past) ledger.old.places }
     requires room { HasRoom purse.now (costs_of past) ledger.old }
     ensures horizon { ledger.new.horizon ≡ ledger.old.horizon }
     ensures budgets { ledger.new.budgets ≡ ledger.old.budgets }

@@ -1,3 +1,3 @@
-pub mod Sheets
-pub mod Rows
+pub mod Counting
+pub mod Accounting
 pub mod Balancing

@@ -6,12 +6,12 @@ use Rattle.s4_types.specs.declared.object.Purse.{Purse}
 use Rattle.s4_types.specs.Names.{same_purse, purse_cmp}
 use Rattle.s4_ledger.specs.declared.charge.Charge.{Charge}
 
--- the horizon, the charges that count, the budgets that were set, and for how many charges memory is reserved
+-- the horizon, the charges that count, those that there is a place for, and the budgets of the purses that have an account
 pub record Books : Type 0 where
   pub horizon : ℕ
   pub charges : List Charge
+  pub places : List Charge
   pub budgets : List (Purse × ℕ)
-  pub reserved : ℕ
 
 -- what a charge counts for in the purse's spending
 abbrev pub share : Purse → Charge → ℕ
@@ -33,6 +33,6 @@ lasting horizon charges = filter (lasts_above horizon) charges
 abbrev pub budget_of : Purse → List (Purse × ℕ) → ℕ
 budget_of purse budgets = unwrap_or (lookup (is_at (purse_cmp purse)) budgets) 65536
 
--- whether there is room for the purse's budget
+-- whether the purse has an account, which its budget is kept in
 abbrev pub has_budget : Purse → List (Purse × ℕ) → Bool
 has_budget purse budgets = is_some (lookup (is_at (purse_cmp purse)) budgets)

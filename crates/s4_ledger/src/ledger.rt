@@ -4,18 +4,15 @@ ghost use Rattle.std.specs.Prelude.{◌≡◌, ◌+◌, ◌<◌, ◌≤◌, ◌�
 ghost use Rattle.std.specs.List.Sorted.{IsPermutation};
 ghost use Rattle.s4_types.specs.declared.object.Purse.{Purse};
 ghost use Rattle.s4_types.specs.Names.{same_purse};
+ghost use Rattle.s4_ledger.specs.declared.charge.Charge.{Charge};
 ghost use Rattle.s4_ledger.specs.Books.{spending, lasting, budget_of, has_budget};
 
 use crate::accounts::Accounts;
 use crate::charge::Charge;
-use crate::queue::Queue;
+use crate::charges::Charges;
 use s4_types::{Moment, NoMemory, Purse};
 use std::alloc::Global;
-use std::collections::BTreeMap;
 use std::marker::Model;
-
-/// What a purse may spend until `set_budget` tells another budget, in bytes.
-pub const DEFAULT_BUDGET: u32 = 65536;
 
 /// The charges of each purse that the horizon hasn't reached, and the budgets.
 ///
@@ -25,21 +22,22 @@ pub const DEFAULT_BUDGET: u32 = 65536;
 #[derive(Drop)]
 pub struct Ledger {
     horizon: Moment,
-    queue: Queue,
+    charges: Charges,
     accounts: Accounts,
-    budgets: BTreeMap<Purse, u32>,
 }
 
 impl Model for Ledger {
-    ghost use Rattle.std.specs.Prelude.{min};
+    ghost use Rattle.std.specs.Map.{keys_of};
+    ghost use Rattle.s4_ledger.specs.Accounts.{budgets_of};
     ghost use Rattle.s4_ledger.specs.Books.{Books};
+    ghost use Rattle.s4_ledger.specs.Counts.{charges_of};
     ghost use Rattle.s4_ledger.specs.Balance.{IsBalanced};
 
     ghost Value = { Books };
 
-    ghost view = { λ l. record { horizon = l.horizon; charges = l.queue.charges; budgets = l.budgets.entries; reserved = min l.queue.room l.accounts.room } };
+    ghost view = { λ l. record { horizon = l.horizon; charges = charges_of l.charges; places = keys_of l.charges; budgets = budgets_of l.accounts } };
 
-    ghost invariant = { λ l. IsBalanced l.queue.charges l.accounts.accounts l.budgets.entries };
+    ghost invariant = { λ l. IsBalanced l.charges l.accounts };
 }
 
 impl Ledger {
@@ -52,9 +50,8 @@ impl Ledger {
     {
         Ledger {
             horizon: Moment::new(0),
-            queue: Queue::new(alloc),
+            charges: Charges::new(alloc),
             accounts: Accounts::new(alloc),
-            budgets: BTreeMap::new(alloc),
         }
     }
 
@@ -65,24 +62,22 @@ impl Ledger {
         self.horizon
     }
 
-    /// For how many charges memory is reserved.
-    pub fn reserved(&self) -> usize
-        ensures { result ≡ self.now.reserved }
-    {
-        self.queue.room().min(self.accounts.room())
-    }
-
-    /// Reserves memory for so many charges. Where that is refused, nothing changes, save that more
-    /// may be reserved than before.
-    pub fn reserve(&mut self, count: usize) -> Result<(), NoMemory>
-        ensures ok { OnOk result (count ≤ self.new.reserved) }
-        ensures reserved { self.old.reserved ≤ self.new.reserved }
+    /// Makes a place for charges of this purse, end and cost. Where memory is refused, nothing changes
+    /// that counts.
+    pub fn reserve(&mut self, purse: &Purse, end: Moment, cost: u32) -> Result<(), NoMemory>
+        ensures ok { OnOk result (Contains self.new.places (record { purse = purse.now; end = end; cost = cost })) }
+        ensures places { (c : Charge) → Contains self.old.places c → Contains self.new.places c }
         ensures horizon { self.new.horizon ≡ self.old.horizon }
         ensures charges { self.new.charges ≡ self.old.charges }
-        ensures budgets { self.new.budgets ≡ self.old.budgets }
+        ensures budgets { (p : Purse) → budget_of p self.new.budgets ≡ budget_of p self.old.budgets }
+        ensures accounts { (p : Purse) → has_budget p self.old.budgets ≡ true → has_budget p self.new.budgets ≡ true }
     {
-        self.queue.reserve(count)?;
-        self.accounts.reserve(count)
+        self.accounts.open(purse)?;
+        self.charges.reserve(&Charge {
+            purse: *purse,
+            end,
+            cost,
+        })
     }
 
     /// The charges whose end is at most the horizon no longer count. Takes no memory.
@@ -91,10 +86,10 @@ impl Ledger {
         ensures charges { self.new.charges ≡ lasting horizon self.old.charges }
         ensures horizon { self.new.horizon ≡ horizon }
         ensures budgets { self.new.budgets ≡ self.old.budgets }
-        ensures reserved { self.old.reserved ≤ self.new.reserved }
+        ensures places { (c : Charge) → horizon < c.end → Contains self.old.places c → Contains self.new.places c }
     {
-        while let Some(charge) = self.queue.take_ended(horizon) {
-            self.accounts.subtract(&charge.purse, charge.cost);
+        while let Some((charge, count)) = self.charges.take_ended(horizon) {
+            self.accounts.subtract(&charge.purse, count * charge.cost);
         }
         self.horizon = horizon;
     }
@@ -103,7 +98,7 @@ impl Ledger {
     pub fn spent(&self, purse: &Purse) -> u32
         ensures { result ≡ spending purse.now self.now.charges }
     {
-        self.accounts.spent(purse)
+        self.accounts.account(purse).spent
     }
 
     /// What the purse would spend once the horizon was advanced to there, in bytes. Nothing changes.
@@ -111,14 +106,14 @@ impl Ledger {
         requires { self.now.horizon ≤ horizon }
         ensures { result ≡ spending purse.now (lasting horizon self.now.charges) }
     {
-        self.accounts.spent(purse) - self.queue.ended(purse, horizon)
+        self.spent(purse) - self.charges.ended(purse, horizon)
     }
 
     /// What the purse may spend, in bytes.
     pub fn budget(&self, purse: &Purse) -> u32
         ensures { result ≡ budget_of purse.now self.now.budgets }
     {
-        self.budgets.get(purse).copied().unwrap_or(DEFAULT_BUDGET)
+        self.accounts.account(purse).budget
     }
 
     /// Whether the purse's budget has room for a charge.
@@ -144,30 +139,31 @@ impl Ledger {
         ensures { IsTrue result
             ↔ Contains self.now.charges (record { purse = purse.now; end = end; cost = cost }) }
     {
-        self.queue.holds(&Charge {
+        self.charges.holds(&Charge {
             purse: *purse,
             end,
             cost,
         })
     }
 
-    /// Adds a charge. One whose end is at most the horizon doesn't count, and changes nothing. Takes
-    /// no memory.
+    /// Adds a charge in the place that was made for it. One whose end is at most the horizon doesn't
+    /// count, needs no place and changes nothing. Takes no memory.
     pub fn charge(&mut self, purse: &Purse, end: Moment, cost: u32)
-        requires reserved { 0 < self.old.reserved }
+        requires costs { 0 < cost }
+        requires place { self.old.horizon < end → Contains self.old.places (record { purse = purse.now; end = end; cost = cost }) }
         requires room { spending purse.now self.old.charges + cost ≤ budget_of purse.now self.old.budgets }
         ensures counts { self.old.horizon < end
             → IsPermutation (record { purse = purse.now; end = end; cost = cost } ∷ self.old.charges) self.new.charges }
         ensures idle { end ≤ self.old.horizon → self.new.charges ≡ self.old.charges }
         ensures horizon { self.new.horizon ≡ self.old.horizon }
         ensures budgets { self.new.budgets ≡ self.old.budgets }
-        ensures reserved { self.old.reserved ≤ self.new.reserved + 1 }
+        ensures places { self.new.places ≡ self.old.places }
     {
         if self.has_reached(end) {
             return;
         }
         self.accounts.add(purse, cost);
-        self.queue.put(Charge {
+        self.charges.put(&Charge {
             purse: *purse,
             end,
             cost,
@@ -175,7 +171,7 @@ impl Ledger {
     }
 
     /// Takes out one charge of this purse, end and cost. Where the end is at most the horizon none
-    /// such counts any more, and nothing changes. Takes no memory.
+    /// such counts any more, and nothing changes. The place stays. Takes no memory.
     pub fn forgive(&mut self, purse: &Purse, end: Moment, cost: u32)
         requires { self.old.horizon < end
             → Contains self.old.charges (record { purse = purse.now; end = end; cost = cost }) }
@@ -184,12 +180,12 @@ impl Ledger {
         ensures idle { end ≤ self.old.horizon → self.new.charges ≡ self.old.charges }
         ensures horizon { self.new.horizon ≡ self.old.horizon }
         ensures budgets { self.new.budgets ≡ self.old.budgets }
-        ensures reserved { self.new.reserved ≡ self.old.reserved }
+        ensures places { self.new.places ≡ self.old.places }
     {
         if self.has_reached(end) {
             return;
         }
-        self.queue.take_out(&Charge {
+        self.charges.take_out(&Charge {
             purse: *purse,
             end,
             cost,
@@ -197,20 +193,20 @@ impl Ledger {
         self.accounts.subtract(purse, cost);
     }
 
-    /// Makes room for the purse's budget: it stays as it is, and setting it takes no memory then.
+    /// Opens an account for the purse, if it has none: its budget stays as it is, and setting it takes
+    /// no memory then.
     pub fn reserve_budget(&mut self, purse: &Purse) -> Result<(), NoMemory>
         ensures ok { OnOk result (has_budget purse.now self.new.budgets ≡ true) }
         ensures budgets { (p : Purse) → budget_of p self.new.budgets ≡ budget_of p self.old.budgets }
         ensures horizon { self.new.horizon ≡ self.old.horizon }
         ensures charges { self.new.charges ≡ self.old.charges }
-        ensures reserved { self.new.reserved ≡ self.old.reserved }
+        ensures places { self.new.places ≡ self.old.places }
     {
-        let budget = self.budget(purse);
-        self.set_budget(purse, budget)
+        self.accounts.open(purse)
     }
 
     /// The purse may spend this from now on, in bytes. It may be less than it spends. Where memory is
-    /// refused, nothing changes; where there is room for the purse's budget, none is needed.
+    /// refused, nothing changes; where the purse has an account, none is needed.
     pub fn set_budget(&mut self, purse: &Purse, budget: u32) -> Result<(), NoMemory>
         ensures room { has_budget purse.now self.old.budgets ≡ true → IsOk result }
         ensures set { OnOk result (has_budget purse.now self.new.budgets ≡ true) }
@@ -219,10 +215,9 @@ impl Ledger {
         ensures err { OnErr result (self.new.budgets ≡ self.old.budgets) }
         ensures horizon { self.new.horizon ≡ self.old.horizon }
         ensures charges { self.new.charges ≡ self.old.charges }
-        ensures reserved { self.new.reserved ≡ self.old.reserved }
+        ensures places { self.new.places ≡ self.old.places }
     {
-        self.budgets.insert(*purse, budget)?;
-        Ok(())
+        self.accounts.set_budget(purse, budget)
     }
 
     // Whether charges with this end no longer count.

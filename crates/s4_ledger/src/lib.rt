@@ -3,11 +3,12 @@
 
 mod accounts;
 mod charge;
+mod charges;
 mod ledger;
-mod queue;
 
+pub use accounts::DEFAULT_BUDGET;
 pub use charge::Charge;
-pub use ledger::{DEFAULT_BUDGET, Ledger};
+pub use ledger::Ledger;
 
 #[cfg(test)]
 mod tests;

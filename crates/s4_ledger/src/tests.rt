@@ -12,10 +12,18 @@ fn purse(creator: u32, number: u8) -> Result<Purse, Fail> {
 
 // The calls that require something, each behind the test that a caller has for it.
 
-fn charge(rt: &impl Abort, ledger: &mut Ledger, purse: &Purse, end: u64, cost: u32) {
-    assert!(rt; ledger.reserved() > 0);
+fn charge(
+    rt: &impl Abort,
+    ledger: &mut Ledger,
+    purse: &Purse,
+    end: u64,
+    cost: u32,
+) -> Result<(), Fail> {
+    assert!(rt; cost > 0);
+    ledger.reserve(purse, Moment::new(end), cost)?;
     assert!(rt; ledger.room(purse, cost));
     ledger.charge(purse, Moment::new(end), cost);
+    Ok(())
 }
 
 fn forgive(rt: &impl Abort, ledger: &mut Ledger, purse: &Purse, end: u64, cost: u32) {
@@ -44,12 +52,10 @@ fn charges_count_until_the_horizon_reaches_their_end(rt: HostRuntime) -> Result<
     let mut ledger = Ledger::new(rt.alloc());
     let home = purse(7, 0)?;
     let other = purse(3, 1)?;
-    ledger.reserve(4)?;
-    assert!(rt; ledger.reserved() >= 4);
-    charge(&rt, &mut ledger, &home, 10, 164);
-    charge(&rt, &mut ledger, &other, 20, 80);
-    charge(&rt, &mut ledger, &home, 30, 65);
-    charge(&rt, &mut ledger, &home, 20, 64);
+    charge(&rt, &mut ledger, &home, 10, 164)?;
+    charge(&rt, &mut ledger, &other, 20, 80)?;
+    charge(&rt, &mut ledger, &home, 30, 65)?;
+    charge(&rt, &mut ledger, &home, 20, 64)?;
     assert_eq!(rt; ledger.spent(&home), 293);
     assert_eq!(rt; ledger.spent(&other), 80);
     assert_eq!(rt; spent_at(&rt, &ledger, &home, 9), 293);
@@ -69,10 +75,9 @@ fn forgiven_charges_count_no_more(rt: HostRuntime) -> Result<(), Fail> {
     let mut ledger = Ledger::new(rt.alloc());
     let home = purse(7, 0)?;
     let other = purse(7, 1)?;
-    ledger.reserve(4)?;
-    charge(&rt, &mut ledger, &other, 5, 64);
-    charge(&rt, &mut ledger, &home, 5, 64);
-    charge(&rt, &mut ledger, &home, 5, 64);
+    charge(&rt, &mut ledger, &other, 5, 64)?;
+    charge(&rt, &mut ledger, &home, 5, 64)?;
+    charge(&rt, &mut ledger, &home, 5, 64)?;
     assert!(rt; ledger.has_charge(&home, Moment::new(5), 64));
     assert!(rt; !ledger.has_charge(&home, Moment::new(5), 65));
     assert!(rt; !ledger.has_charge(&home, Moment::new(6), 64));
@@ -82,7 +87,7 @@ fn forgiven_charges_count_no_more(rt: HostRuntime) -> Result<(), Fail> {
     forgive(&rt, &mut ledger, &home, 5, 64);
     assert_eq!(rt; ledger.spent(&home), 0);
     assert!(rt; !ledger.has_charge(&home, Moment::new(5), 64));
-    charge(&rt, &mut ledger, &home, 6, 128);
+    charge(&rt, &mut ledger, &home, 6, 128)?;
     assert_eq!(rt; spent_at(&rt, &ledger, &home, 5), 128);
     advance(&rt, &mut ledger, 5);
     assert_eq!(rt; ledger.spent(&home), 128);
@@ -94,13 +99,12 @@ fn forgiven_charges_count_no_more(rt: HostRuntime) -> Result<(), Fail> {
 fn a_charge_that_has_ended_changes_nothing(rt: HostRuntime) -> Result<(), Fail> {
     let mut ledger = Ledger::new(rt.alloc());
     let home = purse(7, 0)?;
-    ledger.reserve(1)?;
     advance(&rt, &mut ledger, 8);
-    charge(&rt, &mut ledger, &home, 8, 64);
+    charge(&rt, &mut ledger, &home, 8, 64)?;
     assert_eq!(rt; ledger.spent(&home), 0);
     forgive(&rt, &mut ledger, &home, 8, 64);
     assert_eq!(rt; ledger.spent(&home), 0);
-    charge(&rt, &mut ledger, &home, 9, 64);
+    charge(&rt, &mut ledger, &home, 9, 64)?;
     assert_eq!(rt; ledger.spent(&home), 64);
     Ok(())
 }
@@ -118,8 +122,7 @@ fn a_budget_may_be_met_and_no_more(rt: HostRuntime) -> Result<(), Fail> {
     assert!(rt; ledger.room(&home, 129));
     assert!(rt; !ledger.room(&home, 130));
     assert!(rt; !ledger.room(&home, u32::MAX));
-    ledger.reserve(1)?;
-    charge(&rt, &mut ledger, &home, 4, 65);
+    charge(&rt, &mut ledger, &home, 4, 65)?;
     assert!(rt; ledger.room(&home, 64));
     assert!(rt; !ledger.room(&home, 65));
     assert!(rt; !room_at(&rt, &ledger, &home, 3, 65));
@@ -146,5 +149,24 @@ fn a_budget_that_has_room_stays_as_it_was(rt: HostRuntime) -> Result<(), Fail> {
     ledger.set_budget(&other, u32::MAX)?;
     assert_eq!(rt; ledger.budget(&home), 200);
     assert_eq!(rt; ledger.budget(&other), 4294967295);
+    Ok(())
+}
+
+#[test]
+fn a_place_is_no_charge(rt: HostRuntime) -> Result<(), Fail> {
+    let mut ledger = Ledger::new(rt.alloc());
+    let home = purse(7, 0)?;
+    ledger.reserve(&home, Moment::new(5), 64)?;
+    assert!(rt; !ledger.has_charge(&home, Moment::new(5), 64));
+    assert_eq!(rt; ledger.spent(&home), 0);
+    assert_eq!(rt; ledger.budget(&home), 65536);
+    charge(&rt, &mut ledger, &home, 6, 65)?;
+    ledger.reserve(&home, Moment::new(6), 65)?;
+    assert_eq!(rt; ledger.spent(&home), 65);
+    assert_eq!(rt; spent_at(&rt, &ledger, &home, 5), 65);
+    advance(&rt, &mut ledger, 5);
+    assert!(rt; ledger.has_charge(&home, Moment::new(6), 65));
+    advance(&rt, &mut ledger, 6);
+    assert_eq!(rt; ledger.spent(&home), 0);
     Ok(())
 }

@@ -1,12 +1,42 @@
-use Rattle.std.proofs.Common.{◌≡◌, sym, subst}
-use Rattle.std.specs.List.{insert}
-use Rattle.s4_ledger.specs.Accounts.{IsInOrder, IsGapFor}
-use Rattle.s4_ledger.proofs.Sheets.{order_insert}
+use Rattle.std.proofs.Common.{◌≡◌, ◌+◌, true, cond, Some, unwrap_or, List, refl, sym, ◌∙◌, ap, subst, arith}
+use Rattle.std.specs.Prelude.{is_some}
+use Rattle.std.specs.Map.{lookup}
+use Rattle.std.specs.BTreeMap.{is_at}
+use Rattle.std.specs.Option.{option_copied_mut}
+use Rattle.s4_types.specs.declared.object.Purse.{Purse}
+use Rattle.s4_types.specs.Names.{same_purse, purse_cmp}
+use Rattle.s4_ledger.specs.declared.accounts.Account.{Account}
+use Rattle.s4_ledger.specs.Accounts.{spent_in, budgets_of}
+use Rattle.s4_ledger.specs.Books.{has_budget}
+use Rattle.s4_ledger.proofs.Accounting.{fresh, has-account, budgets-set_value, spent-more}
+use Rattle.s4_ledger.proofs.Counting.{some_lent}
 use Rattle.s4_ledger.proofs.accounts.Accounts.add.Goals as goal
 
--- the new account is put into the gap for its purse
-pub invariant_of-self-in-Err : goal.invariant_of-self-in-Err
-invariant_of-self-in-Err c =
-    let gap : IsGapFor c.self.inside.accounts.items c.args.purse.now c.in-Err.at = subst (λ s. IsGapFor s.accounts c.args.purse.now c.in-Err.at) (sym c.self.view_is) c.in-Err.ensures.absent in
-    let items : c.insert-inserted.new.self.items ≡ insert c.self.inside.accounts.items c.in-Err.at (record { purse = c.args.purse.now; spent = c.args.cost }) = rw c.unwrap.ensures at c.insert-inserted.ensures.items in
-    subst IsInOrder (sym items) (order_insert c.self.inside.accounts.items c.in-Err.at (record { purse = c.args.purse.now; spent = c.args.cost }) c.self.invariant gap)
+pub unwrap-account-requires : goal.unwrap-account-requires
+unwrap-account-requires c =
+    some_lent c.get_mut.result (ap is_some c.get_mut.ensures.value ∙ sym (has-account c.args.purse.now c.self.inside.accounts.entries)
+    ∙ subst (λ es. has_budget c.args.purse.now (budgets_of es) ≡ true) (sym c.self.view_is) c.requires.open)
+
+pub overflow_add-account : goal.overflow_add-account
+overflow_add-account c =
+    let found : lookup (is_at (purse_cmp c.args.purse.now)) c.self.inside.accounts.entries ≡ Some c.unwrap-account.result.now = sym c.get_mut.ensures.value ∙ ap option_copied_mut c.unwrap-account.ensures in
+    let spent : spent_in c.args.purse.now c.args.self.now ≡ c.unwrap-account.result.now.spent = ap (spent_in c.args.purse.now) (sym c.self.view_is) ∙ ap (λ o. (unwrap_or o fresh).spent) found in
+    omega (arith, spent, c.requires.fits)
+
+pub returns-clause-spent : goal.returns-clause-spent
+returns-clause-spent c p =
+    let accounts : List (Purse × Account) = c.self.inside.accounts.entries in
+    let old : Account = c.unwrap-account.result.now in
+    let new : Account = record { spent = old.spent + c.args.cost; budget = old.budget } in
+    let found : lookup (is_at (purse_cmp c.args.purse.now)) accounts ≡ Some old = sym c.get_mut.ensures.value ∙ ap option_copied_mut c.unwrap-account.ensures in
+    spent-more accounts (c.get_mut.follows.lender new).entries c.args.purse.now new ((c.get_mut.follows.holds new).3 (ap is_some found)).0 c.args.cost
+    (ap (λ o. (unwrap_or o fresh).spent + c.args.cost) (sym found)) p
+    ∙ ap (λ es. spent_in p es + cond (same_purse c.args.purse.now p) c.args.cost 0) c.self.view_is
+
+pub returns-clause-budgets : goal.returns-clause-budgets
+returns-clause-budgets c =
+    let accounts : List (Purse × Account) = c.self.inside.accounts.entries in
+    let old : Account = c.unwrap-account.result.now in
+    let new : Account = record { spent = old.spent + c.args.cost; budget = old.budget } in
+    let found : lookup (is_at (purse_cmp c.args.purse.now)) accounts ≡ Some old = sym c.get_mut.ensures.value ∙ ap option_copied_mut c.unwrap-account.ensures in
+    ap budgets_of (c.get_mut.follows.holds new).0 ∙ budgets-set_value (is_at (purse_cmp c.args.purse.now)) accounts old new found refl ∙ ap budgets_of c.self.view_is

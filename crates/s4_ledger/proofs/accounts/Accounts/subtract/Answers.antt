@@ -1,30 +1,43 @@
-use Rattle.std.proofs.Common.{◌≡◌, ℕ, ◌≤◌, sym, subst, ◌∙◌, ap, arith, List, get_or}
-use Rattle.s4_types.specs.Names.{same_purse}
+use Rattle.std.proofs.Common.{◌≡◌, ◌-◌, ◌≤◌, true, Some, unwrap_or, List, refl, sym, ◌∙◌, ap, subst, arith}
+use Rattle.std.specs.Prelude.{is_some}
+use Rattle.std.specs.Map.{lookup}
+use Rattle.std.specs.BTreeMap.{is_at}
+use Rattle.std.specs.Option.{option_copied_mut}
+use Rattle.s4_types.specs.declared.object.Purse.{Purse}
+use Rattle.s4_types.specs.Names.{purse_cmp}
 use Rattle.s4_ledger.specs.declared.accounts.Account.{Account}
-use Rattle.s4_ledger.specs.Accounts.{Sheet, total_of, IsAt}
-use Rattle.s4_ledger.proofs.Sheets.{total_at, total_gap, lowered, untouched}
+use Rattle.s4_ledger.specs.Accounts.{spent_in, budgets_of}
+use Rattle.s4_ledger.specs.Books.{has_budget}
+use Rattle.s4_ledger.proofs.Accounting.{fresh, has-account, budgets-set_value, spent-less}
+use Rattle.s4_ledger.proofs.Counting.{some_lent}
 use Rattle.s4_ledger.proofs.accounts.Accounts.subtract.Goals as goal
 
--- what the purse has spent stands in its account
-pub overflow_sub-index_mut : goal.overflow_sub-index_mut
-overflow_sub-index_mut c =
-    let accounts = c.self.inside.accounts.items in
-    let found : IsAt accounts c.args.purse.now c.in-Ok.at = subst (λ (s : Sheet). IsAt s.accounts c.args.purse.now c.in-Ok.at) (sym c.self.view_is) c.in-Ok.ensures.found in
-    let total : total_of c.args.purse.now accounts ≡ (get_or accounts c.in-Ok.at c.index_mut.result.now).spent = total_at accounts c.self.invariant c.args.purse.now c.in-Ok.at found c.index_mut.result.now in
-    let here : c.index_mut.result.now.spent ≡ (get_or accounts c.in-Ok.at c.index_mut.result.now).spent = ap (λ (a : Account). a.spent) c.index_mut.ensures.value in
-    let enough : c.args.cost ≤ total_of c.args.purse.now accounts = subst (λ (s : Sheet). c.args.cost ≤ total_of c.args.purse.now s.accounts) (sym c.self.view_is) c.requires in
-    omega arith
+pub unwrap-account-requires : goal.unwrap-account-requires
+unwrap-account-requires c =
+    some_lent c.get_mut.result (ap is_some c.get_mut.ensures.value ∙ sym (has-account c.args.purse.now c.self.inside.accounts.entries)
+    ∙ subst (λ es. has_budget c.args.purse.now (budgets_of es) ≡ true) (sym c.self.view_is) c.requires.open)
 
-pub returns-in-Ok-clause-totals : goal.returns-in-Ok-clause-totals
-returns-in-Ok-clause-totals c p =
-    let accounts = c.self.inside.accounts.items in
-    let found : IsAt accounts c.args.purse.now c.in-Ok.at = subst (λ (s : Sheet). IsAt s.accounts c.args.purse.now c.in-Ok.at) (sym c.self.view_is) c.in-Ok.ensures.found in
-    let total : total_of c.args.purse.now accounts ≡ (get_or accounts c.in-Ok.at c.index_mut.result.now).spent = total_at accounts c.self.invariant c.args.purse.now c.in-Ok.at found c.index_mut.result.now in
-    let enough : c.args.cost ≤ total_of c.args.purse.now accounts = subst (λ (s : Sheet). c.args.cost ≤ total_of c.args.purse.now s.accounts) (sym c.self.view_is) c.requires in
-    ap (λ (s : Sheet). total_of p s.accounts) (sym c.self.view_is)
-    ∙ rw (← c.index_mut.ensures.value) at (lowered accounts c.args.purse.now c.in-Ok.at c.args.cost found c.index_mut.result.now (omega arith) p)
+pub overflow_sub-account : goal.overflow_sub-account
+overflow_sub-account c =
+    let found : lookup (is_at (purse_cmp c.args.purse.now)) c.self.inside.accounts.entries ≡ Some c.unwrap-account.result.now = sym c.get_mut.ensures.value ∙ ap option_copied_mut c.unwrap-account.ensures in
+    let spent : spent_in c.args.purse.now c.args.self.now ≡ c.unwrap-account.result.now.spent = ap (spent_in c.args.purse.now) (sym c.self.view_is) ∙ ap (λ o. (unwrap_or o fresh).spent) found in
+    omega (arith, spent, c.requires.spent)
 
-pub returns-in_default-clause-totals : goal.returns-in_default-clause-totals
-returns-in_default-clause-totals c p =
-    let total : total_of c.args.purse.now c.args.self.now.accounts ≡ Rattle.std.proofs.Common.zero = total_gap c.args.self.now.accounts c.args.purse.now _ c.in_default.ensures.absent in
-    untouched (total_of p c.args.self.now.accounts) c.args.cost (same_purse c.args.purse.now p) (omega (arith, c.requires))
+pub returns-clause-spent : goal.returns-clause-spent
+returns-clause-spent c p =
+    let accounts : List (Purse × Account) = c.self.inside.accounts.entries in
+    let old : Account = c.unwrap-account.result.now in
+    let new : Account = record { spent = old.spent - c.args.cost; budget = old.budget } in
+    let found : lookup (is_at (purse_cmp c.args.purse.now)) accounts ≡ Some old = sym c.get_mut.ensures.value ∙ ap option_copied_mut c.unwrap-account.ensures in
+    let had : spent_in c.args.purse.now accounts ≡ old.spent = ap (λ o. (unwrap_or o fresh).spent) found in
+    let enough : c.args.cost ≤ spent_in c.args.purse.now accounts = subst (λ es. c.args.cost ≤ spent_in c.args.purse.now es) (sym c.self.view_is) c.requires.spent in
+    ap (spent_in p) (sym c.self.view_is)
+    ∙ spent-less accounts (c.get_mut.follows.lender new).entries c.args.purse.now new ((c.get_mut.follows.holds new).3 (ap is_some found)).0 c.args.cost (omega (arith, had, enough)) p
+
+pub returns-clause-budgets : goal.returns-clause-budgets
+returns-clause-budgets c =
+    let accounts : List (Purse × Account) = c.self.inside.accounts.entries in
+    let old : Account = c.unwrap-account.result.now in
+    let new : Account = record { spent = old.spent - c.args.cost; budget = old.budget } in
+    let found : lookup (is_at (purse_cmp c.args.purse.now)) accounts ≡ Some old = sym c.get_mut.ensures.value ∙ ap option_copied_mut c.unwrap-account.ensures in
+    ap budgets_of (c.get_mut.follows.holds new).0 ∙ budgets-set_value (is_at (purse_cmp c.args.purse.now)) accounts old new found refl ∙ ap budgets_of c.self.view_is
