@@ -7,6 +7,3 @@ mod look;
 
 pub use change::set;
 pub use look::{by_index, entry_of};
-
-#[cfg(test)]
-mod tests;

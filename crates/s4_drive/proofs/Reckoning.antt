@@ -1,11 +1,11 @@
 -- What the ledger tells is what the definitions tell of spending and budgets.
-use Rattle.std.proofs.Common.{◌≡◌, ℕ, zero, ◌+◌, ◌<◌, ◌≤◌, Bool, true, false, cond, Option, Some, None, List, refl, sym, ◌∙◌, ap, arith}
+use Rattle.std.proofs.Common.{◌≡◌, ℕ, zero, ◌+◌, ◌<◌, ◌≤◌, Bool, true, false, not, cond, Option, Some, None, List, refl, sym, ◌∙◌, ap, arith}
 use Rattle.std.specs.Prelude.{Ok, Err, nat_lt, ◌&&◌, sum_by, if◌then◌else◌}
 use Rattle.s4_types.specs.declared.object.Purse.{Purse}
 use Rattle.s4_types.specs.declared.object.ObjectId.{ObjectId}
 use Rattle.s4_types.specs.declared.record.Record.{Record}
 use Rattle.s4_types.specs.declared.request.Request.{Request}
-use Rattle.s4_types.specs.declared.request.Request.TheVariants.{Create, Delete, Read, Write, Append, Truncate, GetAttr, SetAttr, GetAclByUser, GetAclByIndex, SetAcl, PCreate, PDelete, PList, PMount, SetWindow, SetBudget, ReadAudit}
+use Rattle.s4_types.specs.declared.request.Request.TheVariants.{Create, Delete, Read, Write, Append, Truncate, GetAttr, SetAttr, GetAclByUser, GetAclByIndex, SetAcl, PCreate, PDelete, PList, PMount, Flush, FlushO, SetWindow, SetBudget, ReadAudit}
 use Rattle.s4_types.specs.declared.reply.Refusal.TheVariants.{OverBudget}
 use Rattle.s4_types.specs.Names.{object_in}
 use Rattle.s4_types.specs.Outcome.{refuse_if}
@@ -17,7 +17,7 @@ use Rattle.s4_types.specs.Serials.{drawn}
 use Rattle.s4_types.specs.Spending.{sum_to, past_cost, spent_on_object, spent_on_binding, spent_above, spent_at, unbinding_cost}
 use Rattle.s4_types.specs.Answer.{within}
 use Rattle.s4_types.specs.Versions.{Track, Value, versions, data_track, attribute_track, acl_track}
-use Rattle.s4_types.proofs.Booleans.{by_test}
+use Rattle.s4_types.proofs.Booleans.{by_test, &&-false, &&-true}
 use Rattle.s4_ledger.specs.Books.{spending, lasting}
 use Rattle.s4_state.specs.Weights.{weight_of, track_weight, object_weight, unbinding_weight, binding_weight, purse_weight}
 use Rattle.s4_drive.specs.declared.limits.Limits.{Limits}
@@ -28,12 +28,15 @@ use Rattle.s4_drive.proofs.Tallying.{advanced}
 abbrev counted : ℕ → ℕ → ℕ → ℕ
 counted horizon = above horizon (λ end cost. cost)
 
-value-counted : (horizon : ℕ) (end : Option ℕ) (cost : ℕ) → weight_of (counted horizon) end cost ≡ (if is_remembered horizon end then cost else 0)
-value-counted horizon None cost = refl
-value-counted horizon (Some end) cost = refl
+-- by its end, and whether it is erased
+value-counted : (horizon : ℕ) (end : Option ℕ) (erased : Bool) (cost : ℕ) → (if erased then 0 else weight_of (counted horizon) end cost) ≡ (if is_remembered horizon end && not erased then cost else 0)
+value-counted horizon None true cost = refl
+value-counted horizon None false cost = refl
+value-counted horizon (Some end) true cost = sym (ap (λ b. cond b cost 0) (&&-false (nat_lt horizon end)))
+value-counted horizon (Some end) false cost = sym (ap (λ b. cond b cost 0) (&&-true (nat_lt horizon end)))
 
 track-counted : {V : Type 0} (horizon : ℕ) (track : Track V) (values : List (Value V)) → track_weight (counted horizon) track values ≡ past_cost track horizon values
-track-counted horizon track values = ap (λ f. sum_by f values) (λ i v. value-counted horizon v.end (track.cost v.value) i)
+track-counted horizon track values = ap (λ f. sum_by f values) (λ i v. value-counted horizon v.end v.is_erased (track.cost v.value) i)
 
 object-counted : (horizon : ℕ) (h : List Record) (o : ObjectId) → object_weight (counted horizon) h o ≡ spent_on_object horizon h o
 object-counted horizon h o =
@@ -62,6 +65,8 @@ unbinding-counted horizon m (PCreate name o) = either (nat_lt horizon m)
 unbinding-counted horizon m (PDelete purse name) = refl
 unbinding-counted horizon m (PList range after at) = either (nat_lt horizon m)
 unbinding-counted horizon m (PMount purse name at) = either (nat_lt horizon m)
+unbinding-counted horizon m (Flush from to) = either (nat_lt horizon m)
+unbinding-counted horizon m (FlushO o from to) = either (nat_lt horizon m)
 unbinding-counted horizon m (SetWindow ticks) = either (nat_lt horizon m)
 unbinding-counted horizon m (SetBudget purse budget) = either (nat_lt horizon m)
 unbinding-counted horizon m (ReadAudit range skip) = either (nat_lt horizon m)

@@ -2,7 +2,7 @@
 use Rattle.std.proofs.Common.{◌≡◌}
 use Rattle.std.specs.Prelude.{Result, Ok, Err}
 use Rattle.s4_types.specs.declared.reply.Refusal.{Refusal}
-use Rattle.s4_types.specs.declared.reply.Refusal.TheVariants.{Denied, NoObject, Future, TooOld, TooLong, AclFull, NoEntry, NoPartition, Exists, PartsFull, Named, NamesSpent, OverBudget, NoMemory}
+use Rattle.s4_types.specs.declared.reply.Refusal.TheVariants.{Denied, NoObject, Future, TooOld, TooLong, AclFull, NoEntry, NoPartition, Exists, PartsFull, Named, NamesSpent, OverBudget, Flushed, BadRange, NoMemory}
 use Rattle.s4_types.specs.declared.reply.Reply.{Reply}
 use Rattle.s4_drive.specs.Step.{IsOutcome}
 
@@ -21,4 +21,6 @@ exactly (Err PartsFull) wanted e = e
 exactly (Err Named) wanted e = e
 exactly (Err NamesSpent) wanted e = e
 exactly (Err (OverBudget spent charge budget)) wanted e = e
+exactly (Err Flushed) wanted e = e
+exactly (Err BadRange) wanted e = e
 exactly (Err NoMemory) wanted e = _

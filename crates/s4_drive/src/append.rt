@@ -25,7 +25,7 @@ pub fn outcome<S: Store<Version>>(
         return Err(Refusal::TooLong);
     }
     state.judge(caller, object, Right::Write, None)?;
-    if state.data(object, None).len() > limit - more {
+    if state.current_data(object).len() > limit - more {
         return Err(Refusal::TooLong);
     }
     Ok(Reply::Done)

@@ -24,7 +24,8 @@ pub fn get_outcome<S: Store<Version>>(
     ensures { IsOutcome result (attributes_read state.now.history moment caller object.now at.now) }
 {
     let grant = state.judge(caller, object, Right::Read, *at)?;
-    let bytes = copied(alloc, state.attributes(object, *at))?;
+    let attributes = state.attributes(object, *at).ok_or(Refusal::Flushed)?;
+    let bytes = copied(alloc, attributes)?;
     Ok(Reply::Attr { grant, bytes })
 }
 

@@ -21,6 +21,3 @@ mod write;
 
 pub use drive::Drive;
 pub use moments::never_down;
-
-#[cfg(test)]
-mod tests;

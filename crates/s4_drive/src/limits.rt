@@ -11,11 +11,12 @@ ghost use Rattle.s4_types.specs.Play.{last_of};
 ghost use Rattle.s4_types.specs.Spending.{spent_at, budget_of, budget_by};
 ghost use Rattle.s4_ledger.specs.declared.charge.Charge.{Charge};
 ghost use Rattle.s4_ledger.specs.Books as books;
+ghost use Rattle.s4_objects.specs.Flushes.{refunded};
 ghost use Rattle.s4_drive.specs.Stands.{LimitsStand, HasRoom, HasPlaces, HasBudget, ArePositive, above, charge_weight, charged, costs_of};
 
 use crate::past::Past;
 use s4_ledger::Ledger;
-use s4_state::State;
+use s4_state::{Refund, State};
 use s4_store::Store;
 use s4_types::{Caller, Moment, NoMemory, Purse, Record, Refusal, Request, Version};
 use s4_window::Window;
@@ -70,6 +71,19 @@ impl Limits {
     {
         self.window = window;
         self.ledger.advance(window.horizon(moment));
+    }
+
+    /// Gives back what was charged for values that a flush erased. What is expired is spent no longer
+    /// as it is. Takes no memory.
+    pub fn forgive(&mut self, refunds: &[Refund])
+        requires charged { (weight : ℕ → ℕ → ℕ) (p : Purse) → refunded (above self.old.ledger.horizon weight) p refunds.now ≤ sum_by (charge_weight weight p) self.old.ledger.charges }
+        ensures charges { (weight : ℕ → ℕ → ℕ) (p : Purse) → sum_by (charge_weight weight p) self.new.ledger.charges + refunded (above self.old.ledger.horizon weight) p refunds.now
+            ≡ sum_by (charge_weight weight p) self.old.ledger.charges }
+        ensures window { self.new.window ≡ self.old.window }
+        ensures horizon { self.new.ledger.horizon ≡ self.old.ledger.horizon }
+        ensures budgets { self.new.ledger.budgets ≡ self.old.ledger.budgets }
+    {
+        forgive(&mut self.ledger, refunds);
     }
 
     /// Charges what an accepted request made past to its purse, and sets the budget that it tells.
@@ -139,6 +153,19 @@ fn charge(ledger: &mut Ledger, purse: &Purse, moment: Moment, past: Past)
             ledger.charge(purse, moment, attributes);
             ledger.charge(purse, moment, acl);
         }
+    }
+}
+
+// Takes the charges out that the refunds tell of, where they still count.
+fn forgive(ledger: &mut Ledger, refunds: &[Refund])
+    requires charged { (weight : ℕ → ℕ → ℕ) (p : Purse) → refunded (above ledger.old.horizon weight) p refunds.now ≤ sum_by (charge_weight weight p) ledger.old.charges }
+    ensures charges { (weight : ℕ → ℕ → ℕ) (p : Purse) → sum_by (charge_weight weight p) ledger.new.charges + refunded (above ledger.old.horizon weight) p refunds.now
+        ≡ sum_by (charge_weight weight p) ledger.old.charges }
+    ensures horizon { ledger.new.horizon ≡ ledger.old.horizon }
+    ensures budgets { ledger.new.budgets ≡ ledger.old.budgets }
+{
+    for refund in refunds {
+        ledger.forgive(&refund.purse, refund.end, refund.cost);
     }
 }
 

@@ -40,8 +40,8 @@ pub fn outcome<S: Store<Version>>(
     ensures { IsOutcome result (data_read state.now.history moment caller object.now range.offset range.length range.at) }
 {
     let grant = state.judge(caller, object, Right::Read, range.at)?;
-    let data = bytes_in_range(state.data(object, range.at), range.offset, range.length);
-    let bytes = copied(alloc, data)?;
+    let data = state.data(object, range.at).ok_or(Refusal::Flushed)?;
+    let bytes = copied(alloc, bytes_in_range(data, range.offset, range.length))?;
     Ok(Reply::Data { grant, bytes })
 }
 

@@ -133,6 +133,9 @@ fn outcome_by_kind<S: Store<Version>>(
         Request::PMount { purse, name, at } => {
             partitions::mount_outcome(state, moment, caller, purse, name, at)
         }
+        Request::Flush { from, to } | Request::FlushO { from, to, .. } => {
+            administrator::flush_outcome(*from, *to, caller)
+        }
         Request::SetWindow { .. } | Request::SetBudget { .. } => administrator::outcome(caller),
         Request::ReadAudit { range, skip } => {
             audit::outcome(state, horizon, &caller, *range, *skip)

@@ -5,6 +5,3 @@
 mod judge;
 
 pub use judge::{Held, judge_now, judge_past};
-
-#[cfg(test)]
-mod tests;

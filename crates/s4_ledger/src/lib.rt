@@ -9,6 +9,3 @@ mod ledger;
 pub use accounts::DEFAULT_BUDGET;
 pub use charge::Charge;
 pub use ledger::Ledger;
-
-#[cfg(test)]
-mod tests;

@@ -4,6 +4,3 @@
 mod names;
 
 pub use names::{DrawError, Names};
-
-#[cfg(test)]
-mod tests;

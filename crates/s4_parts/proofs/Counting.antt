@@ -10,12 +10,11 @@ use Rattle.s4_types.specs.Bindings.{is_serial}
 use Rattle.s4_types.proofs.Booleans.{by_test}
 use Rattle.s4_store.specs.Chains.{Chains}
 use Rattle.s4_parts.specs.declared.parts.Parts.{Parts}
-use Rattle.s4_parts.specs.declared.shelf.Shelf.{Shelf}
-use Rattle.s4_parts.specs.Table.{shelf_of, chain_on, names_on, serials_on, bindings_in, names_in, is_any, passes, serial_now, HoldsFor, Holds}
+use Rattle.s4_parts.specs.Table.{shelf_of, chain_on, names_on, serials_on, bindings_in, names_in, is_any, passes, serial_now, Holds}
 use Rattle.s4_parts.proofs.Ordered.{tally, count-cons}
 
 -- those that a second test leaves out fail the first
-count-filter : {A : Type 0} (p q : A → Bool) → ((x : A) → q x ≡ false → p x ≡ false) → (xs : List A) → count_by p (filter q xs) ≡ count_by p xs
+pub count-filter : {A : Type 0} (p q : A → Bool) → ((x : A) → q x ≡ false → p x ≡ false) → (xs : List A) → count_by p (filter q xs) ≡ count_by p xs
 count-filter p q fails [] = refl
 count-filter p q fails (x ∷ xs) = by_test (q x)
     (λ e. ap (λ b. count_by p (cond b (x ∷ filter q xs) (filter q xs))) e ∙ count-cons p x (filter q xs) ∙ ap (λ n. tally (p x) + n) (count-filter p q fails xs) ∙ sym (count-cons p x xs))

@@ -5,3 +5,9 @@ pub mod Standing
 pub mod Rebinding
 pub mod Reserving
 pub mod Listing
+pub mod Queueing
+pub mod Totals
+pub mod Awaiting
+pub mod Freeing
+pub mod Draining
+pub mod Telling

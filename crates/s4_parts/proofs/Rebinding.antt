@@ -1,5 +1,5 @@
 -- What a name has was changed, on its chain and on its shelf.
-use Rattle.std.proofs.Common.{◌≡◌, ℕ, ◌+◌, Bool, true, false, cond, Option, Some, None, List, [], ◌∷◌, ◌++◌, refl, sym, ◌∙◌, ap, subst, arith, filter, ◌⊎◌, inl, inr}
+use Rattle.std.proofs.Common.{◌≡◌, ℕ, ◌+◌, Bool, true, cond, Option, Some, None, List, [], ◌∷◌, ◌++◌, refl, sym, ◌∙◌, ap, subst, arith, filter, ◌⊎◌, inl, inr}
 use Rattle.std.specs.Prelude.{◌&&◌, ◌==◌, is_some, count_by, slice_get, if◌then◌else◌}
 use Rattle.std.specs.List.{list_any, remove}
 use Rattle.std.specs.Ordering.{is_eq}
@@ -16,15 +16,15 @@ use Rattle.s4_types.specs.Bindings.{with_name}
 use Rattle.s4_types.proofs.Booleans.{by_test, both}
 use Rattle.s4_types.proofs.SameNames.{purse_is, name_is}
 use Rattle.s4_types.proofs.Snoc.{newest-snoc}
-use Rattle.s4_store.specs.Chains.{Chains, items_of, IsOpen}
+use Rattle.s4_store.specs.Chains.{Chains, items_of}
 use Rattle.s4_store.specs.Laws.{items_elsewhere, StillOpen-insert}
 use Rattle.s4_tracks.specs.Chain.{endless, current_of, with_end, ended, end_at}
 use Rattle.s4_tracks.proofs.Ending.{with_end-snoc}
 use Rattle.s4_parts.specs.declared.parts.Parts.{Parts}
 use Rattle.s4_parts.specs.declared.shelf.Shelf.{Shelf}
-use Rattle.s4_parts.specs.Table.{shelf_of, chain_at, chain_on, names_on, serials_on, items_on, bindings_in, names_in, is_any, object_of, serial_now, passes, binding, HoldsFor, Holds, KeepsOthers, IsForeign}
+use Rattle.s4_parts.specs.Table.{shelf_of, chain_at, chain_on, names_on, serials_on, items_on, bindings_in, names_in, is_any, object_of, serial_now, passes, binding, HoldsFor, Holds, KeepsOthers}
 use Rattle.s4_parts.proofs.Ordered.{tally}
-use Rattle.s4_parts.proofs.Counting.{any-count, passes-one}
+use Rattle.s4_parts.proofs.Counting.{any-count}
 use Rattle.s4_parts.proofs.Shelving.{alike, any-at, count-more, count-less}
 use Rattle.s4_parts.proofs.Standing.{changed-at, names-more, names-same, holds-changed}
 

@@ -1,5 +1,5 @@
 -- A name was given a chain, where it had none, and its shelf has room.
-use Rattle.std.proofs.Common.{◌≡◌, ℕ, ◌<◌, true, cond, Option, Some, None, List, refl, sym, ◌∙◌, ap, filter, vec_len, vec_capacity}
+use Rattle.std.proofs.Common.{◌≡◌, ℕ, ◌<◌, true, cond, Some, List, refl, sym, ◌∙◌, ap, filter, vec_len, vec_capacity}
 use Rattle.std.specs.Prelude.{is_some}
 use Rattle.std.specs.Ordering.{is_eq}
 use Rattle.s4_types.specs.declared.object.Purse.{Purse}
@@ -44,7 +44,7 @@ module _ (chains new : Chains Version) (before mid after : Parts) (s : Holds cha
   pub reserved-own : (p : Purse) (n : List ℕ) (c : ℕ) → chain_at after p n ≡ Some c → IsOpen chains c → chain_at before p n ≡ Some c
   reserved-own p n c got open' = sym (chains-are p n) ∙ own-old at-mid purse name g.fresh g.unopened new g.opened (chain_at after) (grown-chains mid after purse shelf w found replaced chains new name g) p n c got open'
 
-  pub reserved-room : is_some (chain_on (Some w) name) ≡ true → vec_len w.bound < vec_capacity w.bound → HasRoom after purse name
-  reserved-room there room =
+  pub reserved-room : 0 < after.ends.spare → is_some (chain_on (Some w) name) ≡ true → vec_len w.bound < vec_capacity w.bound → HasRoom after purse name
+  reserved-room ends there room =
       let here : shelf_of after purse ≡ Some w = shelf-here mid after purse shelf w found replaced purse (purse_self purse) in
-      record { chain = ap (λ x. is_some (chain_on x name)) here ∙ there; shelf = w; found = here; serials = room }
+      record { chain = ap (λ x. is_some (chain_on x name)) here ∙ there; shelf = w; found = here; serials = room; ends = ends }

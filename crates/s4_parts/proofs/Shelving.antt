@@ -1,5 +1,5 @@
 -- One shelf of a table was replaced.
-use Rattle.std.proofs.Common.{◌≡◌, ℕ, ◌+◌, ◌<◌, Bool, true, false, cond, Option, Some, None, List, [], ◌∷◌, ◌++◌, refl, sym, ◌∙◌, ap, subst, arith, filter, length}
+use Rattle.std.proofs.Common.{◌≡◌, ℕ, ◌+◌, Bool, true, false, cond, Option, Some, None, List, [], ◌∷◌, ◌++◌, refl, sym, ◌∙◌, ap, subst, arith, filter}
 use Rattle.std.specs.Prelude.{◌&&◌, ◌||◌, is_some, count_by, slice_get, if◌then◌else◌}
 use Rattle.std.specs.List.{list_any, remove}
 use Rattle.std.specs.List.Sorted.{IsStrictlySortedBy}
@@ -13,8 +13,8 @@ use Rattle.s4_types.specs.declared.object.Purse.{Purse}
 use Rattle.s4_types.specs.declared.version.Version.{Version}
 use Rattle.s4_types.specs.Names.{same_purse, purse_cmp}
 use Rattle.s4_types.specs.Name.{same_name, name_cmp}
-use Rattle.s4_types.proofs.Booleans.{by_test, both, ||-true}
-use Rattle.s4_types.proofs.SameNames.{purse_is, purse_self, at_purse, name_is, at_name}
+use Rattle.s4_types.proofs.Booleans.{by_test, ||-true}
+use Rattle.s4_types.proofs.SameNames.{purse_is, at_purse, name_is, at_name}
 use Rattle.s4_store.specs.Chains.{Chains}
 use Rattle.s4_parts.specs.declared.parts.Parts.{Parts}
 use Rattle.s4_parts.specs.declared.shelf.Shelf.{Shelf}

@@ -1,11 +1,12 @@
 -- What a change of other chains leaves of a table.
-use Rattle.std.proofs.Common.{◌≡◌, ℕ, Option, Some, None, List, refl, sym, ◌∙◌, ap}
+use Rattle.std.proofs.Common.{◌≡◌, ℕ, Option, Some, None, List, refl, sym, ◌∙◌, ap, subst}
 use Rattle.std.specs.Prelude.{count_by, filter}
 use Rattle.s4_types.specs.declared.object.Purse.{Purse}
 use Rattle.s4_types.specs.declared.version.Version.{Version}
 use Rattle.s4_store.specs.Chains.{Chains, items_of, IsOpen}
 use Rattle.s4_parts.specs.declared.parts.Parts.{Parts}
 use Rattle.s4_parts.specs.Table.{shelf_of, names_on, chain_at, items_on, bindings_in, names_in, is_any, passes, serial_now, Holds}
+use Rattle.s4_parts.specs.Waiting.{HasEnds, ends_of, waiting_in, Waits}
 
 -- the chains of the table's names are open, and hold what they held
 pub record KeepsTable (old new : Chains Version) (parts : Parts) : Type 0 where
@@ -24,6 +25,14 @@ module _ {old new : Chains Version} {parts : Parts} (k : KeepsTable old new part
   -- and the purses have the names that they had
   pub names_still : (p : Purse) → names_in new parts p ≡ names_in old parts p
   names_still p = ap (λ f. filter f (names_on (shelf_of parts p))) (λ i n. is_any (bindings_still p n i))
+
+  -- the queue of ends stands
+  pub waits_still : Waits old parts → Waits new parts
+  waits_still w = record {
+    queued = λ p n. subst (HasEnds (ends_of p n (waiting_in parts))) (sym (bindings_still p n)) (w.queued p n);
+    rising = w.rising;
+    awaited = w.awaited;
+  }
 
   -- the table stands
   pub holds_still : Holds old parts → Holds new parts

@@ -1,5 +1,5 @@
 -- The page of names that a caller may see.
-use Rattle.std.specs.Prelude.{ℕ, Bool, Option, Some, None, List, filter, filter_map, flat_map}
+use Rattle.std.specs.Prelude.{ℕ, Option, Some, None, List, filter, filter_map, flat_map}
 use Rattle.s4_types.specs.declared.object.Purse.{Purse}
 use Rattle.s4_types.specs.declared.object.ObjectId.{ObjectId}
 use Rattle.s4_types.specs.declared.version.Version.{Version}

@@ -1,17 +1,16 @@
 -- The table of partitions, as its callers see it: the names of each purse, and the bindings of each name.
-use Rattle.std.specs.Prelude.{◌≡◌, ◌≢◌, ℕ, Bool, true, false, ◌+◌, ◌<◌, ◌&&◌, ◌||◌, is_some, Option, Some, None, List, [], ◌∷◌, ◌++◌, length, filter, count_by, if◌then◌else◌}
+use Rattle.std.specs.Prelude.{◌≡◌, ◌≢◌, ℕ, Bool, true, false, ◌+◌, ◌<◌, is_some, Option, Some, None, List, [], ◌∷◌, length, filter, count_by}
 use Rattle.std.specs.List.{list_any}
 use Rattle.std.specs.List.Sorted.{IsStrictlySortedBy}
 use Rattle.std.specs.Option.{option_map}
 use Rattle.std.specs.Vec.{vec_len, vec_capacity}
 use Rattle.std.specs.BTreeMap.{get, keys}
-use Rattle.std.specs.FinMap as finmap
 use Rattle.s4_types.specs.declared.object.Purse.{Purse}
 use Rattle.s4_types.specs.declared.object.ObjectId.{ObjectId}
 use Rattle.s4_types.specs.declared.version.Version.{Version}
 use Rattle.s4_types.specs.declared.version.Item.{Item}
 use Rattle.s4_types.specs.declared.version.Item.TheVariants.{Bind}
-use Rattle.s4_types.specs.Names.{same_purse, purse_cmp}
+use Rattle.s4_types.specs.Names.{purse_cmp}
 use Rattle.s4_types.specs.Name.{same_name, name_cmp}
 use Rattle.s4_store.specs.Chains.{Chains, items_of, IsOpen, StillOpen}
 use Rattle.s4_tracks.specs.Chain.{current_of}
@@ -97,12 +96,13 @@ pub record HoldsFor (chains : Chains Version) (chain : Purse → List ℕ → Op
 abbrev pub Holds : Chains Version → Parts → Type 0
 Holds chains parts = HoldsFor chains (chain_at parts) (λ p. names_on (shelf_of parts p)) (λ p. serials_on (shelf_of parts p))
 
--- a name in the purse has a chain, and there is room to know what it is bound to
+-- a name in the purse has a chain, and there is room to know what it is bound to, and for the end of that
 pub record HasRoom (parts : Parts) (p : Purse) (name : List ℕ) : Type 0 where
   pub chain : is_some (chain_at parts p name) ≡ true
   pub shelf : Shelf
   pub found : shelf_of parts p ≡ Some shelf
   pub serials : vec_len shelf.bound < vec_capacity shelf.bound
+  pub ends : 0 < parts.ends.spare
 
 -- no name has the chain
 abbrev pub IsForeign : Parts → ℕ → Type 0
@@ -111,4 +111,9 @@ IsForeign parts c = (p : Purse) (n : List ℕ) → chain_at parts p n ≢ Some c
 -- the chains of others, which were open, are as before
 pub record KeepsOthers (old new : Chains Version) (parts : Parts) : Type 0 where
   pub still : StillOpen old new
+  pub items : (c : ℕ) → IsOpen old c → IsForeign parts c → items_of new c ≡ items_of old c
+
+-- the chains of others, which were open, are open and as before
+pub record KeepsForeign (old new : Chains Version) (parts : Parts) : Type 0 where
+  pub still : (c : ℕ) → IsOpen old c → IsForeign parts c → IsOpen new c
   pub items : (c : ℕ) → IsOpen old c → IsForeign parts c → items_of new c ≡ items_of old c

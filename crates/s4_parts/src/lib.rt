@@ -2,12 +2,11 @@
 //! moment of the past.
 #![tactic(auto)]
 
+mod ends;
 mod page;
 mod parts;
 mod shelf;
 
+pub use ends::Ended;
 pub use page::{Page, Visible};
 pub use parts::Parts;
-
-#[cfg(test)]
-mod tests;

@@ -1,16 +1,19 @@
 //! The table of partitions.
 
-ghost use Rattle.std.specs.Prelude.{◌≡◌, ◌<◌, ◌+◌, ◌==◌, ◌&&◌, ℕ, true, IfSome, slice_get, Some, None, List, [], ◌∷◌, ◌++◌, OnOk, is_some, count_by, if◌then◌else◌};
+ghost use Rattle.std.specs.Prelude.{◌≡◌, ◌<◌, ◌+◌, ◌==◌, ◌&&◌, ℕ, true, IfSome, slice_get, Some, None, List, [], ◌∷◌, ◌++◌, OnOk, is_some, count_by, min, drop, filter, if◌then◌else◌};
 ghost use Rattle.std.specs.List.{list_any};
 ghost use Rattle.s4_types.specs.declared.object.Purse.{Purse};
 ghost use Rattle.s4_types.specs.declared.version.Version.{Version};
 ghost use Rattle.s4_types.specs.Bindings.{is_serial, with_name};
 ghost use Rattle.s4_types.specs.Name.{same_name};
 ghost use Rattle.s4_types.specs.Names.{same_purse};
-ghost use Rattle.s4_store.specs.Chains.{Chains, items_of, IsOpen, StillOpen};
+ghost use Rattle.s4_store.specs.Chains.{Chains, items_of, item_count, IsOpen, StillOpen};
 ghost use Rattle.s4_tracks.specs.Chain.{current_of, version_in, with_end};
-ghost use Rattle.s4_parts.specs.Table.{bindings_in, binding, chain_at, names_in, names_on, object_of, serial_now, serials_on, shelf_of, HasRoom, Holds, KeepsOthers};
+ghost use Rattle.s4_parts.specs.Table.{bindings_in, binding, chain_at, names_in, names_on, object_of, serial_now, serials_on, shelf_of, is_any, HasRoom, Holds, KeepsOthers, KeepsForeign};
+ghost use Rattle.s4_parts.specs.Waiting.{waiting_in, all_by, bound_in, is_gone, Waits, Sweeps};
+ghost use Rattle.s4_parts.specs.Telling.{TellsSame};
 
+use crate::ends::{Ended, Ends};
 use crate::shelf::Shelf;
 use s4_store::Store;
 use s4_tracks::Track;
@@ -24,6 +27,7 @@ use std::collections::BTreeMap;
 pub struct Parts {
     pub(crate) alloc: Global,
     pub(crate) shelves: BTreeMap<Purse, Shelf>,
+    pub(crate) ends: Ends,
 }
 
 impl Parts {
@@ -32,10 +36,13 @@ impl Parts {
         ensures names { (chains : Chains Version) (p : Purse) → names_in chains result p ≡ [] }
         ensures bindings { (chains : Chains Version) (p : Purse) (n : List ℕ) → bindings_in chains result p n ≡ [] }
         ensures holds { (chains : Chains Version) → Holds chains result }
+        ensures waiting { waiting_in result ≡ [] }
+        ensures waits { (chains : Chains Version) → Waits chains result }
     {
         Parts {
             alloc,
             shelves: BTreeMap::new(alloc),
+            ends: Ends::new(alloc),
         }
     }
 
@@ -46,8 +53,11 @@ impl Parts {
         purse: &Purse,
         name: &Name,
     ) -> Result<(), NoMemory>
-        requires { Holds (S.chains store.old) self.old }
+        requires holds { Holds (S.chains store.old) self.old }
+        requires waits { Waits (S.chains store.old) self.old }
         ensures holds { Holds (S.chains store.new) self.new }
+        ensures waits { Waits (S.chains store.new) self.new }
+        ensures waiting { waiting_in self.new ≡ waiting_in self.old }
         ensures names { (p : Purse) → names_in (S.chains store.new) self.new p ≡ names_in (S.chains store.old) self.old p }
         ensures bindings { (p : Purse) (n : List ℕ) → bindings_in (S.chains store.new) self.new p n ≡ bindings_in (S.chains store.old) self.old p n }
         ensures room { OnOk result (HasRoom self.new purse.now name.now) }
@@ -56,6 +66,7 @@ impl Parts {
         ensures own { (p : Purse) (n : List ℕ) (c : ℕ) → chain_at self.new p n ≡ Some c → IsOpen (S.chains store.old) c → chain_at self.old p n ≡ Some c }
         ensures store_room { S.room store.new ≡ S.room store.old }
     {
+        self.ends.make_room()?;
         self.shelve(purse)?;
         let shelf = self.shelves.get_mut(purse).unwrap();
         shelf.reserve(store, name)
@@ -67,6 +78,8 @@ impl Parts {
         ensures names { (p : Purse) → names_on (shelf_of self.new p) ≡ names_on (shelf_of self.old p) }
         ensures serials { (p : Purse) → serials_on (shelf_of self.new p) ≡ serials_on (shelf_of self.old p) }
         ensures there { OnOk result (is_some (shelf_of self.new purse.now) ≡ true) }
+        ensures bound { bound_in self.new ≡ bound_in self.old }
+        ensures ends { self.new.ends ≡ self.old.ends }
     {
         if self.shelves.contains_key(purse) {
             return Ok(());
@@ -85,10 +98,13 @@ impl Parts {
         object: &ObjectId,
     )
         requires holds { Holds (S.chains store.old) self.old }
+        requires waits { Waits (S.chains store.old) self.old }
         requires reserved { HasRoom self.old object.now.purse name.now }
         requires unbound { object_of (current_of (bindings_in (S.chains store.old) self.old object.now.purse name.now)) ≡ None }
         requires room { 0 < S.room store.old }
         ensures holds { Holds (S.chains store.new) self.new }
+        ensures waits { Waits (S.chains store.new) self.new }
+        ensures waiting { waiting_in self.new ≡ waiting_in self.old }
         ensures names { (p : Purse) → names_in (S.chains store.new) self.new p
             ≡ (if same_purse object.now.purse p then with_name name.now (names_in (S.chains store.old) self.old p) else names_in (S.chains store.old) self.old p) }
         ensures bindings { (p : Purse) (n : List ℕ) → bindings_in (S.chains store.new) self.new p n
@@ -97,6 +113,7 @@ impl Parts {
         ensures own { (p : Purse) (n : List ℕ) → chain_at self.new p n ≡ chain_at self.old p n }
         ensures store_room { S.room store.new + 1 ≡ S.room store.old }
     {
+        self.ends.await_one();
         let shelf = self.shelves.get_mut(&object.purse).unwrap();
         let track = shelf.track(name).unwrap();
         shelf.bound.push_reserved(object.serial);
@@ -109,7 +126,8 @@ impl Parts {
         store.push(track.chain, begun);
     }
 
-    /// Ends the binding of a name that is bound. Takes no memory.
+    /// Ends the binding of a name that is bound. The moment isn't before the end of any binding that is
+    /// still held. Takes no memory.
     pub fn unbind<S: Store<Version>>(
         &mut self,
         store: &mut S,
@@ -118,8 +136,12 @@ impl Parts {
         name: &Name,
     )
         requires holds { Holds (S.chains store.old) self.old }
+        requires waits { Waits (S.chains store.old) self.old }
+        requires later { all_by moment (waiting_in self.old) ≡ true }
         requires bound { is_some (serial_now (bindings_in (S.chains store.old) self.old purse.now name.now)) ≡ true }
         ensures holds { Holds (S.chains store.new) self.new }
+        ensures waits { Waits (S.chains store.new) self.new }
+        ensures waiting { waiting_in self.new ≡ waiting_in self.old ++ record { end = moment; purse = purse.now; name = name.now } ∷ [] }
         ensures names { (p : Purse) → names_in (S.chains store.new) self.new p ≡ names_in (S.chains store.old) self.old p }
         ensures bindings { (p : Purse) (n : List ℕ) → bindings_in (S.chains store.new) self.new p n
             ≡ (if same_purse purse.now p && same_name name.now n then with_end moment (bindings_in (S.chains store.old) self.old p n) else bindings_in (S.chains store.old) self.old p n) }
@@ -133,6 +155,50 @@ impl Parts {
         let place = place_of(&shelf.bound, object.serial).unwrap();
         shelf.bound.remove(place);
         track.end(store, moment);
+        self.ends.put(Ended::new(moment, purse, name));
+    }
+
+    /// Frees at most so many bindings that have ended by the horizon, those that ended first before the
+    /// others, and tells how many it freed: the smaller of the number that was asked for and of those
+    /// that have ended. A name without bindings left gives up its entry. It looks at those that it
+    /// frees, and at one more. Takes no memory.
+    pub fn expire<S: Store<Version>>(&mut self, store: &mut S, horizon: Moment, most: u64) -> u64
+        requires holds { Holds (S.chains store.old) self.old }
+        requires waits { Waits (S.chains store.old) self.old }
+        ensures freed { result ≡ min most (count_by (is_gone horizon) (waiting_in self.old)) }
+        ensures sweeps { Sweeps horizon (S.chains store.old) (S.chains store.new) self.old self.new result }
+        ensures tells { TellsSame horizon (S.chains store.old) (S.chains store.new) self.old self.new }
+        ensures holds { Holds (S.chains store.new) self.new }
+        ensures waits { Waits (S.chains store.new) self.new }
+        ensures store_room { S.room store.new ≡ S.room store.old + result }
+    {
+        for freed in 0..most {
+            let Some(ended) = self.ends.take_gone(horizon) else {
+                return freed;
+            };
+            self.free(store, &ended.purse, &ended.name);
+        }
+        most
+    }
+
+    // Frees the oldest binding of a name in the purse, which has ended.
+    fn free<S: Store<Version>>(&mut self, store: &mut S, purse: &Purse, name: &Name)
+        requires holds { Holds (S.chains store.old) self.old }
+        requires any { is_any (bindings_in (S.chains store.old) self.old purse.now name.now) ≡ true }
+        requires ended { serial_now (drop 1 (bindings_in (S.chains store.old) self.old purse.now name.now)) ≡ serial_now (bindings_in (S.chains store.old) self.old purse.now name.now) }
+        ensures holds { Holds (S.chains store.new) self.new }
+        ensures bindings { (p : Purse) (n : List ℕ) → bindings_in (S.chains store.new) self.new p n
+            ≡ (if same_purse purse.now p && same_name name.now n then drop 1 (bindings_in (S.chains store.old) self.old p n) else bindings_in (S.chains store.old) self.old p n) }
+        ensures names { (p : Purse) → names_in (S.chains store.new) self.new p ≡ filter (λ n. is_any (bindings_in (S.chains store.new) self.new p n)) (names_in (S.chains store.old) self.old p) }
+        ensures own { (p : Purse) (n : List ℕ) (c : ℕ) → chain_at self.new p n ≡ Some c → chain_at self.old p n ≡ Some c }
+        ensures others { KeepsForeign (S.chains store.old) (S.chains store.new) self.old }
+        ensures bound { bound_in self.new ≡ bound_in self.old }
+        ensures ends { self.new.ends ≡ self.old.ends }
+        ensures room { S.room store.new ≡ S.room store.old + 1 }
+        ensures used { item_count (S.chains store.new) + 1 ≡ item_count (S.chains store.old) }
+    {
+        let shelf = self.shelves.get_mut(purse).unwrap();
+        shelf.free(store, name);
     }
 
     /// The object that a name in the purse is bound to, now or at a moment.

@@ -1,10 +1,10 @@
 //! The names of one purse.
 
-ghost use Rattle.std.specs.Prelude.{◌≡◌, ℕ, ◌<◌, true, is_some, Some, List, [], OnOk, vec_len, vec_capacity};
+ghost use Rattle.std.specs.Prelude.{◌≡◌, ℕ, ◌+◌, ◌<◌, true, is_some, Some, List, [], OnOk, vec_len, vec_capacity};
 ghost use Rattle.std.specs.Option.{option_map};
-ghost use Rattle.s4_store.specs.Chains.{IsOpen};
-ghost use Rattle.s4_parts.specs.Table.{chain_on};
-ghost use Rattle.s4_parts.specs.Shelf.{Grows};
+ghost use Rattle.s4_store.specs.Chains.{items_of, item_count, IsOpen};
+ghost use Rattle.s4_parts.specs.Table.{chain_on, is_any};
+ghost use Rattle.s4_parts.specs.Shelf.{Grows, Frees};
 
 use s4_store::Store;
 use s4_tracks::Track;
@@ -59,6 +59,24 @@ impl Shelf {
                 store.close(chain);
                 Err(AllocError)
             }
+        }
+    }
+
+    /// Frees the oldest binding of a name. A name without bindings left gives up its chain. Takes no
+    /// memory.
+    pub fn free<S: Store<Version>>(&mut self, store: &mut S, name: &Name)
+        requires there { is_some (chain_on (Some self.old) name.now) ≡ true }
+        requires open { (c : ℕ) → chain_on (Some self.old) name.now ≡ Some c → IsOpen (S.chains store.old) c }
+        requires any { (c : ℕ) → chain_on (Some self.old) name.now ≡ Some c → is_any (items_of (S.chains store.old) c) ≡ true }
+        ensures frees { Frees (S.chains store.old) (S.chains store.new) self.old self.new name.now }
+        ensures room { S.room store.new ≡ S.room store.old + 1 }
+        ensures used { item_count (S.chains store.new) + 1 ≡ item_count (S.chains store.old) }
+    {
+        let track = self.track(name).unwrap();
+        store.drop_oldest(track.chain);
+        if store.len(track.chain) == 0 {
+            store.close(track.chain);
+            self.tracks.remove(name);
         }
     }
 }

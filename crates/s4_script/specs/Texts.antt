@@ -45,6 +45,7 @@ refusal_text (refusal.Denied wanted) = codes "denied " ++ right_text wanted
 refusal_text refusal.NoObject = codes "no-object"
 refusal_text refusal.Future = codes "future"
 refusal_text (refusal.TooOld horizon) = codes "too-old " ++ decimal horizon
+refusal_text refusal.Flushed = codes "flushed"
 refusal_text refusal.TooLong = codes "too-long"
 refusal_text refusal.AclFull = codes "acl-full"
 refusal_text refusal.NoEntry = codes "no-entry"
@@ -54,6 +55,7 @@ refusal_text refusal.PartsFull = codes "parts-full"
 refusal_text refusal.Named = codes "named"
 refusal_text refusal.NamesSpent = codes "names-spent"
 refusal_text (refusal.OverBudget spent charge budget) = codes "over-budget " ++ decimal spent ++ codes " " ++ decimal charge ++ codes " " ++ decimal budget
+refusal_text refusal.BadRange = codes "bad-range"
 refusal_text refusal.NoMemory = codes "no-memory"
 
 -- a partition as its line: its name, its object, and why it is shown

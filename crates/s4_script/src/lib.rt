@@ -12,6 +12,3 @@ mod words;
 pub use error::ParseError;
 pub use line::{Line, parse_line, parse_window};
 pub use replies::ReplyText;
-
-#[cfg(test)]
-mod tests;

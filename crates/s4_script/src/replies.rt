@@ -183,6 +183,7 @@ impl fmt::Display for RefusalText {
                 let horizon = horizon.tick();
                 write!(f, "too-old {horizon}")
             }
+            Refusal::Flushed => write!(f, "flushed"),
             Refusal::TooLong => write!(f, "too-long"),
             Refusal::AclFull => write!(f, "acl-full"),
             Refusal::NoEntry => write!(f, "no-entry"),
@@ -196,6 +197,7 @@ impl fmt::Display for RefusalText {
                 charge,
                 budget,
             } => write!(f, "over-budget {spent} {charge} {budget}"),
+            Refusal::BadRange => write!(f, "bad-range"),
             Refusal::NoMemory => write!(f, "no-memory"),
         }
     }

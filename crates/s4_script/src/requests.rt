@@ -23,6 +23,8 @@ pub fn parse_request(alloc: Global, verb: &str, words: &[&str]) -> Result<Reques
         ("pdelete", [purse, name]) => pdelete(purse, name),
         ("plist", [range, place @ ..]) => plist(range, place),
         ("pmount", [purse, name, at @ ..]) => pmount(purse, name, at),
+        ("flush", [from, to]) => flush(from, to),
+        ("flusho", [object, from, to]) => flush_object(object, from, to),
         ("setwindow", [ticks]) => set_window(ticks),
         ("setbudget", [purse, budget]) => set_budget(purse, budget),
         ("audit", [range, skip]) => audit(range, skip),
@@ -144,6 +146,21 @@ fn pmount(purse: &str, name: &str, at: &[&str]) -> Result<Request, ParseError> {
         purse: words::purse(purse)?,
         name: words::name(name)?,
         at: words::at(at)?,
+    })
+}
+
+fn flush(from: &str, to: &str) -> Result<Request, ParseError> {
+    Ok(Request::Flush {
+        from: words::moment(from)?,
+        to: words::moment(to)?,
+    })
+}
+
+fn flush_object(object: &str, from: &str, to: &str) -> Result<Request, ParseError> {
+    Ok(Request::FlushO {
+        object: words::object(object)?,
+        from: words::moment(from)?,
+        to: words::moment(to)?,
     })
 }
 

@@ -1,242 +1,370 @@
--- What a record makes past weighs what its charge tells.
-use Rattle.std.proofs.Common.{◌≡◌, ℕ, ◌+◌, ◌≤◌, Bool, true, false, not, cond, Option, Some, None, List, [], ◌∷◌, ◌++◌, refl, sym, ◌∙◌, ap, subst, arith}
-use Rattle.std.specs.Prelude.{◌&&◌, sum_by, if◌then◌else◌}
+-- What a record makes past weighs what its charge tells, and what a flush takes back weighs nothing from then on.
+use Rattle.std.proofs.Common.{◌≡◌, ℕ, ◌+◌, ◌≤◌, Bool, true, false, not, cond, Option, Some, None, List, [], ◌∷◌, ◌++◌, refl, sym, ◌∙◌, ap, subst, arith, add-zero}
+use Rattle.std.specs.Prelude.{◌&&◌, ◌||◌, Ok, nat_le, sum_by, if◌then◌else◌}
 use Rattle.std.proofs.lemmas.List.Sums.{sum_by-cons}
+use Rattle.s4_types.specs.declared.principal.Caller.{Caller}
 use Rattle.s4_types.specs.declared.object.Purse.{Purse}
 use Rattle.s4_types.specs.declared.object.ObjectId.{ObjectId}
+use Rattle.s4_types.specs.declared.acl.AclEntry.{AclEntry}
 use Rattle.s4_types.specs.declared.request.Request.{Request}
-use Rattle.s4_types.specs.declared.request.Request.TheVariants.{Create, Delete, Read, Write, Append, Truncate, GetAttr, SetAttr, GetAclByUser, GetAclByIndex, SetAcl, PCreate, PDelete, PList, PMount, SetWindow, SetBudget, ReadAudit}
-use Rattle.s4_types.specs.declared.reply.Reply.TheVariants.{Done}
+use Rattle.s4_types.specs.declared.request.Request.TheVariants.{Create, Delete, Read, Write, Append, Truncate, GetAttr, SetAttr, GetAclByUser, GetAclByIndex, SetAcl, PCreate, PDelete, PList, PMount, Flush, FlushO, SetWindow, SetBudget, ReadAudit}
+use Rattle.s4_types.specs.declared.reply.Refusal.TheVariants.{NamesSpent}
+use Rattle.s4_types.specs.declared.reply.Reply.{Reply}
+use Rattle.s4_types.specs.declared.reply.Reply.TheVariants.{Made}
+use Rattle.s4_types.specs.Outcome.{◌>>◌, refuse_if, reply_of}
+use Rattle.s4_types.proofs.Outcomes.{passes_test}
 use Rattle.s4_types.specs.declared.record.Record.{Record}
-use Rattle.s4_types.specs.declared.version.Item.{Item}
-use Rattle.s4_types.specs.declared.version.Item.TheVariants as item
-use Rattle.s4_types.specs.Names.{same_purse, object_in}
-use Rattle.s4_types.specs.Kinds.{is_refused, only_reads, is_about, is_create, concerns}
+use Rattle.s4_types.specs.Names.{same_purse, same_object, object_in}
+use Rattle.s4_types.specs.Kinds.{is_refused, only_reads, is_create, is_wide, is_about, concerns}
 use Rattle.s4_types.specs.Base.{Base}
 use Rattle.s4_types.specs.Serials.{drawn}
-use Rattle.s4_types.specs.Spending.{binding_cost}
-use Rattle.s4_types.specs.Answer.{made_past, data_of, attributes_of, acl_of}
+use Rattle.s4_types.specs.Spending.{sum_to, binding_cost}
+use Rattle.s4_types.specs.Answer.{value_or_empty, made_past, data_of, attributes_of, acl_of}
 use Rattle.s4_types.specs.Acl.{acl_with}
-use Rattle.s4_types.specs.Versions as model
-use Rattle.s4_types.specs.Versions.{Track, Value, versions, data_track, attribute_track, acl_track, written, of_length}
-use Rattle.s4_types.proofs.Booleans.{by_test, &&-false}
+use Rattle.s4_types.specs.Versions.{Track, Value, Span, when, span_of, is_made, is_deleted, makes, deletes, lives_at, begun, value_at, versions, data_track, attribute_track, acl_track, data_effect, attribute_effect, acl_effect, written, of_length}
+use Rattle.s4_types.specs.Erased.{span_by}
+use Rattle.s4_types.proofs.Booleans.{by_test, &&-false, &&-true, not_both}
+use Rattle.s4_types.proofs.Erasing.{flushed-whole, versions-idle}
+use Rattle.s4_types.proofs.SameNames.{purse_is, purse_self, object_self, object_is}
 use Rattle.s4_types.proofs.Snoc.{drawn-snoc}
-use Rattle.s4_tracks.specs.Chain.{with_put, with_end, cost_of}
-use Rattle.s4_state.specs.declared.objects.Which.TheVariants as which
-use Rattle.s4_state.specs.Laid.{laid}
-use Rattle.s4_state.specs.Sound.{IsSound, IsNext, TrackStands, DataFits, AttributesFit, AclFits, was_made, was_deleted}
-use Rattle.s4_state.specs.Stands.{MakesNone, PutsOn}
-use Rattle.s4_state.specs.Weights.{weight_of, track_weight, object_weight, unbinding_weight, binding_weight, purse_weight}
-use Rattle.s4_state.proofs.Granting.{told-asked, accepted-asked, changed_by, bound-done, unbound-done, budget-done}
-use Rattle.s4_state.proofs.Effects.{IsLive, either-same, laid-end, laid-put, live-data, live-attributes, live-acl, current-data, current-attributes, current-acl, changed_made, write_puts, append_puts, truncate_puts, set_attributes_puts, set_acl_puts, delete_ends, create_makes, new_object}
-use Rattle.s4_state.proofs.Standing.{MakesOnly, drawn-same, versions_on-same, unmade-track}
-use Rattle.s4_state.proofs.Binding.{tracks-idle}
-use Rattle.s4_state.proofs.Weighing.{laid_weight, on_weight, laid-weight, Grows, puts-grow, ends-grow, purse-grows, purse-still, purse-made}
+use Rattle.s4_objects.specs.declared.kept.Which.TheVariants as which
+use Rattle.s4_state.specs.Sound.{IsSound, IsNext, DataFits, AttributesFit, AclFits, TrackStands, was_made}
+use Rattle.s4_state.specs.Weights.{track_weight, object_weight, unbinding_weight, binding_weight, purse_weight, track_freed, object_freed, freed_weight}
+use Rattle.s4_state.proofs.Current.{Current, current, unmade, was_made-now, untouched, unchanged, made-first, end-after, put-after}
+use Rattle.s4_state.proofs.Granting.{told-accepted, accepted-by-kind, changed_by, changed-lives, IsNextOf, made_is}
+use Rattle.s4_state.proofs.Weighing.{sum_to-cong, sum_to-zero, first-weight, end-weight, put-weight, OnlyErases, Moves, object-freed-none, erases-moves, moves-one, share-sum, freed_weight-none, purse-moves, purse-made}
 
--- ONE TRACK
+-- what the record makes past weighs what its charge tells, and what it erases is taken back
+abbrev pub Charges : (ℕ → ℕ → ℕ) → List Record → Record → Type 0
+Charges f h r = (p : Purse) → purse_weight f p (h ++ r ∷ []) + freed_weight f p h r ≡ purse_weight f p h + (if concerns p r then sum_by (f r.moment) (made_past h r.moment r.request) else 0)
 
-module _ {V : Type 0} {Fits : V → Type 0} (f : ℕ → ℕ → ℕ) (track : Track V) (wrap : V → Item) (cost : (x : V) → cost_of (wrap x) ≡ track.cost x) (m : ℕ) (values : List (Value V)) (live : IsLive Fits values) where
-  abbrev weigh : Value V → ℕ
-  weigh v = weight_of f v.end (track.cost v.value)
-
-  -- the past, without the current value
-  before : laid_weight f (laid track wrap values) ≡ track_weight f track live.past
-  before =
-      let whole : track_weight f track (live.newest ∷ live.past) ≡ weigh live.newest + track_weight f track live.past = sum_by-cons weigh live.newest live.past in
-      let current : weigh live.newest ≡ 0 = ap (λ e. weight_of f e (track.cost live.newest.value)) live.current in
-      laid-weight f track wrap values ∙ ap (track_weight f track) live.whole ∙ omega (arith, whole, current)
-
-  over : track_weight f track (model.ended m live.newest ∷ live.past) ≡ f m (track.cost live.newest.value) + track_weight f track live.past
-  over = sum_by-cons weigh (model.ended m live.newest) live.past
-
-  pub end-weight : laid_weight f (with_end m (laid track wrap values)) ≡ laid_weight f (laid track wrap values) + f m (track.cost live.newest.value)
-  end-weight =
-      let is : laid_weight f (with_end m (laid track wrap values)) ≡ track_weight f track (model.ended m live.newest ∷ live.past)
-      = ap (λ vs. laid_weight f (with_end m (laid track wrap vs))) live.whole
-      ∙ ap (laid_weight f) (sym (laid-end track wrap cost m live.newest live.past live.current))
-      ∙ laid-weight f track wrap (model.ended m live.newest ∷ live.past) in
-      let b = before in
-      let o = over in
-      omega (arith, is, b, o)
-
-  pub put-weight : (x : V) → laid_weight f (with_put m (wrap x) (laid track wrap values)) ≡ laid_weight f (laid track wrap values) + f m (track.cost live.newest.value)
-  put-weight x =
-      let is : laid_weight f (with_put m (wrap x) (laid track wrap values)) ≡ track_weight f track (model.begun m x ∷ model.ended m live.newest ∷ live.past)
-      = ap (λ vs. laid_weight f (with_put m (wrap x) (laid track wrap vs))) live.whole
-      ∙ ap (laid_weight f) (sym (laid-put track wrap cost m x live.newest live.past live.current))
-      ∙ laid-weight f track wrap (model.begun m x ∷ model.ended m live.newest ∷ live.past) in
-      let new : track_weight f track (model.begun m x ∷ model.ended m live.newest ∷ live.past) ≡ 0 + track_weight f track (model.ended m live.newest ∷ live.past) = sum_by-cons weigh (model.begun m x) (model.ended m live.newest ∷ live.past) in
-      let b = before in
-      let o = over in
-      omega (arith, is, new, b, o)
+either : {A : Type 0} (b : Bool) (x : A) → cond b x x ≡ x
+either true x = refl
+either false x = refl
 
 -- ONE RECORD
 
--- what the record makes past weighs what its charge tells
-abbrev pub Charges : (ℕ → ℕ → ℕ) → List Record → Record → Type 0
-Charges f h r = (p : Purse) → purse_weight f p (h ++ r ∷ []) ≡ purse_weight f p h + (if concerns p r then sum_by (f r.moment) (made_past h r.moment r.request) else 0)
-
-module _ (f : ℕ → ℕ → ℕ) {base : Base} {h : List Record} {r : Record} (s : IsSound h) (n : IsNext base h r) where
-  abbrev m : ℕ
-  m = r.moment
+module _ (f : ℕ → ℕ → ℕ) (h : List Record) (m : ℕ) (caller : Caller) (reply : Reply) where
+  abbrev by : Request → Record
+  by request = record { moment = m; caller = caller; request = request; reply = reply }
 
   -- a record that changes nothing
-  idle-charges : ((p : Purse) → concerns p r ≡ false) → Charges f h r
-  idle-charges idle p =
-      purse-still f h r (λ p. drawn-same h r p (ap (λ b. b && is_create r.request) (idle p))) (λ q u. versions_on-same h r u q (idle q.purse)) p
-      ∙ ap (λ b. purse_weight f p h + cond b (unbinding_weight f m r.request) 0) (idle p)
-      ∙ sym (ap (λ b. purse_weight f p h + cond b (sum_by (f m) (made_past h m r.request)) 0) (idle p))
+  idle-charges : (request : Request) → ((p : Purse) → concerns p (by request) ≡ false) → Charges f h (by request)
+  idle-charges request idle p =
+      let moved = purse-moves f h r (λ q. 0) (λ p. drawn-snoc p h r ∙ ap (λ b. drawn p h + cond (b && is_create request) 1 0) (idle p) ∙ add-zero (drawn p h)) (λ q. erases-moves f h r q (still q)) p in
+      let parts : sum_to (drawn p h) (λ serial. 0) ≡ 0 = sum_to-zero (drawn p h) (λ serial. 0) (λ k l. refl) in
+      let binding : binding_weight f p r ≡ 0 = ap (λ b. cond b (unbinding_weight f m request) 0) (idle p) in
+      let charge : (if concerns p r then sum_by (f m) (made_past h m request) else 0) ≡ 0 = ap (λ b. cond b (sum_by (f m) (made_past h m request)) 0) (idle p) in
+      omega (arith, moved, parts, binding, charge)
+    where
+      r : Record
+      r = by request
 
-  module _ (granted : is_refused r.reply ≡ false) where
-    concerns-asked : (request : Request) → r.request ≡ request → (p : Purse) → concerns p r ≡ (not (only_reads request) && is_about p r.caller request)
-    concerns-asked request asked p =
-        ap (λ b. (not b && not (only_reads r.request)) && is_about p r.caller r.request) granted
-        ∙ ap (λ q. not (only_reads q) && is_about p r.caller q) asked
+      still : (q : ObjectId) → OnlyErases h r q
+      still q = record {
+        data_left = untouched h r data_track q (idle q.purse);
+        attributes_left = untouched h r attribute_track q (idle q.purse);
+        acl_left = untouched h r acl_track q (idle q.purse) ∙ flushed-whole q (span_by q r) (versions acl_track q h);
+      }
 
-    module _ (o : ObjectId) (request : Request) (asked : r.request ≡ request) (about : (p : Purse) → (not (only_reads request) && is_about p r.caller request) ≡ same_purse o.purse p) where
-      concerns-it : (p : Purse) → concerns p r ≡ same_purse o.purse p
-      concerns-it p = concerns-asked request asked p ∙ about p
+  module _ {base : Base} (s : IsSound h) (granted : is_refused reply ≡ false) (request : Request) (n : IsNext base h (by request)) where
+    abbrev r : Record
+    r = by request
 
-      binding-none : unbinding_weight f m request ≡ 0 → (p : Purse) → binding_weight f p r ≡ 0
-      binding-none none p = either-same (concerns p r) (unbinding_weight f m r.request) 0 (ap (unbinding_weight f m) asked ∙ none)
+    concerned : (p : Purse) → concerns p r ≡ (not (only_reads request) && (is_wide caller request || is_about p caller request))
+    concerned p = ap (λ b. (not b && not (only_reads request)) && (is_wide caller request || is_about p caller request)) granted
 
-      growth-charges : unbinding_weight f m request ≡ 0 → MakesNone r → o.serial ≤ drawn o.purse h → Grows f h r o (sum_by (f m) (made_past h m request)) → Charges f h r
-      growth-charges none makes low grown p =
-          purse-grows f h r o (sum_by (f m) (made_past h m request)) (λ p. drawn-same h r p (makes.draws_none p)) low grown (binding-none none) p
-          ∙ ap (λ b. purse_weight f p h + cond b (sum_by (f m) (made_past h m request)) 0) (sym (concerns-it p))
-          ∙ ap (λ q. purse_weight f p h + cond (concerns p r) (sum_by (f m) (made_past h m q)) 0) (sym asked)
+    binding-none : unbinding_weight f m request ≡ 0 → (p : Purse) → binding_weight f p r ≡ 0
+    binding-none none p = ap (λ d. cond (concerns p r) d 0) none ∙ either (concerns p r) 0
 
-    -- one charge
-    one : (c : ℕ) → sum_by (f m) (c ∷ []) ≡ f m c
-    one c = let whole : sum_by (f m) (c ∷ []) ≡ f m c + 0 = sum_by-cons (f m) c [] in omega (arith, whole)
+    module _ (kind : is_create request ≡ false) where
+      makes-none : (q : ObjectId) → makes q r ≡ false
+      makes-none q = by_test (is_made q reply)
+          (λ e. let next : IsNextOf h caller request q = made_is base h m caller request q (sym (ap (is_made q) (told-accepted n granted)) ∙ e) in
+          absurd (not_both (is_create request) next.creates kind))
+          (λ e. ap (λ b. concerns q.purse r && b) e ∙ &&-false (concerns q.purse r))
 
-    data-charges : (o : ObjectId) (request : Request) (asked : r.request ≡ request) (of_o : changed_by request ≡ Some o) → ((p : Purse) → (not (only_reads request) && is_about p r.caller request) ≡ same_purse o.purse p)
-        → unbinding_weight f m request ≡ 0 → made_past h m request ≡ data_track.cost (data_of o m h) ∷ [] → (x : List ℕ) → PutsOn h r o which.Data (item.Data x) → Charges f h r
-    data-charges o request asked of_o about none past x puts =
-        let live = live-data s n granted o request asked of_o in
-        let here = put-weight f data_track item.Data (λ y. refl) m (versions data_track o h) live x in
-        let is : f m (data_track.cost live.newest.value) ≡ sum_by (f m) (made_past h m request)
-        = ap (λ y. f m (data_track.cost y)) (current-data s n granted o request asked of_o) ∙ sym (one (data_track.cost (data_of o m h))) ∙ sym (ap (sum_by (f m)) past) in
-        growth-charges o request asked about none puts.makes (s.named o (changed_made s n granted o request asked of_o))
-        (puts-grow f h r o which.Data (item.Data x) puts (sum_by (f m) (made_past h m request)) (here ∙ ap (λ d. on_weight f which.Data o h + d) is))
+      draws-none : (p : Purse) → drawn p (h ++ r ∷ []) ≡ drawn p h
+      draws-none p = drawn-snoc p h r ∙ ap (λ b. drawn p h + cond (concerns p r && b) 1 0) kind ∙ ap (λ b. drawn p h + cond b 1 0) (&&-false (concerns p r)) ∙ add-zero (drawn p h)
 
-    attribute-charges : (o : ObjectId) (bytes : List ℕ) → r.request ≡ SetAttr o bytes → Charges f h r
-    attribute-charges o bytes asked =
-        let live = live-attributes s n granted o (SetAttr o bytes) asked refl in
-        let here = put-weight f attribute_track item.Attr (λ y. refl) m (versions attribute_track o h) live bytes in
-        let is : f m (attribute_track.cost live.newest.value) ≡ sum_by (f m) (made_past h m (SetAttr o bytes))
-        = ap (λ y. f m (attribute_track.cost y)) (current-attributes s n granted o (SetAttr o bytes) asked refl) ∙ sym (one (attribute_track.cost (attributes_of o m h))) in
-        let puts = set_attributes_puts s n granted o bytes asked in
-        growth-charges o (SetAttr o bytes) asked (λ p. refl) refl puts.makes (s.named o (changed_made s n granted o (SetAttr o bytes) asked refl))
-        (puts-grow f h r o which.Attributes (item.Attr bytes) puts (sum_by (f m) (made_past h m (SetAttr o bytes))) (here ∙ ap (λ d. on_weight f which.Attributes o h + d) is))
+      deletes-none : (q : ObjectId) → is_deleted q request ≡ false → deletes q r ≡ false
+      deletes-none q undeleted = ap (λ b. concerns q.purse r && b) undeleted ∙ &&-false (concerns q.purse r)
 
-    acl-charges : (o : ObjectId) (user rights : ℕ) → r.request ≡ SetAcl o user rights → Charges f h r
-    acl-charges o user rights asked =
-        let live = live-acl s n granted o (SetAcl o user rights) asked refl in
-        let new = acl_with user rights (acl_of o m h) in
-        let here = put-weight f acl_track item.Acl (λ y. refl) m (versions acl_track o h) live new in
-        let is : f m (acl_track.cost live.newest.value) ≡ sum_by (f m) (made_past h m (SetAcl o user rights))
-        = ap (λ y. f m (acl_track.cost y)) (current-acl s n granted o (SetAcl o user rights) asked refl) ∙ sym (one (acl_track.cost (acl_of o m h))) in
-        let puts = set_acl_puts s n granted o user rights asked in
-        growth-charges o (SetAcl o user rights) asked (λ p. refl) refl puts.makes (s.named o (changed_made s n granted o (SetAcl o user rights) asked refl))
-        (puts-grow f h r o which.Acl (item.Acl new) puts (sum_by (f m) (made_past h m (SetAcl o user rights))) (here ∙ ap (λ d. on_weight f which.Acl o h + d) is))
+      -- an object that the request neither deletes nor changes
+      apart : (q : ObjectId) → is_deleted q request ≡ false → ((old : List ℕ) → data_effect q request old ≡ None) → ((old : List ℕ) → attribute_effect q request old ≡ None) → ((old : List AclEntry) → acl_effect q request old ≡ None)
+          → Moves f h r q 0
+      apart q undeleted on-data on-attributes on-acl = erases-moves f h r q (record {
+        data_left = unchanged h r data_track q (makes-none q) (deletes-none q undeleted) on-data;
+        attributes_left = unchanged h r attribute_track q (makes-none q) (deletes-none q undeleted) on-attributes;
+        acl_left = unchanged h r acl_track q (makes-none q) (deletes-none q undeleted) on-acl ∙ flushed-whole q (span_by q r) (versions acl_track q h);
+      })
 
-    delete-charges : (o : ObjectId) → r.request ≡ Delete o → Charges f h r
-    delete-charges o asked =
-        let a : ℕ = data_track.cost (data_of o m h) in
-        let b : ℕ = attribute_track.cost (attributes_of o m h) in
-        let c : ℕ = acl_track.cost (acl_of o m h) in
-        let on-data = end-weight f data_track item.Data (λ y. refl) m (versions data_track o h) (live-data s n granted o (Delete o) asked refl)
-        ∙ ap (λ y. on_weight f which.Data o h + f m (data_track.cost y)) (current-data s n granted o (Delete o) asked refl) in
-        let on-attributes = end-weight f attribute_track item.Attr (λ y. refl) m (versions attribute_track o h) (live-attributes s n granted o (Delete o) asked refl)
-        ∙ ap (λ y. on_weight f which.Attributes o h + f m (attribute_track.cost y)) (current-attributes s n granted o (Delete o) asked refl) in
-        let on-acl = end-weight f acl_track item.Acl (λ y. refl) m (versions acl_track o h) (live-acl s n granted o (Delete o) asked refl)
-        ∙ ap (λ y. on_weight f which.Acl o h + f m (acl_track.cost y)) (current-acl s n granted o (Delete o) asked refl) in
-        let ends = delete_ends s n granted o asked in
-        let whole : f m a + (f m b + (f m c + 0)) ≡ sum_by (f m) (made_past h m (Delete o)) =
-        let x : sum_by (f m) (a ∷ b ∷ c ∷ []) ≡ f m a + sum_by (f m) (b ∷ c ∷ []) = sum_by-cons (f m) a (b ∷ c ∷ []) in
-        let y : sum_by (f m) (b ∷ c ∷ []) ≡ f m b + sum_by (f m) (c ∷ []) = sum_by-cons (f m) b (c ∷ []) in
-        let z : sum_by (f m) (c ∷ []) ≡ f m c + 0 = sum_by-cons (f m) c [] in
-        omega (arith, x, y, z) in
-        growth-charges o (Delete o) asked (λ p. refl) refl ends.makes (s.named o (changed_made s n granted o (Delete o) asked refl))
-        (subst (Grows f h r o) whole (ends-grow f h r o ends (f m a) (f m b) (f m c) on-data on-attributes on-acl))
+      -- a request that deletes and changes no object
+      still-charges : ((q : ObjectId) → is_deleted q request ≡ false) → ((q : ObjectId) (old : List ℕ) → data_effect q request old ≡ None) → ((q : ObjectId) (old : List ℕ) → attribute_effect q request old ≡ None)
+          → ((q : ObjectId) (old : List AclEntry) → acl_effect q request old ≡ None) → unbinding_weight f m request ≡ sum_by (f m) (made_past h m request) → Charges f h r
+      still-charges undeleted on-data on-attributes on-acl charge p =
+          let moved = purse-moves f h r (λ q. 0) draws-none (λ q. apart q (undeleted q) (on-data q) (on-attributes q) (on-acl q)) p in
+          let parts : sum_to (drawn p h) (λ serial. 0) ≡ 0 = sum_to-zero (drawn p h) (λ serial. 0) (λ k l. refl) in
+          let binding : binding_weight f p r ≡ (if concerns p r then sum_by (f m) (made_past h m request) else 0) = ap (λ d. cond (concerns p r) d 0) charge in
+          omega (arith, moved, parts, binding)
 
-    -- a record that changes no object
-    still-charges : (request : Request) (o : ObjectId) → r.request ≡ request → r.reply ≡ Done → ((p : Purse) → concerns p (record { moment = m; caller = r.caller; request = request; reply = Done }) ≡ same_purse o.purse p)
-        → is_create request ≡ false → ((q : ObjectId) → model.is_deleted q request ≡ false) → ((q : ObjectId) (old : List ℕ) → model.data_effect q request old ≡ None)
-        → ((q : ObjectId) (old : List ℕ) → model.attribute_effect q request old ≡ None) → ((q : ObjectId) (old : List Rattle.s4_types.specs.declared.acl.AclEntry.AclEntry) → model.acl_effect q request old ≡ None)
-        → unbinding_weight f m request ≡ sum_by (f m) (made_past h m request) → Charges f h r
-    still-charges request o asked done about kind undeleted keeps-data keeps-attributes keeps-acl charge p =
-        let told : Record = record { moment = m; caller = r.caller; request = request; reply = Done } in
-        let is : r ≡ told = λ i. record { moment = m; caller = r.caller; request = asked i; reply = done i } in
-        subst (λ x. purse_weight f p (h ++ x ∷ []) ≡ purse_weight f p h + (if concerns p x then sum_by (f x.moment) (made_past h x.moment x.request) else 0)) (sym is)
-        (purse-still f h told (λ p. drawn-same h told p (ap (λ b. concerns p told && b) kind ∙ &&-false (concerns p told)))
-        (tracks-idle h m r.caller o request about kind undeleted keeps-data keeps-attributes keeps-acl) p
-        ∙ ap (λ d. purse_weight f p h + (if concerns p told then d else 0)) charge)
+      -- a request that changes or deletes one object
+      module _ (o : ObjectId) (of_o : changed_by request ≡ Some o) (changes : only_reads request ≡ false) (about : (p : Purse) → (is_wide caller request || is_about p caller request) ≡ same_purse o.purse p) (plain : (q : ObjectId) → span_of q request ≡ None) where
+        concerned-o : (p : Purse) → concerns p r ≡ same_purse o.purse p
+        concerned-o p = concerned p ∙ ap (λ b. not b && (is_wide caller request || is_about p caller request)) changes ∙ about p
 
-    create-charges : (number : ℕ) → r.request ≡ Create number → Charges f h r
-    create-charges number asked p =
-        purse-made f h r o draws-it makes.next fresh (λ q u e. makes.elsewhere q u e)
-        (λ p. either-same (concerns p r) (unbinding_weight f m r.request) 0 (ap (unbinding_weight f m) asked)) p
-        ∙ sym (ap (λ d. purse_weight f p h + d) (either-same (concerns p r) (sum_by (f m) (made_past h m r.request)) 0 (ap (λ q. sum_by (f m) (made_past h m q)) asked)) ∙ Rattle.std.proofs.Common.add-zero (purse_weight f p h))
-      where
-        o : ObjectId
-        o = new_object h m r.caller number
+        here : concerns o.purse r ≡ true
+        here = concerned-o o.purse ∙ purse_self o.purse
 
-        makes : MakesOnly h r o
-        makes = create_makes n granted number asked
+        lives : lives_at m o h ≡ true
+        lives = changed-lives base h m caller request o (accepted-by-kind n granted) of_o
 
-        draws-it : (p : Purse) → drawn p (h ++ r ∷ []) ≡ drawn p h + (if same_purse o.purse p then 1 else 0)
-        draws-it p = drawn-snoc p h r ∙ ap (λ b. drawn p h + cond b 1 0) (makes.draws_it p)
+        data-now : Current data_track o m h
+        data-now = current DataFits data_track o m h (s.tracks o which.Data) s.moments n.later lives
 
-        unmade : was_made o h ≡ false
-        unmade = by_test (was_made o h)
-            (λ e. let low : o.serial ≤ drawn o.purse h = s.named o e in let is : o.serial ≡ drawn o.purse h + 1 = makes.next in absurd (omega (arith, low, is)))
-            (λ e. e)
+        attributes-now : Current attribute_track o m h
+        attributes-now = current AttributesFit attribute_track o m h (s.tracks o which.Attributes) s.moments n.later lives
 
-        fresh-track : {V : Type 0} (Fits : V → Type 0) (track : Track V) (first : V) → TrackStands Fits o h (versions track o h) → versions track o (h ++ r ∷ []) ≡ model.begun m first ∷ versions track o h → track_weight f track (versions track o (h ++ r ∷ [])) ≡ 0
-        fresh-track Fits track first stands here =
-            ap (track_weight f track) (here ∙ ap (λ vs. model.begun m first ∷ vs) (unmade-track Fits (was_made o h) (was_deleted o h) _ (versions track o h) unmade stands.shape))
-            ∙ sum_by-cons (λ v. weight_of f v.end (track.cost v.value)) (model.begun m first) []
+        acl-now : Current acl_track o m h
+        acl-now = current AclFits acl_track o m h (s.tracks o which.Acl) s.moments n.later lives
 
-        fresh : object_weight f (h ++ r ∷ []) o ≡ 0
-        fresh =
-            let a = fresh-track DataFits data_track [] (s.tracks o which.Data) makes.data_here in
-            let b = fresh-track AttributesFit attribute_track [] (s.tracks o which.Attributes) makes.attributes_here in
-            let c = fresh-track AclFits acl_track (Rattle.s4_types.specs.Acl.first_acl o.purse.creator) (s.tracks o which.Acl) makes.acl_here in
-            omega (arith, a, b, c)
+        freed-nothing : object_freed f h r o ≡ 0
+        freed-nothing = object-freed-none f h r o (ap (λ b. if b then span_of o request else None) here ∙ plain o)
 
-    -- a request that only reads, or is about no purse
-    reading : (request : Request) → r.request ≡ request → ((p : Purse) → (not (only_reads request) && is_about p r.caller request) ≡ false) → Charges f h r
-    reading request asked none = idle-charges (λ p. concerns-asked request asked p ∙ none p)
+        module _ {X : Type 0} (track : Track (List X)) (c : Current track o m h) where
+          -- what the current value weighs once it is past
+          abbrev now : ℕ
+          now = f m (track.cost (value_or_empty (value_at track o m h)))
 
-    by-kind : (request : Request) → r.request ≡ request → Charges f h r
-    by-kind (Create number) asked = create-charges number asked
-    by-kind (Delete o) asked = delete-charges o asked
-    by-kind (Read o offset length at) asked = reading (Read o offset length at) asked (λ p. refl)
-    by-kind (Write o offset bytes) asked = data-charges o (Write o offset bytes) asked refl (λ p. refl) refl refl (written offset bytes (data_of o m h)) (write_puts s n granted o offset bytes asked)
-    by-kind (Append o bytes) asked = data-charges o (Append o bytes) asked refl (λ p. refl) refl refl (data_of o m h ++ bytes) (append_puts s n granted o bytes asked)
-    by-kind (Truncate o length) asked = data-charges o (Truncate o length) asked refl (λ p. refl) refl refl (of_length length (data_of o m h)) (truncate_puts s n granted o length asked)
-    by-kind (GetAttr o at) asked = reading (GetAttr o at) asked (λ p. refl)
-    by-kind (SetAttr o bytes) asked = attribute-charges o bytes asked
-    by-kind (GetAclByUser o user at) asked = reading (GetAclByUser o user at) asked (λ p. refl)
-    by-kind (GetAclByIndex o index at) asked = reading (GetAclByIndex o index at) asked (λ p. refl)
-    by-kind (SetAcl o user rights) asked = acl-charges o user rights asked
-    by-kind (PCreate name o) asked =
-        still-charges (PCreate name o) o asked (told-asked n granted (PCreate name o) asked ∙ bound-done base h m r.caller name o (accepted-asked n granted (PCreate name o) asked))
-        (λ p. refl) refl (λ q. refl) (λ q old. refl) (λ q old. refl) (λ q old. refl) refl
-    by-kind (PDelete purse name) asked =
-        still-charges (PDelete purse name) (object_in purse 0) asked (told-asked n granted (PDelete purse name) asked ∙ unbound-done base h m r.caller purse name (accepted-asked n granted (PDelete purse name) asked))
-        (λ p. refl) refl (λ q. refl) (λ q old. refl) (λ q old. refl) (λ q old. refl) (sym (one (binding_cost name)))
-    by-kind (PList range after at) asked = reading (PList range after at) asked (λ p. refl)
-    by-kind (PMount purse name at) asked = reading (PMount purse name at) asked (λ p. refl)
-    by-kind (SetWindow ticks) asked = reading (SetWindow ticks) asked (λ p. refl)
-    by-kind (ReadAudit range skip) asked = reading (ReadAudit range skip) asked (λ p. refl)
-    by-kind (SetBudget purse budget) asked =
-        still-charges (SetBudget purse budget) (object_in purse 0) asked (told-asked n granted (SetBudget purse budget) asked ∙ budget-done base h m r.caller purse budget (accepted-asked n granted (SetBudget purse budget) asked))
-        (λ p. refl) refl (λ q. refl) (λ q old. refl) (λ q old. refl) (λ q old. refl) refl
+          as-told : track_weight f track (versions track o h) + f m (track.cost c.newest.value) ≡ track_weight f track (versions track o h) + now
+          as-told = ap (λ (v : Option (Value (List X))). track_weight f track (versions track o h) + f m (track.cost (value_or_empty v))) (sym c.told)
 
-  pub charges : Charges f h r
-  charges = by_test (is_refused r.reply)
-      (λ e. idle-charges (λ p. ap (λ b. (not b && not (only_reads r.request)) && is_about p r.caller r.request) e))
-      (λ e. by-kind e r.request refl)
+          put-adds : is_deleted o request ≡ false → (new : List X) → track.effect o request c.newest.value ≡ Some new → track_weight f track (versions track o (h ++ r ∷ [])) ≡ track_weight f track (versions track o h) + now
+          put-adds undeleted new e =
+              ap (track_weight f track) (put-after h r track o here (plain o) (makes-none o) c (deletes-none o undeleted) new e)
+              ∙ put-weight f track m new c.newest c.past c.unended c.unerased
+              ∙ ap (λ values. track_weight f track values + f m (track.cost c.newest.value)) (sym c.whole) ∙ as-told
+
+          end-adds : is_deleted o request ≡ true → track_weight f track (versions track o (h ++ r ∷ [])) ≡ track_weight f track (versions track o h) + now
+          end-adds deleted =
+              ap (track_weight f track) (end-after h r track o here (plain o) (makes-none o) c (ap (λ b. concerns o.purse r && b) deleted ∙ &&-true (concerns o.purse r) ∙ here))
+              ∙ end-weight f track m c.newest c.past c.unended c.unerased
+              ∙ ap (λ values. track_weight f track values + f m (track.cost c.newest.value)) (sym c.whole) ∙ as-told
+
+        -- a track that the request doesn't change
+        keeps : {V : Type 0} (track : Track V) → is_deleted o request ≡ false → ((old : V) → track.effect o request old ≡ None) → track_weight f track (versions track o (h ++ r ∷ [])) ≡ track_weight f track (versions track o h)
+        keeps track undeleted none = ap (track_weight f track) (versions-idle track o h r (makes-none o) (deletes-none o undeleted) (plain o) none)
+
+        one-charges : unbinding_weight f m request ≡ 0 → Moves f h r o (sum_by (f m) (made_past h m request)) → ((q : ObjectId) → same_object o q ≡ false → Moves f h r q 0) → Charges f h r
+        one-charges unbinding moves others p =
+            let d : ℕ = sum_by (f m) (made_past h m request) in
+            let moved = purse-moves f h r (λ q. if same_object o q then d else 0) draws-none (moves-one f h r o d moves others) p in
+            let parts : sum_to (drawn p h) (λ serial. if same_object o (object_in p serial) then d else 0) ≡ (if same_purse o.purse p then d else 0)
+            = share-sum o d p (drawn p h) (λ e. subst (λ x. o.serial ≤ drawn x h) (purse_is o.purse p e) (s.named o (was_made-now o m h s.moments n.later lives))) in
+            let charge : (if concerns p r then d else 0) ≡ (if same_purse o.purse p then d else 0) = ap (λ b. cond b d 0) (concerned-o p) in
+            let binding = binding-none unbinding p in
+            omega (arith, moved, parts, charge, binding)
+
+        one : (cost : ℕ) → sum_by (f m) (cost ∷ []) ≡ f m cost
+        one cost = let whole : sum_by (f m) (cost ∷ []) ≡ f m cost + 0 = sum_by-cons (f m) cost [] in omega (arith, whole)
+
+        -- it puts other data in their place
+        data-charges : (new : List ℕ → List ℕ) → ((q : ObjectId) → is_deleted q request ≡ false) → ((q : ObjectId) (old : List ℕ) → data_effect q request old ≡ when (same_object o q) (new old))
+            → ((q : ObjectId) (old : List ℕ) → attribute_effect q request old ≡ None) → ((q : ObjectId) (old : List AclEntry) → acl_effect q request old ≡ None)
+            → unbinding_weight f m request ≡ 0 → made_past h m request ≡ data_track.cost (data_of o m h) ∷ [] → Charges f h r
+        data-charges new undeleted does on-attributes on-acl unbinding past =
+            one-charges unbinding
+            (let a = put-adds data_track data-now (undeleted o) (new data-now.newest.value) (does o data-now.newest.value ∙ ap (λ b. when b (new data-now.newest.value)) (object_self o)) in
+            let b = keeps attribute_track (undeleted o) (on-attributes o) in
+            let c = keeps acl_track (undeleted o) (on-acl o) in
+            let freed = freed-nothing in
+            let charge = ap (sum_by (f m)) past ∙ one (data_track.cost (data_of o m h)) in
+            omega (arith, a, b, c, freed, charge))
+            (λ q e. apart q (undeleted q) (λ old. does q old ∙ ap (λ b. when b (new old)) e) (on-attributes q) (on-acl q))
+
+        -- or other attributes
+        attribute-charges : (bytes : List ℕ) → ((q : ObjectId) → is_deleted q request ≡ false) → ((q : ObjectId) (old : List ℕ) → data_effect q request old ≡ None)
+            → ((q : ObjectId) (old : List ℕ) → attribute_effect q request old ≡ when (same_object o q) bytes) → ((q : ObjectId) (old : List AclEntry) → acl_effect q request old ≡ None)
+            → unbinding_weight f m request ≡ 0 → made_past h m request ≡ attribute_track.cost (attributes_of o m h) ∷ [] → Charges f h r
+        attribute-charges bytes undeleted on-data does on-acl unbinding past =
+            one-charges unbinding
+            (let a = keeps data_track (undeleted o) (on-data o) in
+            let b = put-adds attribute_track attributes-now (undeleted o) bytes (does o attributes-now.newest.value ∙ ap (λ b. when b bytes) (object_self o)) in
+            let c = keeps acl_track (undeleted o) (on-acl o) in
+            let freed = freed-nothing in
+            let charge = ap (sum_by (f m)) past ∙ one (attribute_track.cost (attributes_of o m h)) in
+            omega (arith, a, b, c, freed, charge))
+            (λ q e. apart q (undeleted q) (on-data q) (λ old. does q old ∙ ap (λ b. when b bytes) e) (on-acl q))
+
+        -- or another ACL
+        acl-charges : (new : List AclEntry → List AclEntry) → ((q : ObjectId) → is_deleted q request ≡ false) → ((q : ObjectId) (old : List ℕ) → data_effect q request old ≡ None)
+            → ((q : ObjectId) (old : List ℕ) → attribute_effect q request old ≡ None) → ((q : ObjectId) (old : List AclEntry) → acl_effect q request old ≡ when (same_object o q) (new old))
+            → unbinding_weight f m request ≡ 0 → made_past h m request ≡ acl_track.cost (acl_of o m h) ∷ [] → Charges f h r
+        acl-charges new undeleted on-data on-attributes does unbinding past =
+            one-charges unbinding
+            (let a = keeps data_track (undeleted o) (on-data o) in
+            let b = keeps attribute_track (undeleted o) (on-attributes o) in
+            let c = put-adds acl_track acl-now (undeleted o) (new acl-now.newest.value) (does o acl-now.newest.value ∙ ap (λ b. when b (new acl-now.newest.value)) (object_self o)) in
+            let freed = freed-nothing in
+            let charge = ap (sum_by (f m)) past ∙ one (acl_track.cost (acl_of o m h)) in
+            omega (arith, a, b, c, freed, charge))
+            (λ q e. apart q (undeleted q) (on-data q) (on-attributes q) (λ old. does q old ∙ ap (λ b. when b (new old)) e))
+
+        -- it ends the object
+        delete-charges : ((q : ObjectId) → is_deleted q request ≡ same_object o q) → ((q : ObjectId) (old : List ℕ) → data_effect q request old ≡ None) → ((q : ObjectId) (old : List ℕ) → attribute_effect q request old ≡ None)
+            → ((q : ObjectId) (old : List AclEntry) → acl_effect q request old ≡ None) → unbinding_weight f m request ≡ 0
+            → made_past h m request ≡ data_track.cost (data_of o m h) ∷ attribute_track.cost (attributes_of o m h) ∷ acl_track.cost (acl_of o m h) ∷ [] → Charges f h r
+        delete-charges deleting on-data on-attributes on-acl unbinding past =
+            one-charges unbinding
+            (let gone : is_deleted o request ≡ true = deleting o ∙ object_self o in
+            let a = end-adds data_track data-now gone in
+            let b = end-adds attribute_track attributes-now gone in
+            let c = end-adds acl_track acl-now gone in
+            let freed = freed-nothing in
+            let charge = ap (sum_by (f m)) past ∙ three (data_track.cost (data_of o m h)) (attribute_track.cost (attributes_of o m h)) (acl_track.cost (acl_of o m h)) in
+            omega (arith, a, b, c, freed, charge))
+            (λ q e. apart q (deleting q ∙ e) (on-data q) (on-attributes q) (on-acl q))
+          where
+            three : (x y z : ℕ) → sum_by (f m) (x ∷ y ∷ z ∷ []) ≡ f m x + f m y + f m z
+            three x y z =
+                let first : sum_by (f m) (x ∷ y ∷ z ∷ []) ≡ f m x + sum_by (f m) (y ∷ z ∷ []) = sum_by-cons (f m) x (y ∷ z ∷ []) in
+                let second : sum_by (f m) (y ∷ z ∷ []) ≡ f m y + sum_by (f m) (z ∷ []) = sum_by-cons (f m) y (z ∷ []) in
+                let third = one z in
+                omega (arith, first, second, third)
+
+  module _ {base : Base} (s : IsSound h) (granted : is_refused reply ≡ false) where
+    module _ (number : ℕ) (n : IsNext base h (by (Create number))) where
+      abbrev creation : Record
+      creation = by (Create number)
+
+      abbrev purse : Purse
+      purse = record { creator = caller.who; number = number }
+
+      abbrev o : ObjectId
+      o = object_in purse (drawn purse h + 1)
+
+      told-made : reply ≡ Made o
+      told-made = told-accepted n granted ∙ ap (λ b. reply_of (refuse_if b NamesSpent >> Ok (Made o))) (passes_test (nat_le 65535 (drawn purse h)) NamesSpent (Ok (Made o)) (accepted-by-kind n granted)).0
+
+      its-purse : (p : Purse) → concerns p creation ≡ same_purse purse p
+      its-purse p = ap (λ b. (not b && true) && same_purse purse p) granted
+
+      makes-it : (q : ObjectId) → makes q creation ≡ (concerns q.purse creation && same_object o q)
+      makes-it q = ap (λ (x : Reply). concerns q.purse creation && is_made q x) told-made
+
+      no-span : (q : ObjectId) → span_by q creation ≡ None
+      no-span q = either (concerns q.purse creation) None
+
+      first-on : {V : Type 0} (Fits : V → Type 0) (track : Track V) → TrackStands Fits o h (versions track o h) → track_weight f track (versions track o (h ++ creation ∷ [])) ≡ 0
+      first-on Fits track stands =
+          let here : concerns purse creation ≡ true = its-purse purse ∙ purse_self purse in
+          let made : makes o creation ≡ true = makes-it o ∙ ap (λ b. b && same_object o o) here ∙ object_self o in
+          ap (track_weight f track) (made-first h creation track o here refl made ∙ ap (λ values. begun m (track.start o) ∷ values) (unmade Fits track o h stands new))
+          ∙ first-weight f track m (track.start o)
+        where
+          new : was_made o h ≡ false
+          new = by_test (was_made o h)
+              (λ e. let low : drawn purse h + 1 ≤ drawn purse h = s.named o e in absurd (omega (arith, low)))
+              (λ e. e)
+
+      create-charges : Charges f h creation
+      create-charges p =
+          let fresh : object_weight f (h ++ creation ∷ []) o ≡ 0 = fresh-weight in
+          let same = purse-made f h creation o draws-it refl fresh elsewhere (λ p. either (concerns p creation) 0) p in
+          let freed = freed_weight-none f p h creation (λ serial. no-span (object_in p serial)) in
+          let charge : (if concerns p creation then sum_by (f m) (made_past h m (Create number)) else 0) ≡ 0 = either (concerns p creation) 0 in
+          omega (arith, same, freed, charge)
+        where
+          draws-it : (p : Purse) → drawn p (h ++ creation ∷ []) ≡ drawn p h + (if same_purse purse p then 1 else 0)
+          draws-it p = drawn-snoc p h creation ∙ ap (λ b. drawn p h + cond b 1 0) (&&-true (concerns p creation) ∙ its-purse p)
+
+          fresh-weight : object_weight f (h ++ creation ∷ []) o ≡ 0
+          fresh-weight =
+              let a = first-on DataFits data_track (s.tracks o which.Data) in
+              let b = first-on AttributesFit attribute_track (s.tracks o which.Attributes) in
+              let c = first-on AclFits acl_track (s.tracks o which.Acl) in
+              omega (arith, a, b, c)
+
+          elsewhere : (q : ObjectId) → same_object o q ≡ false → object_weight f (h ++ creation ∷ []) q ≡ object_weight f h q
+          elsewhere q e =
+              let old : makes q creation ≡ false = makes-it q ∙ ap (λ b. concerns q.purse creation && b) e ∙ &&-false (concerns q.purse creation) in
+              let deleted : deletes q creation ≡ false = &&-false (concerns q.purse creation) in
+              let a = ap (track_weight f data_track) (versions-idle data_track q h creation old deleted refl (λ x. refl)) in
+              let b = ap (track_weight f attribute_track) (versions-idle attribute_track q h creation old deleted refl (λ x. refl)) in
+              let c = ap (track_weight f acl_track) (versions-idle acl_track q h creation old deleted refl (λ x. refl)) in
+              omega (arith, a, b, c)
+
+    -- a request that changes no object, and ends no binding
+    quiet : (request : Request) → IsNext base h (by request) → is_create request ≡ false → ((q : ObjectId) → is_deleted q request ≡ false) → ((q : ObjectId) (old : List ℕ) → data_effect q request old ≡ None)
+        → ((q : ObjectId) (old : List ℕ) → attribute_effect q request old ≡ None) → ((q : ObjectId) (old : List AclEntry) → acl_effect q request old ≡ None) → unbinding_weight f m request ≡ 0 → made_past h m request ≡ [] → Charges f h (by request)
+    quiet request n kind undeleted on-data on-attributes on-acl none past = still-charges s granted request n kind undeleted on-data on-attributes on-acl (none ∙ sym (ap (sum_by (f m)) past))
+
+    by-kind : (request : Request) → IsNext base h (by request) → Charges f h (by request)
+    by-kind (Create number) n = create-charges number n
+    by-kind (Delete o) n = delete-charges s granted (Delete o) n refl o refl refl (λ p. refl) (λ q. refl) (λ q. refl) (λ q old. refl) (λ q old. refl) (λ q old. refl) refl refl
+    by-kind (Read o offset length at) n = quiet (Read o offset length at) n refl (λ q. refl) (λ q old. refl) (λ q old. refl) (λ q old. refl) refl refl
+    by-kind (Write o offset bytes) n = data-charges s granted (Write o offset bytes) n refl o refl refl (λ p. refl) (λ q. refl) (written offset bytes) (λ q. refl) (λ q old. refl) (λ q old. refl) (λ q old. refl) refl refl
+    by-kind (Append o bytes) n = data-charges s granted (Append o bytes) n refl o refl refl (λ p. refl) (λ q. refl) (λ old. old ++ bytes) (λ q. refl) (λ q old. refl) (λ q old. refl) (λ q old. refl) refl refl
+    by-kind (Truncate o length) n = data-charges s granted (Truncate o length) n refl o refl refl (λ p. refl) (λ q. refl) (of_length length) (λ q. refl) (λ q old. refl) (λ q old. refl) (λ q old. refl) refl refl
+    by-kind (GetAttr o at) n = quiet (GetAttr o at) n refl (λ q. refl) (λ q old. refl) (λ q old. refl) (λ q old. refl) refl refl
+    by-kind (SetAttr o bytes) n = attribute-charges s granted (SetAttr o bytes) n refl o refl refl (λ p. refl) (λ q. refl) bytes (λ q. refl) (λ q old. refl) (λ q old. refl) (λ q old. refl) refl refl
+    by-kind (GetAclByUser o user at) n = quiet (GetAclByUser o user at) n refl (λ q. refl) (λ q old. refl) (λ q old. refl) (λ q old. refl) refl refl
+    by-kind (GetAclByIndex o index at) n = quiet (GetAclByIndex o index at) n refl (λ q. refl) (λ q old. refl) (λ q old. refl) (λ q old. refl) refl refl
+    by-kind (SetAcl o user rights) n = acl-charges s granted (SetAcl o user rights) n refl o refl refl (λ p. refl) (λ q. refl) (acl_with user rights) (λ q. refl) (λ q old. refl) (λ q old. refl) (λ q old. refl) refl refl
+    by-kind (PCreate name o) n = quiet (PCreate name o) n refl (λ q. refl) (λ q old. refl) (λ q old. refl) (λ q old. refl) refl refl
+    by-kind (PDelete purse name) n = still-charges s granted (PDelete purse name) n refl (λ q. refl) (λ q old. refl) (λ q old. refl) (λ q old. refl) (sym (sum_by-cons (f m) (binding_cost name) [] ∙ add-zero (f m (binding_cost name))))
+    by-kind (PList range after at) n = quiet (PList range after at) n refl (λ q. refl) (λ q old. refl) (λ q old. refl) (λ q old. refl) refl refl
+    by-kind (PMount purse name at) n = quiet (PMount purse name at) n refl (λ q. refl) (λ q old. refl) (λ q old. refl) (λ q old. refl) refl refl
+    by-kind (Flush from to) n = quiet (Flush from to) n refl (λ q. refl) (λ q old. refl) (λ q old. refl) (λ q old. refl) refl refl
+    by-kind (FlushO o from to) n = quiet (FlushO o from to) n refl (λ q. refl) (λ q old. refl) (λ q old. refl) (λ q old. refl) refl refl
+    by-kind (SetWindow ticks) n = quiet (SetWindow ticks) n refl (λ q. refl) (λ q old. refl) (λ q old. refl) (λ q old. refl) refl refl
+    by-kind (SetBudget purse budget) n = quiet (SetBudget purse budget) n refl (λ q. refl) (λ q old. refl) (λ q old. refl) (λ q old. refl) refl refl
+    by-kind (ReadAudit range skip) n = quiet (ReadAudit range skip) n refl (λ q. refl) (λ q old. refl) (λ q old. refl) (λ q old. refl) refl refl
+
+pub charges : (f : ℕ → ℕ → ℕ) {base : Base} {h : List Record} {r : Record} → IsSound h → IsNext base h r → Charges f h r
+charges f {base} {h} {r} s n = by_test (is_refused r.reply)
+    (λ e. idle-charges f h r.moment r.caller r.reply r.request (λ p. ap (λ b. (not b && not (only_reads r.request)) && (is_wide r.caller r.request || is_about p r.caller r.request)) e))
+    (λ e. by-kind f h r.moment r.caller r.reply s e r.request n)
+
+-- WHAT IS TAKEN BACK
+
+-- a record that is no flush takes nothing back
+pub plain-frees-none : (f : ℕ → ℕ → ℕ) (p : Purse) (h : List Record) (r : Record) → ((q : ObjectId) → span_of q r.request ≡ None) → freed_weight f p h r ≡ 0
+plain-frees-none f p h r plain = freed_weight-none f p h r (λ serial. ap (λ (span : Option Span). cond (concerns p r) span None) (plain (object_in p serial)) ∙ either (concerns p r) None)
+
+-- nor does one that doesn't concern the purse, as a refused one
+pub idle-frees-none : (f : ℕ → ℕ → ℕ) (p : Purse) (h : List Record) (r : Record) → concerns p r ≡ false → freed_weight f p h r ≡ 0
+idle-frees-none f p h r idle = freed_weight-none f p h r (λ serial. ap (λ b. if b then span_of (object_in p serial) r.request else None) idle)
+
+-- a record that charges nothing, as a flush is, leaves what it doesn't take back
+pub flush-frees : (f : ℕ → ℕ → ℕ) {base : Base} {h : List Record} {r : Record} → IsSound h → IsNext base h r → made_past h r.moment r.request ≡ []
+    → (p : Purse) → purse_weight f p (h ++ r ∷ []) + freed_weight f p h r ≡ purse_weight f p h
+flush-frees f {base} {h} {r} s n none p =
+    charges f s n p
+    ∙ ap (λ d. purse_weight f p h + cond (concerns p r) d 0) (ap (sum_by (f r.moment)) none)
+    ∙ ap (λ d. purse_weight f p h + d) (either (concerns p r) 0)
+    ∙ add-zero (purse_weight f p h)
+
+-- of an object that wasn't made nothing is taken back
+pub unmade-freed : (f : ℕ → ℕ → ℕ) {h : List Record} (r : Record) → IsSound h → (o : ObjectId) → was_made o h ≡ false → object_freed f h r o ≡ 0
+unmade-freed f {h} r s o new =
+    let a = ap (track_freed f data_track o r) (unmade DataFits data_track o h (s.tracks o which.Data) new) in
+    let b = ap (track_freed f attribute_track o r) (unmade AttributesFit attribute_track o h (s.tracks o which.Attributes) new) in
+    omega (arith, a, b)
+
+-- a flush of one object takes back what it erases there
+pub one-freed : (f : ℕ → ℕ → ℕ) {h : List Record} (r : Record) → IsSound h → (o : ObjectId) (from to : ℕ) → r.request ≡ FlushO o from to
+    → (p : Purse) → freed_weight f p h r ≡ (if same_purse o.purse p then object_freed f h r o else 0)
+one-freed f {h} r s o from to asked p = by_test (was_made o h)
+    (λ made. sum_to-cong (drawn p h) (λ k. object_freed f h r (object_in p k)) (λ k. if same_object o (object_in p k) then object_freed f h r o else 0) (λ k l. part (object_in p k))
+    ∙ share-sum o (object_freed f h r o) p (drawn p h) (λ e. subst (λ x. o.serial ≤ drawn x h) (purse_is o.purse p e) (s.named o made)))
+    (λ new. let none : object_freed f h r o ≡ 0 = unmade-freed f r s o new in
+    sum_to-zero (drawn p h) (λ k. object_freed f h r (object_in p k)) (λ k l. part (object_in p k) ∙ ap (λ d. cond (same_object o (object_in p k)) d 0) none ∙ either (same_object o (object_in p k)) 0)
+    ∙ sym (ap (λ d. cond (same_purse o.purse p) d 0) none ∙ either (same_purse o.purse p) 0))
+  where
+    part : (q : ObjectId) → object_freed f h r q ≡ (if same_object o q then object_freed f h r o else 0)
+    part q = by_test (same_object o q)
+        (λ e. ap (object_freed f h r) (sym (object_is o q e)) ∙ sym (ap (λ b. cond b (object_freed f h r o) 0) e))
+        (λ e. object-freed-none f h r q (ap (λ (request : Request). cond (concerns q.purse r) (span_of q request) None) asked
+        ∙ ap (λ b. cond (concerns q.purse r) (when b (record { from = from; to = to })) None) e ∙ either (concerns q.purse r) None)
+        ∙ sym (ap (λ b. cond b (object_freed f h r o) 0) e))

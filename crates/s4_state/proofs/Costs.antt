@@ -11,8 +11,8 @@ use Rattle.s4_types.specs.Answer.{value_or_empty, data_of, attributes_of, acl_of
 use Rattle.s4_types.specs.Play.{last_of}
 use Rattle.s4_types.specs.Versions.{Track, Value, versions, value_at, lives_at, data_track, attribute_track, acl_track}
 use Rattle.s4_types.proofs.Booleans.{by_test, both}
-use Rattle.s4_state.specs.declared.objects.Which.{Which}
-use Rattle.s4_state.specs.declared.objects.Which.TheVariants as which
+use Rattle.s4_objects.specs.declared.kept.Which.{Which}
+use Rattle.s4_objects.specs.declared.kept.Which.TheVariants as which
 use Rattle.s4_state.specs.Laid.{version_of, version_at}
 use Rattle.s4_state.specs.Sound.{IsSound, TrackStands, DataFits, AttributesFit, AclFits, was_made, was_deleted}
 use Rattle.s4_state.specs.Weights.{cost_now}

@@ -15,7 +15,7 @@ use Rattle.s4_types.specs.declared.version.Item.{Item}
 use Rattle.s4_types.specs.declared.version.Item.TheVariants as item
 use Rattle.s4_types.specs.Names.{same_purse, same_object, object_in}
 use Rattle.s4_types.specs.Kinds.{is_refused, is_create, concerns}
-use Rattle.s4_types.specs.Versions.{Track, Value, versions, with_effect, makes, deletes, is_made, is_deleted, lives_at, when, data_track, attribute_track, acl_track, of_length, written}
+use Rattle.s4_types.specs.Versions.{Track, Value, versions, span_of, with_effect, makes, deletes, is_made, is_deleted, lives_at, when, data_track, attribute_track, acl_track, of_length, written}
 use Rattle.s4_types.specs.Versions as model
 use Rattle.s4_types.specs.Bindings.{rebound, named_by}
 use Rattle.s4_types.specs.Outcome.{◌>>◌, refuse_if, reply_of}
@@ -29,13 +29,14 @@ use Rattle.s4_types.specs.declared.rights.Right.TheVariants as right
 use Rattle.s4_types.proofs.Outcomes.{passes_judgement}
 use Rattle.s4_types.proofs.Booleans.{by_test, both, &&-true, &&-false}
 use Rattle.s4_types.proofs.SameNames.{purse_self, object_self, object_is}
+use Rattle.s4_types.proofs.Erasing.{plain-change}
 use Rattle.s4_types.proofs.Snoc.{versions-snoc}
 use Rattle.s4_tracks.specs.Chain.{begun, end_at, ended, with_end, with_put, cost_of}
 use Rattle.s4_tracks.proofs.Ending.{with_end-snoc}
-use Rattle.s4_state.specs.declared.objects.Which.{Which}
-use Rattle.s4_state.specs.declared.objects.Which.TheVariants as which
-use Rattle.s4_state.specs.Chains.{same_which}
-use Rattle.s4_state.specs.Laid.{version_of, laid, versions_on}
+use Rattle.s4_objects.specs.declared.kept.Which.{Which}
+use Rattle.s4_objects.specs.declared.kept.Which.TheVariants as which
+use Rattle.s4_objects.specs.Chains.{same_which}
+use Rattle.s4_state.specs.Laid.{item_of, version_of, laid, versions_on}
 use Rattle.s4_state.specs.Sound.{IsSound, IsNext, IsTrack, TrackStands, DataFits, AttributesFit, AclFits, was_made, was_deleted}
 use Rattle.s4_state.specs.Stands.{MakesNone, RebindsNone, PutsOn, EndsAll}
 use Rattle.s4_state.proofs.Granting.{told, told-asked, accepted-asked, changed_by, changed-lives, changed-done, data-fit}
@@ -72,7 +73,7 @@ module _ {V : Type 0} (track : Track V) (wrap : V → Item) (cost : (x : V) → 
   begun-laid m x = ap (λ n. record { begin = m; end = None; item = Some (wrap x); cost = n }) (sym (cost x))
 
   ended-laid : (m : ℕ) (v : Value V) → v.end ≡ None → version_of track wrap (model.ended m v) ≡ ended m (version_of track wrap v)
-  ended-laid m v e = ap (λ x. record { begin = v.begin; end = x; item = Some (wrap v.value); cost = track.cost v.value }) (sym (ap (end_at m) e))
+  ended-laid m v e = ap (λ x. record { begin = v.begin; end = x; item = item_of wrap v; cost = track.cost v.value }) (sym (ap (end_at m) e))
 
   pub laid-end : (m : ℕ) (v : Value V) (past : List (Value V)) → v.end ≡ None → laid track wrap (model.ended m v ∷ past) ≡ with_end m (laid track wrap (v ∷ past))
   laid-end m v past e = ap (λ w. laid track wrap past ++ w ∷ []) (ended-laid m v e) ∙ sym (with_end-snoc m (laid track wrap past) (version_of track wrap v))
@@ -99,62 +100,65 @@ module _ (h : List Record) (r : Record) (o : ObjectId) (about : (p : Purse) → 
     draws_none = λ p. ap (λ b. concerns p r && b) kind ∙ &&-false (concerns p r);
   }
 
-  module _ {V : Type 0} (track : Track V) (q : ObjectId) where
-    vs : List (Value V)
-    vs = versions track q h
+  -- where it is no flush
+  module _ (plain : (q : ObjectId) → span_of q r.request ≡ None) where
+    module _ {V : Type 0} (track : Track V) (q : ObjectId) where
+      vs : List (Value V)
+      vs = versions track q h
 
-    changed : versions track q (h ++ r ∷ []) ≡ cond (same_purse o.purse q.purse) (cond (deletes q r) (model.with_end r.moment (versions track q h)) (with_effect r.moment (track.effect q r.request) (versions track q h))) (versions track q h)
-    changed = versions-snoc track q h r
-        ∙ ap (λ b. if concerns q.purse r then (if b then model.begun r.moment (track.start q) ∷ versions track q h else (if deletes q r then model.with_end r.moment (versions track q h) else with_effect r.moment (track.effect q r.request) (versions track q h))) else versions track q h) (makes-none.makes_none q)
-        ∙ ap (λ b. cond b (cond (deletes q r) (model.with_end r.moment (versions track q h)) (with_effect r.moment (track.effect q r.request) (versions track q h))) (versions track q h)) (about q.purse)
+      changed : versions track q (h ++ r ∷ []) ≡ cond (same_purse o.purse q.purse) (cond (deletes q r) (model.with_end r.moment (versions track q h)) (with_effect r.moment (track.effect q r.request) (versions track q h))) (versions track q h)
+      changed = versions-snoc track q h r
+          ∙ ap (λ values. if concerns q.purse r then values else versions track q h) (plain-change track q r (versions track q h) (plain q))
+          ∙ ap (λ b. if concerns q.purse r then (if b then model.begun r.moment (track.start q) ∷ versions track q h else (if deletes q r then model.with_end r.moment (versions track q h) else with_effect r.moment (track.effect q r.request) (versions track q h))) else versions track q h) (makes-none.makes_none q)
+          ∙ ap (λ b. cond b (cond (deletes q r) (model.with_end r.moment (versions track q h)) (with_effect r.moment (track.effect q r.request) (versions track q h))) (versions track q h)) (about q.purse)
 
-    -- it deletes nothing
-    effected : is_deleted q r.request ≡ false → versions track q (h ++ r ∷ []) ≡ cond (same_purse o.purse q.purse) (with_effect r.moment (track.effect q r.request) (versions track q h)) (versions track q h)
-    effected e = changed ∙ ap (λ b. cond (same_purse o.purse q.purse) (cond (concerns q.purse r && b) (model.with_end r.moment (versions track q h)) (with_effect r.moment (track.effect q r.request) (versions track q h))) (versions track q h)) e
-        ∙ ap (λ b. cond (same_purse o.purse q.purse) (cond b (model.with_end r.moment (versions track q h)) (with_effect r.moment (track.effect q r.request) (versions track q h))) (versions track q h)) (&&-false (concerns q.purse r))
+      -- it deletes nothing
+      effected : is_deleted q r.request ≡ false → versions track q (h ++ r ∷ []) ≡ cond (same_purse o.purse q.purse) (with_effect r.moment (track.effect q r.request) (versions track q h)) (versions track q h)
+      effected e = changed ∙ ap (λ b. cond (same_purse o.purse q.purse) (cond (concerns q.purse r && b) (model.with_end r.moment (versions track q h)) (with_effect r.moment (track.effect q r.request) (versions track q h))) (versions track q h)) e
+          ∙ ap (λ b. cond (same_purse o.purse q.purse) (cond b (model.with_end r.moment (versions track q h)) (with_effect r.moment (track.effect q r.request) (versions track q h))) (versions track q h)) (&&-false (concerns q.purse r))
 
-    -- and changes nothing on this track
-    pub idle : is_deleted q r.request ≡ false → ((old : V) → track.effect q r.request old ≡ None) → versions track q (h ++ r ∷ []) ≡ versions track q h
-    idle e none = effected e ∙ either-same (same_purse o.purse q.purse) _ _ (ap (λ effect. with_effect r.moment effect (versions track q h)) (λ i old. none old i) ∙ effect-none r.moment (versions track q h))
+      -- and changes nothing on this track
+      pub idle : is_deleted q r.request ≡ false → ((old : V) → track.effect q r.request old ≡ None) → versions track q (h ++ r ∷ []) ≡ versions track q h
+      idle e none = effected e ∙ either-same (same_purse o.purse q.purse) _ _ (ap (λ effect. with_effect r.moment effect (versions track q h)) (λ i old. none old i) ∙ effect-none r.moment (versions track q h))
 
-  module _ {V : Type 0} {Fits : V → Type 0} (track : Track V) (wrap : V → Item) (cost : (x : V) → cost_of (wrap x) ≡ track.cost x) (live : IsLive Fits (versions track o h)) where
-    -- a value is put in the place of another
-    module _ (f : V → V) (undeleted : (q : ObjectId) → is_deleted q r.request ≡ false) (does : (q : ObjectId) (old : V) → track.effect q r.request old ≡ when (same_object o q) (f old)) where
-      put-here : laid track wrap (versions track o (h ++ r ∷ [])) ≡ with_put r.moment (wrap (f live.newest.value)) (laid track wrap (versions track o h))
-      put-here =
-          let next : versions track o (h ++ r ∷ []) ≡ model.begun r.moment (f live.newest.value) ∷ model.ended r.moment live.newest ∷ live.past
-          = effected track o (undeleted o)
-          ∙ ap (λ b. cond b (with_effect r.moment (track.effect o r.request) (versions track o h)) (versions track o h)) (purse_self o.purse)
-          ∙ ap (λ effect. with_effect r.moment effect (versions track o h)) (λ i old. does o old i)
-          ∙ ap (λ b. with_effect r.moment (λ old. when b (f old)) (versions track o h)) (object_self o)
-          ∙ ap (with_effect r.moment (λ old. Some (f old))) live.whole in
-          ap (laid track wrap) next ∙ laid-put track wrap cost r.moment (f live.newest.value) live.newest live.past live.current
-          ∙ ap (λ values. with_put r.moment (wrap (f live.newest.value)) (laid track wrap values)) (sym live.whole)
+    module _ {V : Type 0} {Fits : V → Type 0} (track : Track V) (wrap : V → Item) (cost : (x : V) → cost_of (wrap x) ≡ track.cost x) (live : IsLive Fits (versions track o h)) where
+      -- a value is put in the place of another
+      module _ (f : V → V) (undeleted : (q : ObjectId) → is_deleted q r.request ≡ false) (does : (q : ObjectId) (old : V) → track.effect q r.request old ≡ when (same_object o q) (f old)) where
+        put-here : laid track wrap (versions track o (h ++ r ∷ [])) ≡ with_put r.moment (wrap (f live.newest.value)) (laid track wrap (versions track o h))
+        put-here =
+            let next : versions track o (h ++ r ∷ []) ≡ model.begun r.moment (f live.newest.value) ∷ model.ended r.moment live.newest ∷ live.past
+            = effected track o (undeleted o)
+            ∙ ap (λ b. cond b (with_effect r.moment (track.effect o r.request) (versions track o h)) (versions track o h)) (purse_self o.purse)
+            ∙ ap (λ effect. with_effect r.moment effect (versions track o h)) (λ i old. does o old i)
+            ∙ ap (λ b. with_effect r.moment (λ old. when b (f old)) (versions track o h)) (object_self o)
+            ∙ ap (with_effect r.moment (λ old. Some (f old))) live.whole in
+            ap (laid track wrap) next ∙ laid-put track wrap cost r.moment (f live.newest.value) live.newest live.past live.current
+            ∙ ap (λ values. with_put r.moment (wrap (f live.newest.value)) (laid track wrap values)) (sym live.whole)
 
-      put-typed : (q : ObjectId) → laid track wrap (versions track q (h ++ r ∷ [])) ≡ (if same_object o q then with_put r.moment (wrap (f live.newest.value)) (laid track wrap (versions track q h)) else laid track wrap (versions track q h))
-      put-typed q = by_test (same_object o q)
-          (λ e. subst (λ p. laid track wrap (versions track p (h ++ r ∷ [])) ≡ with_put r.moment (wrap (f live.newest.value)) (laid track wrap (versions track p h))) (object_is o q e) put-here
-          ∙ sym (ap (λ b. if b then with_put r.moment (wrap (f live.newest.value)) (laid track wrap (versions track q h)) else laid track wrap (versions track q h)) e))
-          (λ e. ap (laid track wrap) (idle track q (undeleted q) (λ old. does q old ∙ ap (λ b. when b (f old)) e))
-          ∙ sym (ap (λ b. if b then with_put r.moment (wrap (f live.newest.value)) (laid track wrap (versions track q h)) else laid track wrap (versions track q h)) e))
+        put-typed : (q : ObjectId) → laid track wrap (versions track q (h ++ r ∷ [])) ≡ (if same_object o q then with_put r.moment (wrap (f live.newest.value)) (laid track wrap (versions track q h)) else laid track wrap (versions track q h))
+        put-typed q = by_test (same_object o q)
+            (λ e. subst (λ p. laid track wrap (versions track p (h ++ r ∷ [])) ≡ with_put r.moment (wrap (f live.newest.value)) (laid track wrap (versions track p h))) (object_is o q e) put-here
+            ∙ sym (ap (λ b. if b then with_put r.moment (wrap (f live.newest.value)) (laid track wrap (versions track q h)) else laid track wrap (versions track q h)) e))
+            (λ e. ap (laid track wrap) (idle track q (undeleted q) (λ old. does q old ∙ ap (λ b. when b (f old)) e))
+            ∙ sym (ap (λ b. if b then with_put r.moment (wrap (f live.newest.value)) (laid track wrap (versions track q h)) else laid track wrap (versions track q h)) e))
 
-    -- the object ends
-    module _ (deleting : (q : ObjectId) → is_deleted q r.request ≡ same_object o q) (none : (q : ObjectId) (old : V) → track.effect q r.request old ≡ None) where
-      end-here : laid track wrap (versions track o (h ++ r ∷ [])) ≡ with_end r.moment (laid track wrap (versions track o h))
-      end-here =
-          let deleted : deletes o r ≡ true = ap (λ b. concerns o.purse r && b) (deleting o ∙ object_self o) ∙ &&-true (concerns o.purse r) ∙ about o.purse ∙ purse_self o.purse in
-          ap (laid track wrap) (changed track o
-          ∙ ap (λ b. cond b (cond (deletes o r) (model.with_end r.moment (versions track o h)) (with_effect r.moment (track.effect o r.request) (versions track o h))) (versions track o h)) (purse_self o.purse)
-          ∙ ap (λ b. cond b (model.with_end r.moment (versions track o h)) (with_effect r.moment (track.effect o r.request) (versions track o h))) deleted
-          ∙ ap (model.with_end r.moment) live.whole)
-          ∙ laid-end track wrap cost r.moment live.newest live.past live.current ∙ ap (λ values. with_end r.moment (laid track wrap values)) (sym live.whole)
+      -- the object ends
+      module _ (deleting : (q : ObjectId) → is_deleted q r.request ≡ same_object o q) (none : (q : ObjectId) (old : V) → track.effect q r.request old ≡ None) where
+        end-here : laid track wrap (versions track o (h ++ r ∷ [])) ≡ with_end r.moment (laid track wrap (versions track o h))
+        end-here =
+            let deleted : deletes o r ≡ true = ap (λ b. concerns o.purse r && b) (deleting o ∙ object_self o) ∙ &&-true (concerns o.purse r) ∙ about o.purse ∙ purse_self o.purse in
+            ap (laid track wrap) (changed track o
+            ∙ ap (λ b. cond b (cond (deletes o r) (model.with_end r.moment (versions track o h)) (with_effect r.moment (track.effect o r.request) (versions track o h))) (versions track o h)) (purse_self o.purse)
+            ∙ ap (λ b. cond b (model.with_end r.moment (versions track o h)) (with_effect r.moment (track.effect o r.request) (versions track o h))) deleted
+            ∙ ap (model.with_end r.moment) live.whole)
+            ∙ laid-end track wrap cost r.moment live.newest live.past live.current ∙ ap (λ values. with_end r.moment (laid track wrap values)) (sym live.whole)
 
-      end-typed : (q : ObjectId) → laid track wrap (versions track q (h ++ r ∷ [])) ≡ (if same_object o q then with_end r.moment (laid track wrap (versions track q h)) else laid track wrap (versions track q h))
-      end-typed q = by_test (same_object o q)
-          (λ e. subst (λ p. laid track wrap (versions track p (h ++ r ∷ [])) ≡ with_end r.moment (laid track wrap (versions track p h))) (object_is o q e) end-here
-          ∙ sym (ap (λ b. if b then with_end r.moment (laid track wrap (versions track q h)) else laid track wrap (versions track q h)) e))
-          (λ e. ap (laid track wrap) (idle track q (deleting q ∙ e) (none q))
-          ∙ sym (ap (λ b. if b then with_end r.moment (laid track wrap (versions track q h)) else laid track wrap (versions track q h)) e))
+        end-typed : (q : ObjectId) → laid track wrap (versions track q (h ++ r ∷ [])) ≡ (if same_object o q then with_end r.moment (laid track wrap (versions track q h)) else laid track wrap (versions track q h))
+        end-typed q = by_test (same_object o q)
+            (λ e. subst (λ p. laid track wrap (versions track p (h ++ r ∷ [])) ≡ with_end r.moment (laid track wrap (versions track p h))) (object_is o q e) end-here
+            ∙ sym (ap (λ b. if b then with_end r.moment (laid track wrap (versions track q h)) else laid track wrap (versions track q h)) e))
+            (λ e. ap (laid track wrap) (idle track q (deleting q ∙ e) (none q))
+            ∙ sym (ap (λ b. if b then with_end r.moment (laid track wrap (versions track q h)) else laid track wrap (versions track q h)) e))
 
 -- a test that a second test of tracks doesn't pass
 else-both : {A : Type 0} (b : Bool) (x y z : A) → z ≡ y → z ≡ (if b && false then x else y)
@@ -216,41 +220,41 @@ module _ (h : List Record) (t : ℕ) (caller : Caller) (o : ObjectId) where
   done request = record { moment = t; caller = caller; request = request; reply = Done }
 
   puts-data : (request : Request) (f : List ℕ → List ℕ) (live : IsLive DataFits (versions data_track o h))
-      → ((p : Purse) → concerns p (done request) ≡ same_purse o.purse p) → is_create request ≡ false → ((q : ObjectId) → is_deleted q request ≡ false)
+      → ((p : Purse) → concerns p (done request) ≡ same_purse o.purse p) → is_create request ≡ false → ((q : ObjectId) → span_of q request ≡ None) → ((q : ObjectId) → is_deleted q request ≡ false)
       → ((q : ObjectId) (old : List ℕ) → model.data_effect q request old ≡ when (same_object o q) (f old))
       → ((q : ObjectId) (old : List ℕ) → model.attribute_effect q request old ≡ None) → ((q : ObjectId) (old : List AclEntry) → model.acl_effect q request old ≡ None)
       → RebindsNone (done request)
       → PutsOn h (done request) o which.Data (item.Data (f live.newest.value))
-  puts-data request f live about kind undeleted does none keeps rebinds = record { makes = makes-none h (done request) o about (λ q. refl) kind; rebinds = rebinds; tracks = tracks }
+  puts-data request f live about kind plain undeleted does none keeps rebinds = record { makes = makes-none h (done request) o about (λ q. refl) kind; rebinds = rebinds; tracks = tracks }
     where
       tracks : (q : ObjectId) (u : Which) → versions_on u q (h ++ done request ∷ []) ≡ (if same_object o q && same_which which.Data u then with_put t (item.Data (f live.newest.value)) (versions_on u q h) else versions_on u q h)
-      tracks q which.Data = then-both (same_object o q) _ _ _ (put-typed h (done request) o about (λ q. refl) kind data_track item.Data (λ x. refl) live f undeleted does q)
-      tracks q which.Attributes = else-both (same_object o q) _ _ _ (ap (laid attribute_track item.Attr) (idle h (done request) o about (λ q. refl) kind attribute_track q (undeleted q) (none q)))
-      tracks q which.Acl = else-both (same_object o q) _ _ _ (ap (laid acl_track item.Acl) (idle h (done request) o about (λ q. refl) kind acl_track q (undeleted q) (keeps q)))
+      tracks q which.Data = then-both (same_object o q) _ _ _ (put-typed h (done request) o about (λ q. refl) kind plain data_track item.Data (λ x. refl) live f undeleted does q)
+      tracks q which.Attributes = else-both (same_object o q) _ _ _ (ap (laid attribute_track item.Attr) (idle h (done request) o about (λ q. refl) kind plain attribute_track q (undeleted q) (none q)))
+      tracks q which.Acl = else-both (same_object o q) _ _ _ (ap (laid acl_track item.Acl) (idle h (done request) o about (λ q. refl) kind plain acl_track q (undeleted q) (keeps q)))
 
   puts-attributes : (bytes : List ℕ) (live : IsLive AttributesFit (versions attribute_track o h)) → PutsOn h (done (SetAttr o bytes)) o which.Attributes (item.Attr bytes)
   puts-attributes bytes live = record { makes = makes-none h (done (SetAttr o bytes)) o (λ p. refl) (λ q. refl) refl; rebinds = rebinds-none (done (SetAttr o bytes)) (λ p n m old. refl) (λ p old. refl); tracks = tracks }
     where
       tracks : (q : ObjectId) (u : Which) → versions_on u q (h ++ done (SetAttr o bytes) ∷ []) ≡ (if same_object o q && same_which which.Attributes u then with_put t (item.Attr bytes) (versions_on u q h) else versions_on u q h)
-      tracks q which.Attributes = then-both (same_object o q) _ _ _ (put-typed h (done (SetAttr o bytes)) o (λ p. refl) (λ q. refl) refl attribute_track item.Attr (λ x. refl) live (λ old. bytes) (λ q. refl) (λ q old. refl) q)
-      tracks q which.Data = else-both (same_object o q) _ _ _ (ap (laid data_track item.Data) (idle h (done (SetAttr o bytes)) o (λ p. refl) (λ q. refl) refl data_track q refl (λ old. refl)))
-      tracks q which.Acl = else-both (same_object o q) _ _ _ (ap (laid acl_track item.Acl) (idle h (done (SetAttr o bytes)) o (λ p. refl) (λ q. refl) refl acl_track q refl (λ old. refl)))
+      tracks q which.Attributes = then-both (same_object o q) _ _ _ (put-typed h (done (SetAttr o bytes)) o (λ p. refl) (λ q. refl) refl (λ q. refl) attribute_track item.Attr (λ x. refl) live (λ old. bytes) (λ q. refl) (λ q old. refl) q)
+      tracks q which.Data = else-both (same_object o q) _ _ _ (ap (laid data_track item.Data) (idle h (done (SetAttr o bytes)) o (λ p. refl) (λ q. refl) refl (λ q. refl) data_track q refl (λ old. refl)))
+      tracks q which.Acl = else-both (same_object o q) _ _ _ (ap (laid acl_track item.Acl) (idle h (done (SetAttr o bytes)) o (λ p. refl) (λ q. refl) refl (λ q. refl) acl_track q refl (λ old. refl)))
 
   puts-acl : (user rights : ℕ) (live : IsLive AclFits (versions acl_track o h)) → PutsOn h (done (SetAcl o user rights)) o which.Acl (item.Acl (acl_with user rights live.newest.value))
   puts-acl user rights live = record { makes = makes-none h (done (SetAcl o user rights)) o (λ p. refl) (λ q. refl) refl; rebinds = rebinds-none (done (SetAcl o user rights)) (λ p n m old. refl) (λ p old. refl); tracks = tracks }
     where
       tracks : (q : ObjectId) (u : Which) → versions_on u q (h ++ done (SetAcl o user rights) ∷ []) ≡ (if same_object o q && same_which which.Acl u then with_put t (item.Acl (acl_with user rights live.newest.value)) (versions_on u q h) else versions_on u q h)
-      tracks q which.Acl = then-both (same_object o q) _ _ _ (put-typed h (done (SetAcl o user rights)) o (λ p. refl) (λ q. refl) refl acl_track item.Acl (λ x. refl) live (acl_with user rights) (λ q. refl) (λ q old. refl) q)
-      tracks q which.Data = else-both (same_object o q) _ _ _ (ap (laid data_track item.Data) (idle h (done (SetAcl o user rights)) o (λ p. refl) (λ q. refl) refl data_track q refl (λ old. refl)))
-      tracks q which.Attributes = else-both (same_object o q) _ _ _ (ap (laid attribute_track item.Attr) (idle h (done (SetAcl o user rights)) o (λ p. refl) (λ q. refl) refl attribute_track q refl (λ old. refl)))
+      tracks q which.Acl = then-both (same_object o q) _ _ _ (put-typed h (done (SetAcl o user rights)) o (λ p. refl) (λ q. refl) refl (λ q. refl) acl_track item.Acl (λ x. refl) live (acl_with user rights) (λ q. refl) (λ q old. refl) q)
+      tracks q which.Data = else-both (same_object o q) _ _ _ (ap (laid data_track item.Data) (idle h (done (SetAcl o user rights)) o (λ p. refl) (λ q. refl) refl (λ q. refl) data_track q refl (λ old. refl)))
+      tracks q which.Attributes = else-both (same_object o q) _ _ _ (ap (laid attribute_track item.Attr) (idle h (done (SetAcl o user rights)) o (λ p. refl) (λ q. refl) refl (λ q. refl) attribute_track q refl (λ old. refl)))
 
   ends-all : IsLive DataFits (versions data_track o h) → IsLive AttributesFit (versions attribute_track o h) → IsLive AclFits (versions acl_track o h) → EndsAll h (done (Delete o)) o
   ends-all a b c = record { makes = makes-none h (done (Delete o)) o (λ p. refl) (λ q. refl) refl; rebinds = rebinds-none (done (Delete o)) (λ p n m old. refl) (λ p old. refl); tracks = tracks }
     where
       tracks : (q : ObjectId) (u : Which) → versions_on u q (h ++ done (Delete o) ∷ []) ≡ (if same_object o q then with_end t (versions_on u q h) else versions_on u q h)
-      tracks q which.Data = end-typed h (done (Delete o)) o (λ p. refl) (λ q. refl) refl data_track item.Data (λ x. refl) a (λ q. refl) (λ q old. refl) q
-      tracks q which.Attributes = end-typed h (done (Delete o)) o (λ p. refl) (λ q. refl) refl attribute_track item.Attr (λ x. refl) b (λ q. refl) (λ q old. refl) q
-      tracks q which.Acl = end-typed h (done (Delete o)) o (λ p. refl) (λ q. refl) refl acl_track item.Acl (λ x. refl) c (λ q. refl) (λ q old. refl) q
+      tracks q which.Data = end-typed h (done (Delete o)) o (λ p. refl) (λ q. refl) refl (λ q. refl) data_track item.Data (λ x. refl) a (λ q. refl) (λ q old. refl) q
+      tracks q which.Attributes = end-typed h (done (Delete o)) o (λ p. refl) (λ q. refl) refl (λ q. refl) attribute_track item.Attr (λ x. refl) b (λ q. refl) (λ q old. refl) q
+      tracks q which.Acl = end-typed h (done (Delete o)) o (λ p. refl) (λ q. refl) refl (λ q. refl) acl_track item.Acl (λ x. refl) c (λ q. refl) (λ q old. refl) q
 
 module _ {base : Base} {h : List Record} {r : Record} (s : IsSound h) (n : IsNext base h r) (granted : is_refused r.reply ≡ false) (o : ObjectId) where
   pub write_puts : (offset : ℕ) (bytes : List ℕ) → r.request ≡ Write o offset bytes → PutsOn h r o which.Data (item.Data (written offset bytes (data_of o r.moment h)))
@@ -258,7 +262,7 @@ module _ {base : Base} {h : List Record} {r : Record} (s : IsSound h) (n : IsNex
       let live = live-data s n granted o (Write o offset bytes) asked refl in
       subst (λ old. PutsOn h r o which.Data (item.Data (written offset bytes old))) (current-data s n granted o (Write o offset bytes) asked refl)
       (subst (λ p. PutsOn h p o which.Data (item.Data (written offset bytes live.newest.value))) (sym (is-plain s n granted o (Write o offset bytes) asked refl))
-      (puts-data h r.moment r.caller o (Write o offset bytes) (written offset bytes) live (λ p. refl) refl (λ q. refl) (λ q old. refl) (λ q old. refl) (λ q old. refl)
+      (puts-data h r.moment r.caller o (Write o offset bytes) (written offset bytes) live (λ p. refl) refl (λ q. refl) (λ q. refl) (λ q old. refl) (λ q old. refl) (λ q old. refl)
       (rebinds-none (done h r.moment r.caller o (Write o offset bytes)) (λ p n m old. refl) (λ p old. refl))))
 
   -- and what it leaves fits
@@ -274,7 +278,7 @@ module _ {base : Base} {h : List Record} {r : Record} (s : IsSound h) (n : IsNex
       let live = live-data s n granted o (Append o bytes) asked refl in
       subst (λ old. PutsOn h r o which.Data (item.Data (old ++ bytes))) (current-data s n granted o (Append o bytes) asked refl)
       (subst (λ p. PutsOn h p o which.Data (item.Data (live.newest.value ++ bytes))) (sym (is-plain s n granted o (Append o bytes) asked refl))
-      (puts-data h r.moment r.caller o (Append o bytes) (λ old. old ++ bytes) live (λ p. refl) refl (λ q. refl) (λ q old. refl) (λ q old. refl) (λ q old. refl)
+      (puts-data h r.moment r.caller o (Append o bytes) (λ old. old ++ bytes) live (λ p. refl) refl (λ q. refl) (λ q. refl) (λ q old. refl) (λ q old. refl) (λ q old. refl)
       (rebinds-none (done h r.moment r.caller o (Append o bytes)) (λ p n m old. refl) (λ p old. refl))))
 
   pub truncate_puts : (length : ℕ) → r.request ≡ Truncate o length → PutsOn h r o which.Data (item.Data (of_length length (data_of o r.moment h)))
@@ -282,7 +286,7 @@ module _ {base : Base} {h : List Record} {r : Record} (s : IsSound h) (n : IsNex
       let live = live-data s n granted o (Truncate o length) asked refl in
       subst (λ old. PutsOn h r o which.Data (item.Data (of_length length old))) (current-data s n granted o (Truncate o length) asked refl)
       (subst (λ p. PutsOn h p o which.Data (item.Data (of_length length live.newest.value))) (sym (is-plain s n granted o (Truncate o length) asked refl))
-      (puts-data h r.moment r.caller o (Truncate o length) (of_length length) live (λ p. refl) refl (λ q. refl) (λ q old. refl) (λ q old. refl) (λ q old. refl)
+      (puts-data h r.moment r.caller o (Truncate o length) (of_length length) live (λ p. refl) refl (λ q. refl) (λ q. refl) (λ q old. refl) (λ q old. refl) (λ q old. refl)
       (rebinds-none (done h r.moment r.caller o (Truncate o length)) (λ p n m old. refl) (λ p old. refl))))
 
   pub set_attributes_puts : (bytes : List ℕ) → r.request ≡ SetAttr o bytes → PutsOn h r o which.Attributes (item.Attr bytes)

@@ -11,20 +11,20 @@ use Rattle.s4_types.specs.declared.acl.AclEntry.{AclEntry}
 use Rattle.s4_types.specs.declared.rights.Right.{Right}
 use Rattle.s4_types.specs.declared.rights.Right.TheVariants as right
 use Rattle.s4_types.specs.declared.request.Request.{Request}
-use Rattle.s4_types.specs.declared.request.Request.TheVariants.{Create, Delete, Read, Write, Append, Truncate, GetAttr, SetAttr, GetAclByUser, GetAclByIndex, SetAcl, PCreate, PDelete, PList, PMount, SetWindow, SetBudget, ReadAudit}
+use Rattle.s4_types.specs.declared.request.Request.TheVariants.{Create, Delete, Read, Write, Append, Truncate, GetAttr, SetAttr, GetAclByUser, GetAclByIndex, SetAcl, PCreate, PDelete, PList, PMount, Flush, FlushO, SetWindow, SetBudget, ReadAudit}
 use Rattle.s4_types.specs.declared.reply.Grant.{Grant}
 use Rattle.s4_types.specs.declared.reply.Refusal.{Refusal}
-use Rattle.s4_types.specs.declared.reply.Refusal.TheVariants.{Denied, TooLong, AclFull, NoEntry, NamesSpent, Exists, PartsFull, Named}
+use Rattle.s4_types.specs.declared.reply.Refusal.TheVariants.{Denied, Flushed, TooLong, AclFull, NoEntry, NamesSpent, Exists, PartsFull, Named, BadRange}
 use Rattle.s4_types.specs.declared.reply.Reply.{Reply}
 use Rattle.s4_types.specs.declared.reply.Reply.TheVariants.{Done, Made, Data, Attr, Entry, Mounted, Names, Audit, Refused}
 use Rattle.s4_types.specs.declared.record.Record.{Record}
 use Rattle.s4_types.specs.Names.{same_object, object_in}
 use Rattle.s4_types.specs.Kinds.{is_refused, is_create}
-use Rattle.s4_types.specs.Versions.{Value, versions, is_made, is_deleted, lives_at, of_length, written, when, acl_track, data_effect, attribute_effect, acl_effect}
+use Rattle.s4_types.specs.Versions.{Value, versions, value_at, is_made, is_deleted, lives_at, of_length, written, when, data_track, attribute_track, acl_track, data_effect, attribute_effect, acl_effect}
 use Rattle.s4_types.specs.Acl.{names, without_entry, replaced, acl_with}
 use Rattle.s4_types.specs.Judgement.{Found, entry_of, judge, judge_now, held_of}
 use Rattle.s4_types.specs.Outcome.{◌>>=◌, ◌>>◌, refuse_if, reply_of}
-use Rattle.s4_types.specs.Answer.{outcome_by_kind, moment_of, data_of, attributes_of, acl_of, entry_by_user, entry_by_index, settable, found_bound}
+use Rattle.s4_types.specs.Answer.{outcome_by_kind, administered, flushed, moment_of, is_gone, data_of, attributes_of, acl_of, entry_by_user, entry_by_index, settable, found_bound}
 use Rattle.s4_types.specs.Serials.{drawn}
 use Rattle.s4_types.specs.Bindings.{bound_at, bound_count, has_name}
 use Rattle.s4_types.proofs.SameNames.{object_is}
@@ -81,7 +81,8 @@ pub makes_nothing-outcome : (base : Base) (h : List Record) (t : ℕ) (caller : 
 makes_nothing-outcome base h t caller (Create number) e = cc
 makes_nothing-outcome base h t caller (Delete p) e = nothing-then (judge h t caller p right.Delete None) _ (nothing-then (refuse_if (has_name p t h) Named) (Ok Done) refl)
 makes_nothing-outcome base h t caller (Read p offset length at) e =
-    nothing-bind (judge h t caller p right.Read at) (λ g. Ok (Data g (take length (drop offset (data_of p (moment_of t at) h))))) (λ g. refl)
+    nothing-bind (judge h t caller p right.Read at) (λ g. refuse_if (is_gone (value_at data_track p (moment_of t at) h)) Flushed >> Ok (Data g (take length (drop offset (data_of p (moment_of t at) h)))))
+    (λ g. nothing-then (refuse_if (is_gone (value_at data_track p (moment_of t at) h)) Flushed) (Ok (Data g (take length (drop offset (data_of p (moment_of t at) h))))) refl)
 makes_nothing-outcome base h t caller (Write p offset bytes) e =
     nothing-then (refuse_if (nat_lt 4096 (offset + length bytes)) TooLong) _ (nothing-then (judge h t caller p right.Write None) (Ok Done) refl)
 makes_nothing-outcome base h t caller (Append p bytes) e =
@@ -90,7 +91,8 @@ makes_nothing-outcome base h t caller (Append p bytes) e =
 makes_nothing-outcome base h t caller (Truncate p length) e =
     nothing-then (refuse_if (nat_lt 4096 length) TooLong) _ (nothing-then (judge h t caller p right.Write None) (Ok Done) refl)
 makes_nothing-outcome base h t caller (GetAttr p at) e =
-    nothing-bind (judge h t caller p right.Read at) (λ g. Ok (Attr g (attributes_of p (moment_of t at) h))) (λ g. refl)
+    nothing-bind (judge h t caller p right.Read at) (λ g. refuse_if (is_gone (value_at attribute_track p (moment_of t at) h)) Flushed >> Ok (Attr g (attributes_of p (moment_of t at) h)))
+    (λ g. nothing-then (refuse_if (is_gone (value_at attribute_track p (moment_of t at) h)) Flushed) (Ok (Attr g (attributes_of p (moment_of t at) h))) refl)
 makes_nothing-outcome base h t caller (SetAttr p bytes) e =
     nothing-then (refuse_if (nat_lt 256 (length bytes)) TooLong) _ (nothing-then (judge h t caller p right.Write None) (Ok Done) refl)
 makes_nothing-outcome base h t caller (GetAclByUser p user at) e =
@@ -110,6 +112,8 @@ makes_nothing-outcome base h t caller (PList range after at) e =
 makes_nothing-outcome base h t caller (PMount purse name at) e =
     nothing-bind (found_bound caller purse right.Read (bound_at purse name (moment_of t at) h)) (λ serial. judge h t caller (object_in purse serial) right.Read at >>= λ g. Ok (Mounted g (object_in purse serial)))
     (λ serial. nothing-bind (judge h t caller (object_in purse serial) right.Read at) (λ g. Ok (Mounted g (object_in purse serial))) (λ g. refl))
+makes_nothing-outcome base h t caller (Flush from to) e = nothing-then (refuse_if (nat_lt to from) BadRange) (administered caller) (nothing-then (refuse_if (not (caller.who == 0)) (Denied right.Admin)) (Ok Done) refl)
+makes_nothing-outcome base h t caller (FlushO p from to) e = nothing-then (refuse_if (nat_lt to from) BadRange) (administered caller) (nothing-then (refuse_if (not (caller.who == 0)) (Denied right.Admin)) (Ok Done) refl)
 makes_nothing-outcome base h t caller (SetWindow ticks) e = nothing-then (refuse_if (not (caller.who == 0)) (Denied right.Admin)) (Ok Done) refl
 makes_nothing-outcome base h t caller (SetBudget purse budget) e = nothing-then (refuse_if (not (caller.who == 0)) (Denied right.Admin)) (Ok Done) refl
 makes_nothing-outcome base h t caller (ReadAudit range skip) e = refl
@@ -151,6 +155,8 @@ made_is base h t caller (PDelete purse name) o e = clash _ (nothing-made o _ (ma
 made_is base h t caller (PList range after at) o e = clash _ (nothing-made o (outcome_by_kind base h t caller (PList range after at)) (makes_nothing-outcome base h t caller (PList range after at) refl)) e
 made_is base h t caller (PMount purse name at) o e = clash _ (nothing-made o _ (makes_nothing-outcome base h t caller (PMount purse name at) refl)) e
 made_is base h t caller (SetWindow ticks) o e = clash _ (nothing-made o _ (makes_nothing-outcome base h t caller (SetWindow ticks) refl)) e
+made_is base h t caller (Flush from to) o e = clash _ (nothing-made o _ (makes_nothing-outcome base h t caller (Flush from to) refl)) e
+made_is base h t caller (FlushO p from to) o e = clash _ (nothing-made o _ (makes_nothing-outcome base h t caller (FlushO p from to) refl)) e
 made_is base h t caller (SetBudget purse budget) o e = clash _ (nothing-made o _ (makes_nothing-outcome base h t caller (SetBudget purse budget) refl)) e
 made_is base h t caller (ReadAudit range skip) o e = clash _ (nothing-made o (outcome_by_kind base h t caller (ReadAudit range skip)) (makes_nothing-outcome base h t caller (ReadAudit range skip) refl)) e
 
@@ -171,6 +177,8 @@ create-deletes (PDelete purse name) o e = cc
 create-deletes (PList range after at) o e = cc
 create-deletes (PMount purse name at) o e = cc
 create-deletes (SetWindow ticks) o e = cc
+create-deletes (Flush from to) o e = cc
+create-deletes (FlushO p from to) o e = cc
 create-deletes (SetBudget purse budget) o e = cc
 create-deletes (ReadAudit range skip) o e = cc
 
@@ -208,6 +216,8 @@ changed-lives base h t caller (PDelete purse name) o e f = cc
 changed-lives base h t caller (PList range after at) o e f = cc
 changed-lives base h t caller (PMount purse name at) o e f = cc
 changed-lives base h t caller (SetWindow ticks) o e f = cc
+changed-lives base h t caller (Flush from to) o e f = cc
+changed-lives base h t caller (FlushO p from to) o e f = cc
 changed-lives base h t caller (SetBudget purse budget) o e f = cc
 changed-lives base h t caller (ReadAudit range skip) o e f = cc
 changed-lives base h t caller (Delete p) o e f =
@@ -258,6 +268,8 @@ deleted-changed (PDelete purse name) o e = cc
 deleted-changed (PList range after at) o e = cc
 deleted-changed (PMount purse name at) o e = cc
 deleted-changed (SetWindow ticks) o e = cc
+deleted-changed (Flush from to) o e = cc
+deleted-changed (FlushO p from to) o e = cc
 deleted-changed (SetBudget purse budget) o e = cc
 deleted-changed (ReadAudit range skip) o e = cc
 
@@ -278,6 +290,8 @@ data-changed (PDelete purse name) o old new e = cc
 data-changed (PList range after at) o old new e = cc
 data-changed (PMount purse name at) o old new e = cc
 data-changed (SetWindow ticks) o old new e = cc
+data-changed (Flush from to) o old new e = cc
+data-changed (FlushO p from to) o old new e = cc
 data-changed (SetBudget purse budget) o old new e = cc
 data-changed (ReadAudit range skip) o old new e = cc
 
@@ -298,6 +312,8 @@ attributes-changed (PDelete purse name) o old new e = cc
 attributes-changed (PList range after at) o old new e = cc
 attributes-changed (PMount purse name at) o old new e = cc
 attributes-changed (SetWindow ticks) o old new e = cc
+attributes-changed (Flush from to) o old new e = cc
+attributes-changed (FlushO p from to) o old new e = cc
 attributes-changed (SetBudget purse budget) o old new e = cc
 attributes-changed (ReadAudit range skip) o old new e = cc
 
@@ -318,6 +334,8 @@ acl-changed (PDelete purse name) o old new e = cc
 acl-changed (PList range after at) o old new e = cc
 acl-changed (PMount purse name at) o old new e = cc
 acl-changed (SetWindow ticks) o old new e = cc
+acl-changed (Flush from to) o old new e = cc
+acl-changed (FlushO p from to) o old new e = cc
 acl-changed (SetBudget purse budget) o old new e = cc
 acl-changed (ReadAudit range skip) o old new e = cc
 
@@ -363,6 +381,8 @@ data-fit base h t caller (PDelete purse name) o e old new f is fits = cc
 data-fit base h t caller (PList range after at) o e old new f is fits = cc
 data-fit base h t caller (PMount purse name at) o e old new f is fits = cc
 data-fit base h t caller (SetWindow ticks) o e old new f is fits = cc
+data-fit base h t caller (Flush from to) o e old new f is fits = cc
+data-fit base h t caller (FlushO p from to) o e old new f is fits = cc
 data-fit base h t caller (SetBudget purse budget) o e old new f is fits = cc
 data-fit base h t caller (ReadAudit range skip) o e old new f is fits = cc
 
@@ -387,6 +407,8 @@ attributes-fit base h t caller (PDelete purse name) o e old new f = cc
 attributes-fit base h t caller (PList range after at) o e old new f = cc
 attributes-fit base h t caller (PMount purse name at) o e old new f = cc
 attributes-fit base h t caller (SetWindow ticks) o e old new f = cc
+attributes-fit base h t caller (Flush from to) o e old new f = cc
+attributes-fit base h t caller (FlushO p from to) o e old new f = cc
 attributes-fit base h t caller (SetBudget purse budget) o e old new f = cc
 attributes-fit base h t caller (ReadAudit range skip) o e old new f = cc
 
@@ -428,6 +450,8 @@ acl-fit base h t caller (PDelete purse name) o e old new f is fits = cc
 acl-fit base h t caller (PList range after at) o e old new f is fits = cc
 acl-fit base h t caller (PMount purse name at) o e old new f is fits = cc
 acl-fit base h t caller (SetWindow ticks) o e old new f is fits = cc
+acl-fit base h t caller (Flush from to) o e old new f is fits = cc
+acl-fit base h t caller (FlushO p from to) o e old new f is fits = cc
 acl-fit base h t caller (SetBudget purse budget) o e old new f is fits = cc
 acl-fit base h t caller (ReadAudit range skip) o e old new f is fits = cc
 
@@ -466,6 +490,8 @@ only_done-outcome base h t caller (PDelete purse name) o e = cc
 only_done-outcome base h t caller (PList range after at) o e = cc
 only_done-outcome base h t caller (PMount purse name at) o e = cc
 only_done-outcome base h t caller (SetWindow ticks) o e = cc
+only_done-outcome base h t caller (Flush from to) o e = cc
+only_done-outcome base h t caller (FlushO p from to) o e = cc
 only_done-outcome base h t caller (SetBudget purse budget) o e = cc
 only_done-outcome base h t caller (ReadAudit range skip) o e = cc
 only_done-outcome base h t caller (Delete p) o e = done-then (judge h t caller p right.Delete None) _ (done-then (refuse_if (has_name p t h) Named) (Ok Done) refl)
@@ -499,6 +525,29 @@ pub unbound-done : (base : Base) (h : List Record) (t : ℕ) (caller : Caller) (
 unbound-done base h t caller purse name e = told-done (outcome_by_kind base h t caller (PDelete purse name))
     (done-bind (found_bound caller purse right.Control (bound_at purse name t h)) (λ serial. judge h t caller (object_in purse serial) right.Control None >> Ok Done)
     (λ serial. done-then (judge h t caller (object_in purse serial) right.Control None) (Ok Done) refl)) e
+
+-- and so is what the administrator alone may ask for
+pub window-done : (base : Base) (h : List Record) (t : ℕ) (caller : Caller) (ticks : ℕ) → is_refused (told base h t caller (SetWindow ticks)) ≡ false → told base h t caller (SetWindow ticks) ≡ Done
+window-done base h t caller ticks e = told-done (outcome_by_kind base h t caller (SetWindow ticks)) (done-then (refuse_if (not (caller.who == 0)) (Denied right.Admin)) (Ok Done) refl) e
+
+flushed-done : (caller : Caller) (from to : ℕ) → is_refused (reply_of (flushed from to caller)) ≡ false → reply_of (flushed from to caller) ≡ Done
+flushed-done caller from to e = told-done (flushed from to caller) (done-then (refuse_if (nat_lt to from) BadRange) (administered caller) (done-then (refuse_if (not (caller.who == 0)) (Denied right.Admin)) (Ok Done) refl)) e
+
+pub flush-done : (base : Base) (h : List Record) (t : ℕ) (caller : Caller) (from to : ℕ) → is_refused (told base h t caller (Flush from to)) ≡ false → told base h t caller (Flush from to) ≡ Done
+flush-done base h t caller from to e = flushed-done caller from to e
+
+pub flush_one-done : (base : Base) (h : List Record) (t : ℕ) (caller : Caller) (o : ObjectId) (from to : ℕ) → is_refused (told base h t caller (FlushO o from to)) ≡ false → told base h t caller (FlushO o from to) ≡ Done
+flush_one-done base h t caller o from to e = flushed-done caller from to e
+
+-- who flushes all objects is the administrator
+pub flush-asker : (base : Base) (h : List Record) (t : ℕ) (caller : Caller) (from to : ℕ) → is_refused (told base h t caller (Flush from to)) ≡ false → (caller.who == 0) ≡ true
+flush-asker base h t caller from to e =
+    let asker : not (caller.who == 0) ≡ false = (passes_test (not (caller.who == 0)) (Denied right.Admin) (Ok Done) (passes_test (nat_lt to from) BadRange (administered caller) e).1).0 in
+    turned (caller.who == 0) asker
+  where
+    turned : (b : Bool) → not b ≡ false → b ≡ true
+    turned true f = refl
+    turned false f = cc
 
 -- and so is a budget
 pub budget-done : (base : Base) (h : List Record) (t : ℕ) (caller : Caller) (purse : Purse) (budget : ℕ) → is_refused (told base h t caller (SetBudget purse budget)) ≡ false → told base h t caller (SetBudget purse budget) ≡ Done

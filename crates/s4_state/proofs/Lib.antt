@@ -8,7 +8,11 @@ pub mod Opening
 pub mod Standing
 pub mod Effects
 pub mod Binding
+pub mod Flushing
+pub mod Resting
 pub mod Mounting
+pub mod Current
 pub mod Weighing
 pub mod Charging
+pub mod Refunding
 pub mod Costs

@@ -20,7 +20,7 @@ use Rattle.s4_store.specs.Chains.{Chains}
 use Rattle.s4_parts.specs.declared.parts.Parts.{Parts as Table}
 use Rattle.s4_parts.specs.Table.{names_in, bindings_in}
 use Rattle.s4_parts.specs.Page as page
-use Rattle.s4_state.specs.declared.objects.Kept.{Kept}
+use Rattle.s4_objects.specs.declared.kept.Kept.{Kept}
 use Rattle.s4_state.specs.Shown.{granted, grant_of}
 use Rattle.s4_state.specs.Stands.{StandsFor}
 use Rattle.s4_state.proofs.Binding.{bound-in}

@@ -11,10 +11,11 @@ use Rattle.s4_types.proofs.Booleans.{by_test, not_both}
 use Rattle.s4_store.specs.Chains.{Chains, items_of, IsOpen}
 use Rattle.s4_store.specs.Laws.{items_here, open_here, items_elsewhere, open_still, fresh_differs, remove-insert}
 use Rattle.s4_tracks.specs.Chain.{begun}
-use Rattle.s4_state.specs.declared.objects.Which.{Which}
-use Rattle.s4_state.specs.declared.objects.Which.TheVariants as which
-use Rattle.s4_state.specs.declared.objects.Kept.{Kept}
-use Rattle.s4_state.specs.Chains.{chain_of, Opens, Begins, first_on}
+use Rattle.s4_objects.specs.declared.kept.Which.{Which}
+use Rattle.s4_objects.specs.declared.kept.Which.TheVariants as which
+use Rattle.s4_objects.specs.declared.kept.Kept.{Kept}
+use Rattle.s4_objects.specs.Chains.{chain_of}
+use Rattle.s4_state.specs.Chains.{Opens, Begins, first_on}
 
 turned : (a b : ℕ) → (a == b) ≡ false → (b == a) ≡ false
 turned a b e = by_test (b == a) (λ f. absurd (not_both _ (eq-eqb a b (sym (eqb-true b a f))) e)) (λ f. f)

@@ -1,7 +1,7 @@
 -- What is held tells what is in force.
 use Rattle.std.proofs.Common.{◌≡◌, ℕ, ◌≤◌, Bool, true, false, cond, Option, Some, None, List, [], ◌∷◌, refl, sym, ◌∙◌, ap, subst, arith}
-use Rattle.std.specs.Prelude.{nat_le, is_some, if◌then◌else◌}
-use Rattle.std.specs.List.{find}
+use Rattle.std.specs.Prelude.{not, nat_le, is_some, if◌then◌else◌}
+use Rattle.std.specs.List.{find, list_all}
 use Rattle.std.specs.Option.{option_map}
 use Rattle.std.proofs.lemmas.List.Sums.{fold-append}
 use Rattle.s4_types.specs.declared.object.Purse.{Purse}
@@ -11,42 +11,45 @@ use Rattle.s4_types.specs.declared.record.Record.{Record}
 use Rattle.s4_types.specs.declared.version.Version.{Version}
 use Rattle.s4_types.specs.declared.version.Item.{Item}
 use Rattle.s4_types.specs.declared.version.Item.TheVariants as item
-use Rattle.s4_types.specs.Versions.{Track, Value, versions, value_at, lives_at, ends_by, in_force_by, data_track, attribute_track, acl_track}
+use Rattle.s4_types.specs.Versions.{when, Track, Value, versions, value_at, lives_at, ends_by, in_force_by, data_track, attribute_track, acl_track}
 use Rattle.s4_types.specs.Judgement.{held_of}
-use Rattle.s4_types.specs.Answer.{value_or_empty, data_of, attributes_of, acl_of, moment_of}
+use Rattle.s4_types.specs.Answer.{value_or_empty, is_gone, data_of, attributes_of, acl_of, moment_of}
 use Rattle.s4_types.specs.Play.{last_of}
+use Rattle.s4_types.specs.Erased.{is_whole}
+use Rattle.s4_types.proofs.Booleans.{both}
+use Rattle.s4_types.proofs.Erasing.{acls-whole, unended-whole}
 use Rattle.s4_types.proofs.Snoc.{newest-snoc}
 use Rattle.s4_store.specs.Chains.{Chains, items_of}
 use Rattle.s4_tracks.specs.Chain.{newer, latest, unended, in_force, endless, current_of, version_in}
-use Rattle.s4_state.specs.declared.objects.Which.{Which}
-use Rattle.s4_state.specs.declared.objects.Which.TheVariants as which
+use Rattle.s4_objects.specs.declared.kept.Which.{Which}
+use Rattle.s4_objects.specs.declared.kept.Which.TheVariants as which
 use Rattle.s4_parts.specs.declared.parts.Parts.{Parts as Table}
-use Rattle.s4_state.specs.declared.objects.Kept.{Kept}
-use Rattle.s4_state.specs.Held.{bytes_in, held_in}
-use Rattle.s4_state.specs.Chains.{chain_of, held}
-use Rattle.s4_state.specs.Laid.{version_by, laid_by, version_of, laid, version_at}
+use Rattle.s4_objects.specs.declared.kept.Kept.{Kept}
+use Rattle.s4_state.specs.Held.{bytes_of_item, bytes_in, held_of_item, held_in}
+use Rattle.s4_objects.specs.Chains.{chain_of, held}
+use Rattle.s4_state.specs.Laid.{item_of, version_by, laid_by, version_of, laid, version_at}
 use Rattle.s4_state.specs.Sound.{IsSound, IsTrack, TrackStands, DataFits, AttributesFit, AclFits, was_made, was_deleted}
 use Rattle.s4_state.specs.Stands.{StandsFor}
 
 -- FROM VALUES TO VERSIONS
 
-module _ {V : Type 0} (cost : V → ℕ) (wrap : V → Item) where
-  latest-laid : (m : ℕ) (values : List (Value V)) → latest m (laid_by cost wrap values) ≡ option_map (version_by cost wrap) (find (λ v. nat_le v.begin m) values)
+module _ {V : Type 0} (cost : V → ℕ) (hold : Value V → Option Item) where
+  latest-laid : (m : ℕ) (values : List (Value V)) → latest m (laid_by cost hold values) ≡ option_map (version_by cost hold) (find (λ v. nat_le v.begin m) values)
   latest-laid m [] = refl
   latest-laid m (v ∷ past) =
-      fold-append (newer m) None (laid_by cost wrap past) (version_by cost wrap v ∷ [])
-      ∙ ap (λ o. if nat_le v.begin m then Some (version_by cost wrap v) else o) (latest-laid m past)
-      ∙ (elim (nat_le v.begin m) as (λ b. (if b then Some (version_by cost wrap v) else option_map (version_by cost wrap) (find (λ v. nat_le v.begin m) past)) ≡ option_map (version_by cost wrap) (cond b (Some v) (find (λ v. nat_le v.begin m) past))) [ true ↦ refl | false ↦ refl ])
+      fold-append (newer m) None (laid_by cost hold past) (version_by cost hold v ∷ [])
+      ∙ ap (λ o. if nat_le v.begin m then Some (version_by cost hold v) else o) (latest-laid m past)
+      ∙ (elim (nat_le v.begin m) as (λ b. (if b then Some (version_by cost hold v) else option_map (version_by cost hold) (find (λ v. nat_le v.begin m) past)) ≡ option_map (version_by cost hold) (cond b (Some v) (find (λ v. nat_le v.begin m) past))) [ true ↦ refl | false ↦ refl ])
 
-  unended-found : (m : ℕ) (values : List (Value V)) → unended m (option_map (version_by cost wrap) (find (λ v. nat_le v.begin m) values)) ≡ option_map (version_by cost wrap) (in_force_by m values)
+  unended-found : (m : ℕ) (values : List (Value V)) → unended m (option_map (version_by cost hold) (find (λ v. nat_le v.begin m) values)) ≡ option_map (version_by cost hold) (in_force_by m values)
   unended-found m [] = refl
-  unended-found m (v ∷ past) = elim (nat_le v.begin m) as (λ b. unended m (option_map (version_by cost wrap) (cond b (Some v) (find (λ v. nat_le v.begin m) past))) ≡ option_map (version_by cost wrap) (if b then (if ends_by m v.end then None else Some v) else in_force_by m past)) [
-    | true ↦ (elim (ends_by m v.end) as (λ b. (if b then None else Some (version_by cost wrap v)) ≡ option_map (version_by cost wrap) (if b then None else Some v)) [ true ↦ refl | false ↦ refl ])
+  unended-found m (v ∷ past) = elim (nat_le v.begin m) as (λ b. unended m (option_map (version_by cost hold) (cond b (Some v) (find (λ v. nat_le v.begin m) past))) ≡ option_map (version_by cost hold) (if b then (if ends_by m v.end then None else Some v) else in_force_by m past)) [
+    | true ↦ (elim (ends_by m v.end) as (λ b. (if b then None else Some (version_by cost hold v)) ≡ option_map (version_by cost hold) (if b then None else Some v)) [ true ↦ refl | false ↦ refl ])
     | false ↦ unended-found m past
   ]
 
   -- at a moment the chain holds what the values hold
-  pub in_force-laid : (m : ℕ) (values : List (Value V)) → in_force m (laid_by cost wrap values) ≡ option_map (version_by cost wrap) (in_force_by m values)
+  pub in_force-laid : (m : ℕ) (values : List (Value V)) → in_force m (laid_by cost hold values) ≡ option_map (version_by cost hold) (in_force_by m values)
   in_force-laid m values = ap (unended m) (latest-laid m values) ∙ unended-found m values
 
 -- what is held where the object lives is the definition's value in force
@@ -113,9 +116,9 @@ acl-in-force s o t later lives v past is = sym (ap value_or_empty (newest-in-for
 module _ {chains : Chains Version} {found : ObjectId → Option Kept} {serials : Purse → ℕ} {table : Table} {h : List Record} (s : StandsFor chains found serials table h) (o : ObjectId) where
   -- at a moment
   pub held-at : (m : ℕ) (w : Which) → in_force m (held chains (found o) w) ≡ version_at w o m h
-  held-at m which.Data = ap (in_force m) (s.tracks o which.Data) ∙ in_force-laid data_track.cost item.Data m (versions data_track o h) ∙ ap (option_map (version_of data_track item.Data)) (sym (value_at-held data_track DataFits o h m (s.sound.tracks o which.Data)))
-  held-at m which.Attributes = ap (in_force m) (s.tracks o which.Attributes) ∙ in_force-laid attribute_track.cost item.Attr m (versions attribute_track o h) ∙ ap (option_map (version_of attribute_track item.Attr)) (sym (value_at-held attribute_track AttributesFit o h m (s.sound.tracks o which.Attributes)))
-  held-at m which.Acl = ap (in_force m) (s.tracks o which.Acl) ∙ in_force-laid acl_track.cost item.Acl m (versions acl_track o h) ∙ ap (option_map (version_of acl_track item.Acl)) (sym (value_at-held acl_track AclFits o h m (s.sound.tracks o which.Acl)))
+  held-at m which.Data = ap (in_force m) (s.tracks o which.Data) ∙ in_force-laid data_track.cost (item_of item.Data) m (versions data_track o h) ∙ ap (option_map (version_of data_track item.Data)) (sym (value_at-held data_track DataFits o h m (s.sound.tracks o which.Data)))
+  held-at m which.Attributes = ap (in_force m) (s.tracks o which.Attributes) ∙ in_force-laid attribute_track.cost (item_of item.Attr) m (versions attribute_track o h) ∙ ap (option_map (version_of attribute_track item.Attr)) (sym (value_at-held attribute_track AttributesFit o h m (s.sound.tracks o which.Attributes)))
+  held-at m which.Acl = ap (in_force m) (s.tracks o which.Acl) ∙ in_force-laid acl_track.cost (item_of item.Acl) m (versions acl_track o h) ∙ ap (option_map (version_of acl_track item.Acl)) (sym (value_at-held acl_track AclFits o h m (s.sound.tracks o which.Acl)))
 
   -- now
   pub held-now : (t : ℕ) → last_of h ≤ t → (w : Which) → current_of (held chains (found o) w) ≡ version_at w o t h
@@ -143,23 +146,69 @@ module _ {chains : Chains Version} {found : ObjectId → Option Kept} {serials :
   none-at m w e = sym (ap (λ f. in_force m (held chains f w)) e) ∙ held-at m w
 
 -- what a version holds is the definition's value
-pub bytes_in-data : (o : ObjectId) (m : ℕ) (h : List Record) → bytes_in (version_at which.Data o m h) ≡ value_or_empty (value_at data_track o m h)
-bytes_in-data o m h = of (value_at data_track o m h)
-  where
-    of : (x : Option (Value (List ℕ))) → bytes_in (option_map (version_of data_track item.Data) x) ≡ value_or_empty x
-    of None = refl
-    of (Some v) = refl
+module _ (wrap : List ℕ → Item) (bytes : (x : List ℕ) → bytes_of_item (Some (wrap x)) ≡ Some x) (track : Track (List ℕ)) where
+  bytes-left : (x : Option (Value (List ℕ))) → bytes_in (option_map (version_of track wrap) x) ≡ when (not (is_gone x)) (value_or_empty x)
+  bytes-left None = refl
+  bytes-left (Some v) = elim v.is_erased as (λ b. bytes_of_item (if b then None else Some (wrap v.value)) ≡ when (not b) v.value) [ true ↦ refl | false ↦ bytes v.value ]
 
-pub bytes_in-attributes : (o : ObjectId) (m : ℕ) (h : List Record) → bytes_in (version_at which.Attributes o m h) ≡ value_or_empty (value_at attribute_track o m h)
-bytes_in-attributes o m h = of (value_at attribute_track o m h)
+pub bytes_in-data : (o : ObjectId) (m : ℕ) (h : List Record) → bytes_in (version_at which.Data o m h) ≡ when (not (is_gone (value_at data_track o m h))) (data_of o m h)
+bytes_in-data o m h = bytes-left item.Data (λ x. refl) data_track (value_at data_track o m h)
+
+pub bytes_in-attributes : (o : ObjectId) (m : ℕ) (h : List Record) → bytes_in (version_at which.Attributes o m h) ≡ when (not (is_gone (value_at attribute_track o m h))) (attributes_of o m h)
+bytes_in-attributes o m h = bytes-left item.Attr (λ x. refl) attribute_track (value_at attribute_track o m h)
+
+-- a value that is found among whole ones is whole
+found-whole : {V : Type 0} (p : Value V → Bool) (vs : List (Value V)) → list_all is_whole vs ≡ true → is_gone (find p vs) ≡ false
+found-whole p [] e = refl
+found-whole p (v ∷ vs) e =
+    let parts = both (is_whole v) (list_all is_whole vs) e in
+    elim (p v) as (λ b. is_gone (cond b (Some v) (find p vs)) ≡ false) [ true ↦ turned v.is_erased parts.0 | false ↦ found-whole p vs parts.1 ]
   where
-    of : (x : Option (Value (List ℕ))) → bytes_in (option_map (version_of attribute_track item.Attr) x) ≡ value_or_empty x
-    of None = refl
-    of (Some v) = refl
+    turned : (b : Bool) → not b ≡ true → b ≡ false
+    turned true f = cc
+    turned false f = refl
+
+-- no ACL is ever erased
+acl-whole : (o : ObjectId) (m : ℕ) (h : List Record) → is_gone (value_at acl_track o m h) ≡ false
+acl-whole o m h = elim (lives_at m o h) as (λ b. is_gone (cond b (find (λ v. nat_le v.begin m) (versions acl_track o h)) None) ≡ false) [
+  | true ↦ found-whole (λ v. nat_le v.begin m) (versions acl_track o h) (acls-whole o h)
+  | false ↦ refl
+]
 
 pub held_in-acl : (o : ObjectId) (m : ℕ) (h : List Record) → held_in (version_at which.Acl o m h) ≡ option_map held_of (value_at acl_track o m h)
-held_in-acl o m h = of (value_at acl_track o m h)
+held_in-acl o m h = of (value_at acl_track o m h) (acl-whole o m h)
   where
-    of : (x : Option (Value (List AclEntry))) → held_in (option_map (version_of acl_track item.Acl) x) ≡ option_map held_of x
-    of None = refl
-    of (Some v) = refl
+    of : (x : Option (Value (List AclEntry))) → is_gone x ≡ false → held_in (option_map (version_of acl_track item.Acl) x) ≡ option_map held_of x
+    of None e = refl
+    of (Some v) e = ap (λ b. held_of_item v.begin (if b then None else Some (item.Acl v.value))) e
+
+-- nor is a current value
+current-whole : {V : Type 0} (track : Track V) (Fits : V → Type 0) (o : ObjectId) (h : List Record) → TrackStands Fits o h (versions track o h) → (t : ℕ) → last_of h ≤ t → is_gone (value_at track o t h) ≡ false
+current-whole {V} track Fits o h s t later = ap is_gone (value_at-held track Fits o h t s) ∙ of (was_made o h) (was_deleted o h) (versions track o h) refl s.shape
+  where
+    of : (m d : Bool) (values : List (Value V)) → versions track o h ≡ values → IsTrack Fits m d (last_of h) values → is_gone (in_force_by t values) ≡ false
+    of false d values is shape = ap (λ vs. is_gone (in_force_by t vs)) shape
+    of true d [] is shape = refl
+    of true false (v ∷ past) is shape =
+        let low : v.begin ≤ last_of h = shape.begun in
+        let begun : nat_le v.begin t ≡ true = grind arith in
+        ap (λ b. is_gone (if b then (if ends_by t v.end then None else Some v) else in_force_by t past)) begun
+        ∙ ap (λ e. is_gone (if ends_by t e then None else Some v)) shape.current
+        ∙ unended-whole track o h v past is shape.current
+    of true true (v ∷ past) is shape =
+        let low : v.begin ≤ last_of h = shape.begun in
+        let begun : nat_le v.begin t ≡ true = grind arith in
+        let early : shape.end ≤ last_of h = shape.past in
+        let over : nat_le shape.end t ≡ true = grind arith in
+        ap (λ b. is_gone (if b then (if ends_by t v.end then None else Some v) else in_force_by t past)) begun
+        ∙ ap (λ e. is_gone (if ends_by t e then None else Some v)) shape.ended
+        ∙ ap (λ b. is_gone (if b then None else Some v)) over
+
+pub current-data-whole : {h : List Record} → IsSound h → (o : ObjectId) (t : ℕ) → last_of h ≤ t → is_gone (value_at data_track o t h) ≡ false
+current-data-whole {h} s o t later = current-whole data_track DataFits o h (s.tracks o which.Data) t later
+
+-- what is told of what isn't gone
+pub told-whole : {A B : Type 0} (f : A → B) (r : Option A) (gone : Bool) (x : B) → option_map f r ≡ when (not gone) x → gone ≡ false → is_some r ≡ true
+told-whole f None true x e g = cc
+told-whole f None false x e g = cc
+told-whole f (Some y) gone x e g = refl

@@ -5,6 +5,7 @@ use Rattle.std.specs.FinMap as finmap
 use Rattle.std.proofs.lemmas.Bool.{eqb-true, eq-eqb}
 use Rattle.s4_types.specs.declared.object.Purse.{Purse}
 use Rattle.s4_types.specs.declared.object.ObjectId.{ObjectId}
+use Rattle.s4_types.specs.declared.acl.AclEntry.{AclEntry}
 use Rattle.s4_types.specs.declared.record.Record.{Record}
 use Rattle.s4_types.specs.declared.version.Version.{Version}
 use Rattle.s4_types.specs.declared.version.Item.{Item}
@@ -12,25 +13,27 @@ use Rattle.s4_types.specs.declared.version.Item.TheVariants as item
 use Rattle.s4_types.specs.Acl.{first_acl}
 use Rattle.s4_types.specs.Names.{same_purse, same_object}
 use Rattle.s4_types.specs.Kinds.{concerns, is_create}
-use Rattle.s4_types.specs.Versions.{Track, versions, makes, deletes, is_made, data_track, attribute_track, acl_track, begun as begins, with_end as ends, with_effect}
+use Rattle.s4_types.specs.Versions.{Track, versions, span_of, after_change, makes, deletes, is_made, is_deleted, data_effect, attribute_effect, acl_effect, data_track, attribute_track, acl_track, begun as begins}
 use Rattle.s4_types.specs.Bindings.{rebound, named_by}
 use Rattle.s4_types.specs.Serials.{drawn, draws}
-use Rattle.s4_types.proofs.Booleans.{by_test, both, ||-false, ||-true, not_both}
+use Rattle.s4_types.proofs.Erasing.{versions-idle}
+use Rattle.s4_types.proofs.Booleans.{by_test, both, &&-false, ||-false, ||-true, not_both}
 use Rattle.s4_types.proofs.SameNames.{object_is, object_self, purse_is}
 use Rattle.s4_types.proofs.Snoc.{versions-snoc, drawn-snoc, list_any-snoc}
 use Rattle.s4_store.specs.Chains.{Chains, items_of, IsOpen}
 use Rattle.s4_store.specs.Laws.{items_here, items_elsewhere, StillOpen-insert}
 use Rattle.s4_tracks.specs.Chain.{with_put, with_end}
-use Rattle.s4_state.specs.declared.objects.Which.{Which}
-use Rattle.s4_state.specs.declared.objects.Which.TheVariants as which
+use Rattle.s4_objects.specs.declared.kept.Which.{Which}
+use Rattle.s4_objects.specs.declared.kept.Which.TheVariants as which
 use Rattle.s4_parts.specs.declared.parts.Parts.{Parts as Table}
 use Rattle.s4_parts.specs.Table.{IsForeign}
-use Rattle.s4_state.specs.declared.objects.Kept.{Kept}
-use Rattle.s4_state.specs.Chains.{same_which, chain_of, held, Chained, Begins, first_on}
+use Rattle.s4_objects.specs.declared.kept.Kept.{Kept}
+use Rattle.s4_objects.specs.Chains.{same_which, chain_of, held, Chained}
+use Rattle.s4_state.specs.Chains.{Begins, first_on}
 use Rattle.s4_state.specs.Laid.{laid, versions_on}
 use Rattle.s4_state.specs.Sound.{IsSound, IsTrack, TrackStands, DataFits, AttributesFit, AclFits, was_made, was_deleted}
 use Rattle.s4_state.specs.Stands.{StandsFor, NamesStand, MakesNone, RebindsNone, PutsOn, EndsAll}
-use Rattle.s4_state.proofs.Naming.{names_with, names_over, names_beside}
+use Rattle.s4_state.proofs.Naming.{names_with, names_over, names_beside, last-up}
 
 which_self : (w : Which) → same_which w w ≡ true
 which_self which.Data = refl
@@ -62,8 +65,7 @@ module _ (h : List Record) (r : Record) where
   drawn-more p e = drawn-snoc p h r ∙ ap (λ b. drawn p h + cond b 1 0) e
 
   versions-same : {V : Type 0} (track : Track V) (o : ObjectId) → concerns o.purse r ≡ false → versions track o (h ++ r ∷ []) ≡ versions track o h
-  versions-same track o e = versions-snoc track o h r
-      ∙ ap (λ b. if b then (if makes o r then begins r.moment (track.start o) ∷ versions track o h else (if deletes o r then ends r.moment (versions track o h) else with_effect r.moment (track.effect o r.request) (versions track o h))) else versions track o h) e
+  versions-same track o e = versions-snoc track o h r ∙ ap (λ b. if b then after_change track o (versions track o h) r else versions track o h) e
 
   pub versions_on-same : (w : Which) (o : ObjectId) → concerns o.purse r ≡ false → versions_on w o (h ++ r ∷ []) ≡ versions_on w o h
   versions_on-same which.Data o e = ap (laid data_track item.Data) (versions-same data_track o e)
@@ -116,7 +118,26 @@ module _ {chains : Chains Version} {found : ObjectId → Option Kept} {serials :
   pub stands_idle : ((p : Purse) → concerns p r ≡ false) → StandsFor chains found serials table (h ++ r ∷ [])
   stands_idle idle = stands_on (record { makes_none = λ q. ap (λ b. b && is_made q r.reply) (idle q.purse); draws_none = λ p. ap (λ b. b && is_create r.request) (idle p) }) s.chained
       (λ o w. s.tracks o w ∙ sym (versions_on-same h r w o (idle o.purse)))
-      (names_with s.partitions r (record { bindings = λ p n old. ap (λ b. if b then rebound p n r.moment r.request old else old) (idle p); names = λ p old. ap (λ b. if b then named_by p r.request old else old) (idle p) }))
+      (names_with s.partitions r (last-up h r sound.moments) (record { bindings = λ p n old. ap (λ b. if b then rebound p n r.moment r.request old else old) (idle p); names = λ p old. ap (λ b. if b then named_by p r.request old else old) (idle p) }))
+
+  -- a record that makes, ends, changes, erases and binds nothing, also one that concerns all purses
+  pub stands_still : ((q : ObjectId) → is_made q r.reply ≡ false) → is_create r.request ≡ false → ((q : ObjectId) → is_deleted q r.request ≡ false) → ((q : ObjectId) → span_of q r.request ≡ None)
+      → ((q : ObjectId) (old : List ℕ) → data_effect q r.request old ≡ None) → ((q : ObjectId) (old : List ℕ) → attribute_effect q r.request old ≡ None) → ((q : ObjectId) (old : List AclEntry) → acl_effect q r.request old ≡ None)
+      → RebindsNone r → StandsFor chains found serials table (h ++ r ∷ [])
+  stands_still made kind undeleted plain keeps-data keeps-attributes keeps-acl rebinds =
+      stands_on (record { makes_none = unmade; draws_none = λ p. ap (λ b. concerns p r && b) kind ∙ &&-false (concerns p r) }) s.chained
+      (λ o w. s.tracks o w ∙ sym (still o w)) (names_with s.partitions r (last-up h r sound.moments) rebinds)
+    where
+      unmade : (q : ObjectId) → makes q r ≡ false
+      unmade q = ap (λ b. concerns q.purse r && b) (made q) ∙ &&-false (concerns q.purse r)
+
+      kept : (q : ObjectId) → deletes q r ≡ false
+      kept q = ap (λ b. concerns q.purse r && b) (undeleted q) ∙ &&-false (concerns q.purse r)
+
+      still : (q : ObjectId) (w : Which) → versions_on w q (h ++ r ∷ []) ≡ versions_on w q h
+      still q which.Data = ap (laid data_track item.Data) (versions-idle data_track q h r (unmade q) (kept q) (plain q) (keeps-data q))
+      still q which.Attributes = ap (laid attribute_track item.Attr) (versions-idle attribute_track q h r (unmade q) (kept q) (plain q) (keeps-attributes q))
+      still q which.Acl = ap (laid acl_track item.Acl) (versions-idle acl_track q h r (unmade q) (kept q) (plain q) (keeps-acl q))
 
   -- a record that puts one value in the place of another
   pub stands_put : (new : Chains Version) (o : ObjectId) (k : Kept) (w : Which) (item : Item) → found o ≡ Some k → PutsOn h r o w item
@@ -131,7 +152,7 @@ module _ {chains : Chains Version} {found : ObjectId → Option Kept} {serials :
       let same : with_put r.moment item (versions_on w o h) ≡ with_put r.moment item (versions_on u q h) = ap (λ x. with_put r.moment item (versions_on w x h)) (object_is o q parts.0) ∙ ap (λ v. with_put r.moment item (versions_on v q h)) (which_is w u parts.1) in
       ap (λ b. if b then xs else held chains (found q) u) e ∙ is ∙ same ∙ sym (puts.tracks q u ∙ ap (λ b. if b then with_put r.moment item (versions_on u q h) else versions_on u q h) e))
       (λ e. ap (λ b. if b then xs else held chains (found q) u) e ∙ s.tracks q u ∙ sym (puts.tracks q u ∙ ap (λ b. if b then with_put r.moment item (versions_on u q h) else versions_on u q h) e)))
-      (names_with (names_beside s.partitions new o k w xs kept changed) r puts.rebinds)
+      (names_with (names_beside s.partitions new o k w xs kept changed) r (last-up h r sound.moments) puts.rebinds)
 
   -- a record that ends the object
   pub stands_end : (a b new : Chains Version) (o : ObjectId) (k : Kept) → found o ≡ Some k → EndsAll h r o
@@ -149,7 +170,7 @@ module _ {chains : Chains Version} {found : ObjectId → Option Kept} {serials :
       (λ other. let not : (w : Which) → (same_object o q && same_which w u) ≡ false = λ w. ap (λ x. x && same_which w u) other in
       held_elsewhere c2 o k kept which.Acl _ g q u (not which.Acl) ∙ held_elsewhere c1 o k kept which.Attributes _ f q u (not which.Attributes) ∙ held_elsewhere s.chained o k kept which.Data _ e q u (not which.Data)
       ∙ s.tracks q u ∙ sym (over.tracks q u ∙ ap (λ x. if x then with_end t (versions_on u q h) else versions_on u q h) other)))
-      (names_with (names_beside (names_beside (names_beside s.partitions a o k which.Data _ kept e) b o k which.Attributes _ kept f) new o k which.Acl _ kept g) r over.rebinds)
+      (names_with (names_beside (names_beside (names_beside s.partitions a o k which.Data _ kept e) b o k which.Attributes _ kept f) new o k which.Acl _ kept g) r (last-up h r sound.moments) over.rebinds)
     where
       t : ℕ
       t = r.moment
@@ -164,7 +185,7 @@ module _ {chains : Chains Version} {found : ObjectId → Option Kept} {serials :
       c2 = chained_still c1 o k kept which.Attributes _ f
 
       other-track : (w u : Which) → same_which w u ≡ false → (same_object o o && same_which w u) ≡ false
-      other-track w u x = ap (λ y. same_object o o && y) x ∙ Rattle.s4_types.proofs.Booleans.&&-false (same_object o o)
+      other-track w u x = ap (λ y. same_object o o && y) x ∙ &&-false (same_object o o)
 
       items-is : (m : Chains Version) (w : Which) → held m (found o) w ≡ items_of m (chain_of w k)
       items-is m w = ap (λ x. held m x w) kept
@@ -264,7 +285,7 @@ module _ {chains : Chains Version} {found : ObjectId → Option Kept} {serials :
       partitions = names_with (names_over s.partitions new found' (record {
         opened = λ p n c got. b.still c (s.partitions.holds.opened p n c got);
         items = λ p n c got. b.others c (s.partitions.holds.opened p n c got);
-      }) apart-made) r only.rebinds;
+      }) apart-made) r (last-up h r sound.moments) only.rebinds;
     }
       where
         apart-made : (q : ObjectId) (l : Kept) (w : Which) → found' q ≡ Some l → IsForeign table (chain_of w l)

@@ -1,32 +1,24 @@
 -- What the past of a purse weighs, as the next record comes.
-use Rattle.std.proofs.Common.{◌≡◌, ℕ, zero, suc, ◌+◌, ◌≤◌, Bool, true, false, cond, Option, Some, None, List, [], ◌∷◌, ◌++◌, refl, sym, ◌∙◌, ap, subst, arith}
-use Rattle.std.specs.Prelude.{◌&&◌, ◌==◌, sum_by, if◌then◌else◌}
+use Rattle.std.proofs.Common.{◌≡◌, ℕ, zero, suc, ◌+◌, ◌≤◌, Bool, true, false, cond, Option, Some, None, List, [], ◌∷◌, ◌++◌, refl, sym, ◌∙◌, ap, subst, arith, add-zero}
+use Rattle.std.specs.Prelude.{◌&&◌, ◌||◌, ◌==◌, map, sum_by, if◌then◌else◌}
 use Rattle.std.proofs.lemmas.List.Sums.{sum_by-append, sum_by-cons}
 use Rattle.std.proofs.lemmas.Bool.{eqb-true, eq-eqb}
 use Rattle.std.proofs.Math.Numerals.{suc-eq-add-one}
 use Rattle.s4_types.specs.declared.object.Purse.{Purse}
 use Rattle.s4_types.specs.declared.object.ObjectId.{ObjectId}
 use Rattle.s4_types.specs.declared.record.Record.{Record}
-use Rattle.s4_types.specs.declared.version.Version.{Version}
-use Rattle.s4_types.specs.declared.version.Item.{Item}
-use Rattle.s4_types.specs.declared.version.Item.TheVariants as item
 use Rattle.s4_types.specs.Names.{same_purse, same_object, object_in}
 use Rattle.s4_types.specs.Serials.{drawn}
 use Rattle.s4_types.specs.Spending.{sum_to}
-use Rattle.s4_types.specs.Versions.{Track, Value, versions, data_track, attribute_track, acl_track}
+use Rattle.s4_types.specs.Versions.{Track, Value, Span, is_within, begun, ended, erased, flushed_by, versions, data_track, attribute_track, acl_track}
+use Rattle.s4_types.specs.Erased.{span_by, is_in, covers}
 use Rattle.s4_types.proofs.Booleans.{by_test, &&-false}
-use Rattle.s4_types.proofs.SameNames.{object_is, object_self, purse_is}
-use Rattle.s4_tracks.specs.Chain.{with_put, with_end}
-use Rattle.s4_state.specs.declared.objects.Which.{Which}
-use Rattle.s4_state.specs.declared.objects.Which.TheVariants as which
-use Rattle.s4_state.specs.Chains.{same_which}
-use Rattle.s4_state.specs.Laid.{version_of, laid, versions_on}
-use Rattle.s4_state.specs.Stands.{PutsOn, EndsAll}
-use Rattle.s4_state.specs.Weights.{weight_of, track_weight, object_weight, binding_weight, purse_weight}
+use Rattle.s4_types.proofs.SameNames.{object_is, purse_is}
+use Rattle.s4_state.specs.Weights.{weight_of, value_weight, track_weight, object_weight, binding_weight, purse_weight, track_freed, object_freed, freed_weight}
 
 -- SUMS
 
-sum_to-cong : (n : ℕ) (f g : ℕ → ℕ) → ((k : ℕ) → k ≤ n → f k ≡ g k) → sum_to n f ≡ sum_to n g
+pub sum_to-cong : (n : ℕ) (f g : ℕ → ℕ) → ((k : ℕ) → k ≤ n → f k ≡ g k) → sum_to n f ≡ sum_to n g
 sum_to-cong zero f g e = e zero (omega arith)
 sum_to-cong (suc n) f g e =
     let rest : sum_to n f ≡ sum_to n g = sum_to-cong n f g (λ k l. e k (omega (arith, l))) in
@@ -37,7 +29,7 @@ sum_to-add : (n : ℕ) (f g : ℕ → ℕ) → sum_to n (λ k. f k + g k) ≡ su
 sum_to-add zero f g = refl
 sum_to-add (suc n) f g = let rest = sum_to-add n f g in omega (arith, rest)
 
-sum_to-zero : (n : ℕ) (f : ℕ → ℕ) → ((k : ℕ) → k ≤ n → f k ≡ 0) → sum_to n f ≡ 0
+pub sum_to-zero : (n : ℕ) (f : ℕ → ℕ) → ((k : ℕ) → k ≤ n → f k ≡ 0) → sum_to n f ≡ 0
 sum_to-zero zero f e = e zero (omega arith)
 sum_to-zero (suc n) f e =
     let rest : sum_to n f ≡ 0 = sum_to-zero n f (λ k l. e k (omega (arith, l))) in
@@ -67,117 +59,110 @@ sum_to-at (suc n) i d l = by_test (i == suc n)
     below : (i n : ℕ) → i ≤ suc n → (i == suc n) ≡ false → i ≤ n
     below i n l e = grind (arith, l, e)
 
--- LISTS OF VERSIONS
+-- ONE TRACK
 
-abbrev pub version_weight : (ℕ → ℕ → ℕ) → Version → ℕ
-version_weight f v = weight_of f v.end v.cost
+module _ {V : Type 0} (f : ℕ → ℕ → ℕ) (track : Track V) where
+  weight-cons : (v : Value V) (past : List (Value V)) → track_weight f track (v ∷ past) ≡ value_weight f track v + track_weight f track past
+  weight-cons v past = sum_by-cons (value_weight f track) v past
 
-abbrev pub laid_weight : (ℕ → ℕ → ℕ) → List Version → ℕ
-laid_weight f vs = sum_by (version_weight f) vs
+  -- a value without an end weighs nothing
+  unended-weight : (v : Value V) → v.end ≡ None → value_weight f track v ≡ 0
+  unended-weight v e = ap (λ (end : Option ℕ). cond v.is_erased 0 (weight_of f end (track.cost v.value))) e ∙ nothing v.is_erased
+    where
+      nothing : (b : Bool) → cond b zero zero ≡ zero
+      nothing true = refl
+      nothing false = refl
 
-pub laid-weight : {V : Type 0} (f : ℕ → ℕ → ℕ) (track : Track V) (wrap : V → Item) (values : List (Value V)) → laid_weight f (laid track wrap values) ≡ track_weight f track values
-laid-weight f track wrap [] = refl
-laid-weight f track wrap (v ∷ past) =
-    let rest = laid-weight f track wrap past in
-    let more : laid_weight f (laid track wrap past ++ version_of track wrap v ∷ []) ≡ laid_weight f (laid track wrap past) + laid_weight f (version_of track wrap v ∷ []) = sum_by-append (version_weight f) (laid track wrap past) (version_of track wrap v ∷ []) in
-    let one : laid_weight f (version_of track wrap v ∷ []) ≡ weight_of f v.end (track.cost v.value) + 0 = sum_by-cons (version_weight f) (version_of track wrap v) [] in
-    let whole : track_weight f track (v ∷ past) ≡ weight_of f v.end (track.cost v.value) + track_weight f track past = sum_by-cons (λ x. weight_of f x.end (track.cost x.value)) v past in
-    omega (arith, rest, more, one, whole)
+  -- with an end it weighs what it costs
+  ended-weight : (m : ℕ) (v : Value V) → v.is_erased ≡ false → value_weight f track (ended m v) ≡ f m (track.cost v.value)
+  ended-weight m v e = ap (λ (b : Bool). cond b 0 (f m (track.cost v.value))) e
 
--- what is held on one track of an object weighs
-abbrev pub on_weight : (ℕ → ℕ → ℕ) → Which → ObjectId → List Record → ℕ
-on_weight f w o h = laid_weight f (versions_on w o h)
+  pub first-weight : (m : ℕ) (x : V) → track_weight f track (begun m x ∷ []) ≡ 0
+  first-weight m x = weight-cons (begun m x) []
 
-object-weight : (f : ℕ → ℕ → ℕ) (h : List Record) (o : ObjectId) → object_weight f h o ≡ on_weight f which.Data o h + on_weight f which.Attributes o h + on_weight f which.Acl o h
-object-weight f h o =
-    let a = laid-weight f data_track item.Data (versions data_track o h) in
-    let b = laid-weight f attribute_track item.Attr (versions attribute_track o h) in
-    let c = laid-weight f acl_track item.Acl (versions acl_track o h) in
-    omega (arith, a, b, c)
+  pub end-weight : (m : ℕ) (v : Value V) (past : List (Value V)) → v.end ≡ None → v.is_erased ≡ false → track_weight f track (ended m v ∷ past) ≡ track_weight f track (v ∷ past) + f m (track.cost v.value)
+  end-weight m v past e whole =
+      let new = weight-cons (ended m v) past in
+      let old = weight-cons v past in
+      let none = unended-weight v e in
+      let some = ended-weight m v whole in
+      omega (arith, new, old, none, some)
+
+  pub put-weight : (m : ℕ) (x : V) (v : Value V) (past : List (Value V)) → v.end ≡ None → v.is_erased ≡ false
+      → track_weight f track (begun m x ∷ ended m v ∷ past) ≡ track_weight f track (v ∷ past) + f m (track.cost v.value)
+  put-weight m x v past e whole =
+      let more = weight-cons (begun m x) (ended m v ∷ past) in
+      let none = unended-weight (begun m x) refl in
+      let rest = end-weight m v past e whole in
+      omega (arith, more, none, rest)
+
+  -- what a flush erases weighs nothing from then on
+  flush-weight : (o : ObjectId) (r : Record) (span : Span) → span_by o r ≡ Some span → (values : List (Value V))
+      → track_weight f track (map (erased span) values) + track_freed f track o r values ≡ track_weight f track values
+  flush-weight o r span e [] = refl
+  flush-weight o r span e (v ∷ past) =
+      let new = weight-cons (erased span v) (map (erased span) past) in
+      let old = weight-cons v past in
+      let freed : track_freed f track o r (v ∷ past) ≡ (if covers o v.begin v.end r then value_weight f track v else 0) + track_freed f track o r past = sum_by-cons (λ x. if covers o x.begin x.end r then value_weight f track x else 0) v past in
+      let here : value_weight f track (erased span v) + (if covers o v.begin v.end r then value_weight f track v else 0) ≡ value_weight f track v
+      = ap (λ (s : Option Span). value_weight f track (erased span v) + cond (is_in s v.begin v.end) (value_weight f track v) 0) e ∙ parted v.is_erased (is_within span v.begin v.end) (weight_of f v.end (track.cost v.value)) in
+      let rest = flush-weight o r span e past in
+      omega (arith, new, old, freed, here, rest)
+    where
+      parted : (b c : Bool) (x : ℕ) → cond (b || c) 0 x + cond c (cond b 0 x) 0 ≡ cond b 0 x
+      parted true true x = refl
+      parted true false x = refl
+      parted false true x = omega arith
+      parted false false x = add-zero x
+
+  -- a record that erases nothing here takes nothing back
+  pub freed-none : (o : ObjectId) (r : Record) → span_by o r ≡ None → (values : List (Value V)) → track_freed f track o r values ≡ 0
+  freed-none o r e [] = refl
+  freed-none o r e (v ∷ past) =
+      let freed : track_freed f track o r (v ∷ past) ≡ (if covers o v.begin v.end r then value_weight f track v else 0) + track_freed f track o r past = sum_by-cons (λ x. if covers o x.begin x.end r then value_weight f track x else 0) v past in
+      let here : (if covers o v.begin v.end r then value_weight f track v else 0) ≡ 0 = ap (λ (s : Option Span). cond (is_in s v.begin v.end) (value_weight f track v) 0) e in
+      let rest = freed-none o r e past in
+      omega (arith, freed, here, rest)
+
+  -- a flush, or none
+  pub flushed-weight : (o : ObjectId) (r : Record) (span : Option Span) → span_by o r ≡ span → (values : List (Value V))
+      → track_weight f track (flushed_by span true values) + track_freed f track o r values ≡ track_weight f track values
+  flushed-weight o r None e values = ap (λ n. track_weight f track values + n) (freed-none o r e values) ∙ add-zero (track_weight f track values)
+  flushed-weight o r (Some span) e values = flush-weight o r span e values
 
 -- ONE OBJECT
 
-which_self : (w : Which) → same_which w w ≡ true
-which_self which.Data = refl
-which_self which.Attributes = refl
-which_self which.Acl = refl
+-- the record changes nothing of what the object ever had, but for what it erases
+pub record OnlyErases (h : List Record) (r : Record) (q : ObjectId) : Type 0 where
+  pub data_left : versions data_track q (h ++ r ∷ []) ≡ flushed_by (span_by q r) true (versions data_track q h)
+  pub attributes_left : versions attribute_track q (h ++ r ∷ []) ≡ flushed_by (span_by q r) true (versions attribute_track q h)
+  pub acl_left : versions acl_track q (h ++ r ∷ []) ≡ versions acl_track q h
 
--- the object's past weighs so much more once the record stands, and no other object's
-abbrev pub Grows : (ℕ → ℕ → ℕ) → List Record → Record → ObjectId → ℕ → Type 0
-Grows f h r o d = (q : ObjectId) → object_weight f (h ++ r ∷ []) q ≡ object_weight f h q + (if same_object o q then d else 0)
+module _ (f : ℕ → ℕ → ℕ) (h : List Record) (r : Record) where
+  -- the object's past weighs so much more, but for what the record takes back of it
+  abbrev pub Moves : ObjectId → ℕ → Type 0
+  Moves q d = object_weight f (h ++ r ∷ []) q + object_freed f h r q ≡ object_weight f h q + d
 
--- from the object itself, and the others
-grows : (f : ℕ → ℕ → ℕ) (h : List Record) (r : Record) (o : ObjectId) (d : ℕ) → object_weight f (h ++ r ∷ []) o ≡ object_weight f h o + d
-    → ((q : ObjectId) → same_object o q ≡ false → object_weight f (h ++ r ∷ []) q ≡ object_weight f h q) → Grows f h r o d
-grows f h r o d here there q = by_test (same_object o q)
-    (λ e. subst (λ x. object_weight f (h ++ r ∷ []) x ≡ object_weight f h x + d) (object_is o q e) here ∙ sym (ap (λ b. object_weight f h q + cond b d 0) e))
-    (λ e. there q e ∙ sym (ap (λ b. object_weight f h q + cond b d 0) e ∙ Rattle.std.proofs.Common.add-zero (object_weight f h q)))
+  pub object-freed-none : (q : ObjectId) → span_by q r ≡ None → object_freed f h r q ≡ 0
+  object-freed-none q e =
+      let a = freed-none f data_track q r e (versions data_track q h) in
+      let b = freed-none f attribute_track q r e (versions attribute_track q h) in
+      omega (arith, a, b)
 
-tracks-same : (f : ℕ → ℕ → ℕ) (h : List Record) (r : Record) (q : ObjectId) → ((u : Which) → versions_on u q (h ++ r ∷ []) ≡ versions_on u q h) → object_weight f (h ++ r ∷ []) q ≡ object_weight f h q
-tracks-same f h r q same =
-    let new = object-weight f (h ++ r ∷ []) q in
-    let old = object-weight f h q in
-    let a : on_weight f which.Data q (h ++ r ∷ []) ≡ on_weight f which.Data q h = ap (laid_weight f) (same which.Data) in
-    let b : on_weight f which.Attributes q (h ++ r ∷ []) ≡ on_weight f which.Attributes q h = ap (laid_weight f) (same which.Attributes) in
-    let c : on_weight f which.Acl q (h ++ r ∷ []) ≡ on_weight f which.Acl q h = ap (laid_weight f) (same which.Acl) in
-    omega (arith, new, old, a, b, c)
+  pub erases-moves : (q : ObjectId) → OnlyErases h r q → Moves q 0
+  erases-moves q only =
+      let a = ap (track_weight f data_track) only.data_left in
+      let b = ap (track_weight f attribute_track) only.attributes_left in
+      let c = ap (track_weight f acl_track) only.acl_left in
+      let x = flushed-weight f data_track q r (span_by q r) refl (versions data_track q h) in
+      let y = flushed-weight f attribute_track q r (span_by q r) refl (versions attribute_track q h) in
+      omega (arith, a, b, c, x, y)
 
-module _ (f : ℕ → ℕ → ℕ) (h : List Record) (r : Record) (o : ObjectId) where
-  -- one value is put in the place of another
-  module _ (w : Which) (new : Item) (puts : PutsOn h r o w new) (d : ℕ) (here : laid_weight f (with_put r.moment new (versions_on w o h)) ≡ on_weight f w o h + d) where
-    put-here : on_weight f w o (h ++ r ∷ []) ≡ on_weight f w o h + d
-    put-here =
-        let on : (same_object o o && same_which w w) ≡ true = rw (object_self o, which_self w) refl in
-        ap (laid_weight f) (puts.tracks o w ∙ ap (λ b. if b then with_put r.moment new (versions_on w o h) else versions_on w o h) on) ∙ here
-
-    put-there : (q : ObjectId) (u : Which) → (same_object o q && same_which w u) ≡ false → versions_on u q (h ++ r ∷ []) ≡ versions_on u q h
-    put-there q u e = puts.tracks q u ∙ ap (λ b. if b then with_put r.moment new (versions_on u q h) else versions_on u q h) e
-
-    other : (u : Which) → same_which w u ≡ false → on_weight f u o (h ++ r ∷ []) ≡ on_weight f u o h
-    other u e = ap (laid_weight f) (put-there o u (ap (λ b. same_object o o && b) e ∙ &&-false (same_object o o)))
-
-  put-object : (w : Which) (new : Item) (puts : PutsOn h r o w new) (d : ℕ) → laid_weight f (with_put r.moment new (versions_on w o h)) ≡ on_weight f w o h + d → object_weight f (h ++ r ∷ []) o ≡ object_weight f h o + d
-  put-object which.Data new puts d here =
-      let after = object-weight f (h ++ r ∷ []) o in
-      let before = object-weight f h o in
-      let a = put-here which.Data new puts d here in
-      let b = other which.Data new puts d here which.Attributes refl in
-      let c = other which.Data new puts d here which.Acl refl in
-      omega (arith, after, before, a, b, c)
-  put-object which.Attributes new puts d here =
-      let after = object-weight f (h ++ r ∷ []) o in
-      let before = object-weight f h o in
-      let a = other which.Attributes new puts d here which.Data refl in
-      let b = put-here which.Attributes new puts d here in
-      let c = other which.Attributes new puts d here which.Acl refl in
-      omega (arith, after, before, a, b, c)
-  put-object which.Acl new puts d here =
-      let after = object-weight f (h ++ r ∷ []) o in
-      let before = object-weight f h o in
-      let a = other which.Acl new puts d here which.Data refl in
-      let b = other which.Acl new puts d here which.Attributes refl in
-      let c = put-here which.Acl new puts d here in
-      omega (arith, after, before, a, b, c)
-
-  pub puts-grow : (w : Which) (new : Item) (puts : PutsOn h r o w new) (d : ℕ) → laid_weight f (with_put r.moment new (versions_on w o h)) ≡ on_weight f w o h + d → Grows f h r o d
-  puts-grow w new puts d here = grows f h r o d (put-object w new puts d here)
-      (λ q e. tracks-same f h r q (λ u. put-there w new puts d here q u (ap (λ b. b && same_which w u) e)))
-
-  -- all three values end
-  pub ends-grow : (ends : EndsAll h r o) (a b c : ℕ)
-      → laid_weight f (with_end r.moment (versions_on which.Data o h)) ≡ on_weight f which.Data o h + a
-      → laid_weight f (with_end r.moment (versions_on which.Attributes o h)) ≡ on_weight f which.Attributes o h + b
-      → laid_weight f (with_end r.moment (versions_on which.Acl o h)) ≡ on_weight f which.Acl o h + c
-      → Grows f h r o (a + (b + (c + 0)))
-  ends-grow ends a b c da db dc =
-      let on : (u : Which) → on_weight f u o (h ++ r ∷ []) ≡ laid_weight f (with_end r.moment (versions_on u o h)) = λ u. ap (laid_weight f) (ends.tracks o u ∙ ap (λ x. if x then with_end r.moment (versions_on u o h) else versions_on u o h) (object_self o)) in
-      let after = object-weight f (h ++ r ∷ []) o in
-      let before = object-weight f h o in
-      let x = on which.Data in
-      let y = on which.Attributes in
-      let z = on which.Acl in
-      grows f h r o (a + (b + (c + 0))) (omega (arith, after, before, x, y, z, da, db, dc))
-      (λ q e. tracks-same f h r q (λ u. ends.tracks q u ∙ ap (λ x. if x then with_end r.moment (versions_on u q h) else versions_on u q h) e))
+  -- a record that adds to the past of one object
+  pub moves-one : (o : ObjectId) (d : ℕ) → Moves o d → ((q : ObjectId) → same_object o q ≡ false → Moves q 0) → (q : ObjectId) → Moves q (if same_object o q then d else 0)
+  moves-one o d here there q = by_test (same_object o q)
+      (λ e. subst (λ x. Moves x d) (object_is o q e) here ∙ sym (ap (λ b. object_weight f h q + cond b d 0) e))
+      (λ e. there q e ∙ sym (ap (λ b. object_weight f h q + cond b d 0) e))
 
 -- ONE PURSE
 
@@ -192,41 +177,34 @@ bindings-snoc f p h r =
 abbrev share : ObjectId → ℕ → Purse → ℕ → ℕ
 share o d p serial = if same_object o (object_in p serial) then d else 0
 
-share-sum : (o : ObjectId) (d : ℕ) (p : Purse) (n : ℕ) → (same_purse o.purse p ≡ true → o.serial ≤ n) → sum_to n (share o d p) ≡ (if same_purse o.purse p then d else 0)
+pub share-sum : (o : ObjectId) (d : ℕ) (p : Purse) (n : ℕ) → (same_purse o.purse p ≡ true → o.serial ≤ n) → sum_to n (λ serial. if same_object o (object_in p serial) then d else 0) ≡ (if same_purse o.purse p then d else 0)
 share-sum o d p n low = by_test (same_purse o.purse p)
     (λ e. sum_to-cong n (share o d p) (at o.serial d) (λ k l. ap (λ b. cond (b && (o.serial == k)) d 0) e) ∙ sum_to-at n o.serial d (low e) ∙ sym (ap (λ b. cond b d 0) e))
     (λ e. sum_to-zero n (share o d p) (λ k l. ap (λ b. cond (b && (o.serial == k)) d 0) e) ∙ sym (ap (λ b. cond b d 0) e))
 
--- a record that draws no serial, and changes the past of one object and of no name
-pub purse-grows : (f : ℕ → ℕ → ℕ) (h : List Record) (r : Record) (o : ObjectId) (d : ℕ) → ((p : Purse) → drawn p (h ++ r ∷ []) ≡ drawn p h) → o.serial ≤ drawn o.purse h
-    → Grows f h r o d → ((p : Purse) → binding_weight f p r ≡ 0) → (p : Purse) → purse_weight f p (h ++ r ∷ []) ≡ purse_weight f p h + (if same_purse o.purse p then d else 0)
-purse-grows f h r o d same low grown none p =
-    let n : ℕ = drawn p h in
-    let old : ℕ → ℕ = λ serial. object_weight f h (object_in p serial) in
-    let new : ℕ → ℕ = λ serial. object_weight f (h ++ r ∷ []) (object_in p serial) in
-    let count : sum_to (drawn p (h ++ r ∷ [])) new ≡ sum_to n new = ap (λ k. sum_to k new) (same p) in
-    let each : sum_to n new ≡ sum_to n (λ k. old k + share o d p k) = sum_to-cong n new (λ k. old k + share o d p k) (λ k l. grown (object_in p k)) in
-    let apart : sum_to n (λ k. old k + share o d p k) ≡ sum_to n old + sum_to n (share o d p) = sum_to-add n old (share o d p) in
-    let one : sum_to n (share o d p) ≡ (if same_purse o.purse p then d else 0) = share-sum o d p n (λ e. subst (λ x. o.serial ≤ drawn x h) (purse_is o.purse p e) low) in
-    let names : sum_by (binding_weight f p) (h ++ r ∷ []) ≡ sum_by (binding_weight f p) h + binding_weight f p r = bindings-snoc f p h r in
-    let nothing : binding_weight f p r ≡ 0 = none p in
-    omega (arith, count, each, apart, one, names, nothing)
+-- a record that erases nothing in the purse takes nothing back
+pub freed_weight-none : (f : ℕ → ℕ → ℕ) (p : Purse) (h : List Record) (r : Record) → ((serial : ℕ) → span_by (object_in p serial) r ≡ None) → freed_weight f p h r ≡ 0
+freed_weight-none f p h r none = sum_to-zero (drawn p h) (λ k. object_freed f h r (object_in p k)) (λ k l. object-freed-none f h r (object_in p k) (none k))
 
--- a record that draws no serial, and changes the past of no object
-pub purse-still : (f : ℕ → ℕ → ℕ) (h : List Record) (r : Record) → ((p : Purse) → drawn p (h ++ r ∷ []) ≡ drawn p h) → ((q : ObjectId) (u : Which) → versions_on u q (h ++ r ∷ []) ≡ versions_on u q h)
-    → (p : Purse) → purse_weight f p (h ++ r ∷ []) ≡ purse_weight f p h + binding_weight f p r
-purse-still f h r same tracks p =
+-- a record that draws no serial
+pub purse-moves : (f : ℕ → ℕ → ℕ) (h : List Record) (r : Record) (part : ObjectId → ℕ) → ((p : Purse) → drawn p (h ++ r ∷ []) ≡ drawn p h) → ((q : ObjectId) → Moves f h r q (part q))
+    → (p : Purse) → purse_weight f p (h ++ r ∷ []) + freed_weight f p h r ≡ purse_weight f p h + sum_to (drawn p h) (λ serial. part (object_in p serial)) + binding_weight f p r
+purse-moves f h r part same moves p =
     let n : ℕ = drawn p h in
     let old : ℕ → ℕ = λ serial. object_weight f h (object_in p serial) in
     let new : ℕ → ℕ = λ serial. object_weight f (h ++ r ∷ []) (object_in p serial) in
+    let freed : ℕ → ℕ = λ serial. object_freed f h r (object_in p serial) in
+    let more : ℕ → ℕ = λ serial. part (object_in p serial) in
     let count : sum_to (drawn p (h ++ r ∷ [])) new ≡ sum_to n new = ap (λ k. sum_to k new) (same p) in
-    let each : sum_to n new ≡ sum_to n old = sum_to-cong n new old (λ k l. tracks-same f h r (object_in p k) (tracks (object_in p k))) in
+    let before : sum_to n (λ k. new k + freed k) ≡ sum_to n new + sum_to n freed = sum_to-add n new freed in
+    let each : sum_to n (λ k. new k + freed k) ≡ sum_to n (λ k. old k + more k) = sum_to-cong n (λ k. new k + freed k) (λ k. old k + more k) (λ k l. moves (object_in p k)) in
+    let after : sum_to n (λ k. old k + more k) ≡ sum_to n old + sum_to n more = sum_to-add n old more in
     let names : sum_by (binding_weight f p) (h ++ r ∷ []) ≡ sum_by (binding_weight f p) h + binding_weight f p r = bindings-snoc f p h r in
-    omega (arith, count, each, names)
+    omega (arith, count, before, each, after, names)
 
 -- a record that makes an object, and draws its serial: the object has no past
 pub purse-made : (f : ℕ → ℕ → ℕ) (h : List Record) (r : Record) (o : ObjectId) → ((p : Purse) → drawn p (h ++ r ∷ []) ≡ drawn p h + (if same_purse o.purse p then 1 else 0)) → o.serial ≡ drawn o.purse h + 1
-    → object_weight f (h ++ r ∷ []) o ≡ 0 → ((q : ObjectId) (u : Which) → same_object o q ≡ false → versions_on u q (h ++ r ∷ []) ≡ versions_on u q h) → ((p : Purse) → binding_weight f p r ≡ 0)
+    → object_weight f (h ++ r ∷ []) o ≡ 0 → ((q : ObjectId) → same_object o q ≡ false → object_weight f (h ++ r ∷ []) q ≡ object_weight f h q) → ((p : Purse) → binding_weight f p r ≡ 0)
     → (p : Purse) → purse_weight f p (h ++ r ∷ []) ≡ purse_weight f p h
 purse-made f h r o draws next fresh elsewhere none p =
     let names : sum_by (binding_weight f p) (h ++ r ∷ []) ≡ sum_by (binding_weight f p) h + binding_weight f p r = bindings-snoc f p h r in
@@ -242,11 +220,11 @@ purse-made f h r o draws next fresh elsewhere none p =
 
     -- a serial of another object
     apart : (k : ℕ) → same_object o (object_in p k) ≡ false → new k ≡ old k
-    apart k e = tracks-same f h r (object_in p k) (λ u. elsewhere (object_in p k) u e)
+    apart k e = elsewhere (object_in p k) e
 
     others : same_purse o.purse p ≡ false → sum_to (drawn p (h ++ r ∷ [])) new ≡ sum_to (drawn p h) old
     others e =
-        let count : drawn p (h ++ r ∷ []) ≡ drawn p h = draws p ∙ ap (λ b. drawn p h + cond b 1 0) e ∙ Rattle.std.proofs.Common.add-zero (drawn p h) in
+        let count : drawn p (h ++ r ∷ []) ≡ drawn p h = draws p ∙ ap (λ b. drawn p h + cond b 1 0) e ∙ add-zero (drawn p h) in
         ap (λ k. sum_to k new) count ∙ sum_to-cong (drawn p h) new old (λ k l. apart k (ap (λ b. b && (o.serial == k)) e))
 
     mine : same_purse o.purse p ≡ true → sum_to (drawn p (h ++ r ∷ [])) new ≡ sum_to (drawn p h) old

@@ -5,14 +5,15 @@ use Rattle.s4_types.specs.declared.version.Version.{Version}
 use Rattle.s4_types.specs.declared.version.Item.{Item}
 use Rattle.s4_types.specs.declared.version.Item.TheVariants.{Data, Attr, Acl}
 
--- the bytes that a version holds
-abbrev pub bytes_of_item : Option Item → List ℕ
-bytes_of_item (Some (Data bytes)) = bytes
-bytes_of_item (Some (Attr bytes)) = bytes
-bytes_of_item _ = []
+-- the bytes that a version holds, where it holds any
+abbrev pub bytes_of_item : Option Item → Option (List ℕ)
+bytes_of_item (Some (Data bytes)) = Some bytes
+bytes_of_item (Some (Attr bytes)) = Some bytes
+bytes_of_item _ = None
 
-abbrev pub bytes_in : Option Version → List ℕ
-bytes_in None = []
+-- no bytes where there is no version, and none are told of one that is erased
+abbrev pub bytes_in : Option Version → Option (List ℕ)
+bytes_in None = Some []
 bytes_in (Some v) = bytes_of_item v.item
 
 -- the ACL that a version holds, and its begin

@@ -1,8 +1,8 @@
-pub mod Keys
 pub mod Held
 pub mod Laid
 pub mod Sound
 pub mod Chains
+pub mod Flushes
 pub mod Shown
 pub mod Log
 pub mod Weights

@@ -11,8 +11,8 @@ use Rattle.s4_types.specs.Base.{Base}
 use Rattle.s4_types.specs.Answer.{answer}
 use Rattle.s4_types.specs.Serials.{drawn}
 use Rattle.s4_types.specs.Play.{last_of}
-use Rattle.s4_state.specs.declared.objects.Which.{Which}
-use Rattle.s4_state.specs.declared.objects.Which.TheVariants as which
+use Rattle.s4_objects.specs.declared.kept.Which.{Which}
+use Rattle.s4_objects.specs.declared.kept.Which.TheVariants as which
 
 -- whether some record made the object, and whether some record deleted it
 abbrev pub was_made : ObjectId → List Record → Bool

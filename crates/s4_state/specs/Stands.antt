@@ -1,5 +1,5 @@
 -- What the drive keeps stands for its history.
-use Rattle.std.specs.Prelude.{◌≡◌, ℕ, false, ◌&&◌, is_some, Option, Some, List, [], ◌∷◌, ◌++◌, if◌then◌else◌}
+use Rattle.std.specs.Prelude.{◌≡◌, ℕ, true, false, ◌&&◌, is_some, Option, Some, List, [], ◌∷◌, ◌++◌, if◌then◌else◌}
 use Rattle.std.specs.BTreeMap.{get}
 use Rattle.s4_store.specs.Chains.{Chains}
 use Rattle.s4_types.specs.declared.object.Purse.{Purse}
@@ -11,15 +11,17 @@ use Rattle.s4_types.specs.Names.{same_object}
 use Rattle.s4_types.specs.Versions.{Value, makes}
 use Rattle.s4_types.specs.Bindings.{bindings_after, names_after, names_of}
 use Rattle.s4_types.specs.Serials.{drawn, draws}
+use Rattle.s4_types.specs.Play.{last_of}
 use Rattle.s4_names.specs.Drawn.{drawn_in}
 use Rattle.s4_tracks.specs.Chain.{with_put, with_end}
-use Rattle.s4_state.specs.declared.objects.Which.{Which}
-use Rattle.s4_state.specs.declared.objects.Kept.{Kept}
+use Rattle.s4_objects.specs.declared.kept.Which.{Which}
+use Rattle.s4_objects.specs.declared.kept.Kept.{Kept}
 use Rattle.s4_state.specs.declared.parts.Parts.{Parts}
 use Rattle.s4_parts.specs.declared.parts.Parts.{Parts as Table}
 use Rattle.s4_parts.specs.Table.{Holds, names_in, bindings_in, IsForeign}
-use Rattle.s4_state.specs.Chains.{same_which, chain_of, held, Chained}
-use Rattle.s4_state.specs.Keys.{object_cmp}
+use Rattle.s4_parts.specs.Waiting.{waiting_in, all_by, Waits}
+use Rattle.s4_objects.specs.Chains.{same_which, chain_of, held, Chained}
+use Rattle.s4_objects.specs.Keys.{object_cmp}
 use Rattle.s4_state.specs.Laid.{versions_on, bindings_on}
 use Rattle.s4_state.specs.Sound.{IsSound, was_made}
 
@@ -28,6 +30,9 @@ pub record NamesStand (chains : Chains Version) (found : ObjectId → Option Kep
   pub holds : Holds chains table
   pub names : (p : Purse) → names_in chains table p ≡ names_of p h
   pub bindings : (p : Purse) (n : List ℕ) → bindings_in chains table p n ≡ bindings_on p n h
+  -- the bindings that ended wait in the order of their ends, none of which is later than the last record
+  pub waits : Waits chains table
+  pub later : all_by (last_of h) (waiting_in table) ≡ true
   -- no track of an object has the chain of a name
   pub apart : (o : ObjectId) (k : Kept) (w : Which) → found o ≡ Some k → IsForeign table (chain_of w k)
 

@@ -8,8 +8,8 @@ ghost use Rattle.s4_state.specs.Sound.{IsSound, IsNext};
 ghost use Rattle.s4_state.specs.Stands.{IsKept, Stands};
 
 use crate::change::put;
-use crate::objects::Which;
 use crate::parts::Parts;
+use s4_objects::Which;
 use s4_store::Store;
 use s4_types::{Bytes, Item, NoMemory, ObjectId, Record, Version};
 

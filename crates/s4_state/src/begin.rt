@@ -4,7 +4,7 @@ ghost use Rattle.std.specs.Prelude.{◌≡◌, ◌≤◌, IfOk, OnErr};
 ghost use Rattle.s4_store.specs.Chains.{Chains};
 ghost use Rattle.s4_state.specs.Chains.{OpensTwo, Opens, Begins};
 
-use crate::objects::Kept;
+use s4_objects::Kept;
 use s4_store::{Chain, Store};
 use s4_tracks::Track;
 use s4_types::{Acl, Bytes, Item, Moment, NoMemory, Principal, Version};

@@ -5,8 +5,8 @@ ghost use Rattle.s4_tracks.specs.Chain.{IsSmall};
 ghost use Rattle.s4_state.specs.Sound.{IsSound, was_made};
 ghost use Rattle.s4_state.specs.Stands.{IsKept, Stands, PutsOn};
 
-use crate::objects::Which;
 use crate::parts::Parts;
+use s4_objects::Which;
 use s4_store::Store;
 use s4_types::{Item, NoMemory, ObjectId, Record, Version};
 

@@ -1,49 +1,75 @@
 //! One record more: what is kept follows it.
 
-ghost use Rattle.std.specs.Prelude.{◌≡◌, OnOk, OnErr, ◌++◌, ◌∷◌, []};
+ghost use Rattle.std.specs.Prelude.{◌≡◌, ℕ, true, false, IfOk, OnOk, OnErr, ◌++◌, ◌∷◌, []};
+ghost use Rattle.s4_types.specs.declared.object.Purse.{Purse};
 ghost use Rattle.s4_types.specs.Base.{opened};
+ghost use Rattle.s4_types.specs.Kinds.{is_refused};
+ghost use Rattle.s4_state.specs.Flushes.{is_flush, IsCharged};
 ghost use Rattle.s4_state.specs.Sound.{IsSound, IsNext};
 ghost use Rattle.s4_state.specs.Stands.{IsKept, Stands};
 
 use crate::parts::Parts;
-use crate::{acl, append, attributes, create, delete, partitions, truncate, write};
+use crate::{acl, append, attributes, create, delete, flush, partitions, truncate, write};
+use s4_objects::Refund;
 use s4_store::Store;
 use s4_types::{NoMemory, Record, Request, Version};
 use std::alloc::Global;
 
-/// Brings what is kept of objects and names to where the record leaves it. Every growth comes before any change that a
-/// call tells; chains that were opened in vain are closed again.
+/// Brings what is kept of objects and names to where the record leaves it, and answers what a flush
+/// takes back of charges. Every growth comes before any change that a call tells; chains that were
+/// opened in vain are closed again.
 pub fn follow<S: Store<Version>>(
+    alloc: Global,
+    parts: &mut Parts<S>,
+    added: &Record,
+) -> Result<Vec<Refund>, NoMemory>
+    requires kept { IsKept S.chains parts.old }
+    requires next { IsNext (opened parts.old.window) parts.old.history.records added.now }
+    requires sound { IsSound (parts.old.history.records ++ added.now ∷ []) }
+    ensures ok { OnOk result (Stands S.chains parts.new (parts.old.history.records ++ added.now ∷ [])) }
+    ensures charged { IfOk result (λ refunds. (weight : ℕ → ℕ → ℕ) (p : Purse) → IsCharged weight p parts.old.history.records added.now refunds.items) }
+    ensures refused { IfOk result (λ refunds. is_refused added.now.reply ≡ true → refunds.items ≡ []) }
+    ensures err { OnErr result (IsKept S.chains parts.new) }
+    ensures history { parts.new.history ≡ parts.old.history }
+    ensures window { parts.new.window ≡ parts.old.window }
+{
+    if added.reply.is_refused() {
+        return Ok(Vec::new(alloc));
+    }
+    match &added.request {
+        Request::Flush { from, to } => flush::apply(alloc, parts, added, *from, *to),
+        Request::FlushO { object, from, to } => {
+            flush::apply_to_one(alloc, parts, added, object, *from, *to)
+        }
+        _ => {
+            change(alloc, parts, added)?;
+            Ok(Vec::new(alloc))
+        }
+    }
+}
+
+// Brings what is kept of objects and names to where a record leaves it that is no flush.
+fn change<S: Store<Version>>(
     alloc: Global,
     parts: &mut Parts<S>,
     added: &Record,
 ) -> Result<(), NoMemory>
     requires kept { IsKept S.chains parts.old }
     requires next { IsNext (opened parts.old.window) parts.old.history.records added.now }
+    requires granted { is_refused added.now.reply ≡ false }
+    requires plain { is_flush added.now.request ≡ false }
     requires sound { IsSound (parts.old.history.records ++ added.now ∷ []) }
     ensures ok { OnOk result (Stands S.chains parts.new (parts.old.history.records ++ added.now ∷ [])) }
     ensures err { OnErr result (IsKept S.chains parts.new) }
     ensures history { parts.new.history ≡ parts.old.history }
     ensures window { parts.new.window ≡ parts.old.window }
 {
-    if added.reply.is_refused() {
-        return Ok(());
-    }
     match &added.request {
         Request::Create { number } => create::apply(alloc, parts, added, *number),
         Request::Delete { object } => {
             delete::apply(parts, added, object);
             Ok(())
         }
-        Request::Read { .. }
-        | Request::GetAttr { .. }
-        | Request::GetAclByUser { .. }
-        | Request::GetAclByIndex { .. }
-        | Request::PList { .. }
-        | Request::PMount { .. }
-        | Request::SetWindow { .. }
-        | Request::SetBudget { .. }
-        | Request::ReadAudit { .. } => Ok(()),
         Request::Write {
             object,
             offset,
@@ -64,5 +90,7 @@ pub fn follow<S: Store<Version>>(
             partitions::unbind(parts, added, purse, name);
             Ok(())
         }
+        // a read changes nothing, and neither does what holds of budgets or of all purses
+        _ => Ok(()),
     }
 }

@@ -8,6 +8,7 @@ mod begin;
 mod change;
 mod create;
 mod delete;
+mod flush;
 mod follow;
 mod objects;
 mod partitions;
@@ -17,7 +18,5 @@ mod truncate;
 mod values;
 mod write;
 
+pub use s4_objects::Refund;
 pub use state::State;
-
-#[cfg(test)]
-mod tests;

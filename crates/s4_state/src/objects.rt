@@ -4,42 +4,11 @@ ghost use Rattle.std.specs.Prelude.{◌≡◌, Some, OnOk, OnErr, if◌then◌el
 ghost use Rattle.std.specs.BTreeMap.{get};
 ghost use Rattle.s4_types.specs.declared.object.ObjectId.{ObjectId};
 ghost use Rattle.s4_types.specs.Names.{same_object};
-ghost use Rattle.s4_state.specs.Keys.{object_cmp};
+ghost use Rattle.s4_objects.specs.Keys.{object_cmp};
 
-use s4_tracks::Track;
+use s4_objects::Kept;
 use s4_types::{NoMemory, ObjectId};
 use std::collections::BTreeMap;
-
-/// One of the tracks of an object.
-#[derive(Clone, Copy, Debug, PartialEq, Eq)]
-pub enum Which {
-    Data,
-    Attributes,
-    Acl,
-}
-
-/// The tracks of an object.
-#[derive(Clone, Copy, Debug, PartialEq, Eq)]
-pub struct Kept {
-    pub data: Track,
-    pub attributes: Track,
-    pub acl: Track,
-}
-
-impl Kept {
-    ghost use Rattle.s4_state.specs.Chains.{chain_of};
-
-    /// One of the object's tracks.
-    pub fn track(&self, which: Which) -> Track
-        ensures { result.chain ≡ chain_of which self.now }
-    {
-        match which {
-            Which::Data => self.data,
-            Which::Attributes => self.attributes,
-            Which::Acl => self.acl,
-        }
-    }
-}
 
 /// Keeps an object that isn't kept yet.
 pub fn keep(

@@ -3,22 +3,23 @@
 ghost use Rattle.std.specs.Prelude.{◌≡◌, ℕ, ◌≤◌, ◌+◌, IfSome, is_some, nat_le, not};
 ghost use Rattle.std.specs.Option.{option_copied, option_map};
 ghost use Rattle.std.specs.BTreeMap.{get};
-ghost use Rattle.s4_types.specs.Answer.{moment_of, data_of, attributes_of, acl_of};
+ghost use Rattle.s4_types.specs.Answer.{moment_of, is_gone, data_of, attributes_of, acl_of};
+ghost use Rattle.s4_types.specs.Versions.{when, value_at, data_track, attribute_track};
 ghost use Rattle.s4_types.specs.Serials.{drawn};
 ghost use Rattle.s4_types.specs.Bindings.{bound_at, bound_count, has_name};
 ghost use Rattle.s4_types.specs.Judgement.{held_at, judge as judge_of};
 ghost use Rattle.s4_types.specs.Names.{object_in};
 ghost use Rattle.s4_types.specs.Play.{last_of};
 ghost use Rattle.s4_judge.specs.Held.{shown_held};
-ghost use Rattle.s4_state.specs.Keys.{object_cmp};
+ghost use Rattle.s4_objects.specs.Keys.{object_cmp};
 ghost use Rattle.s4_state.specs.Laid.{version_at};
 ghost use Rattle.s4_state.specs.Weights.{cost_now};
 
-use crate::objects::{Kept, Which};
 use crate::values::{bytes_of, held_of};
 use s4_audit::Audit;
 use s4_judge::{Held, judge_now, judge_past};
 use s4_names::Names;
+use s4_objects::{Kept, Which};
 use s4_store::Store;
 use s4_types::{
     Acl, Caller, Grant, Moment, Name, ObjectId, Purse, Refusal, Right, Serial, Version,
@@ -114,18 +115,28 @@ impl<S: Store<Version>> Parts<S> {
         }
     }
 
-    /// The data in force, nothing where the object doesn't live.
-    pub fn data(&self, object: &ObjectId, at: Option<Moment>) -> &[u8]
+    /// The current data, nothing where the object doesn't live. No flush erases them.
+    pub fn current_data(&self, object: &ObjectId) -> &[u8]
         requires { IsKept S.chains self.now }
-        ensures { (t : ℕ) → last_of self.now.history.records ≤ t → result.now ≡ data_of object.now (moment_of t at) self.now.history.records }
+        ensures { (t : ℕ) → last_of self.now.history.records ≤ t → result.now ≡ data_of object.now t self.now.history.records }
+    {
+        self.data(object, None).unwrap()
+    }
+
+    /// The data in force, nothing where the object doesn't live. None where a flush erased them.
+    pub fn data(&self, object: &ObjectId, at: Option<Moment>) -> Option<&[u8]>
+        requires { IsKept S.chains self.now }
+        ensures { (t : ℕ) → last_of self.now.history.records ≤ t
+            → option_copied result ≡ when (not (is_gone (value_at data_track object.now (moment_of t at) self.now.history.records))) (data_of object.now (moment_of t at) self.now.history.records) }
     {
         bytes_of(self.version(object, Which::Data, at))
     }
 
-    /// The attributes in force, nothing where the object doesn't live.
-    pub fn attributes(&self, object: &ObjectId, at: Option<Moment>) -> &[u8]
+    /// The attributes in force, nothing where the object doesn't live. None where a flush erased them.
+    pub fn attributes(&self, object: &ObjectId, at: Option<Moment>) -> Option<&[u8]>
         requires { IsKept S.chains self.now }
-        ensures { (t : ℕ) → last_of self.now.history.records ≤ t → result.now ≡ attributes_of object.now (moment_of t at) self.now.history.records }
+        ensures { (t : ℕ) → last_of self.now.history.records ≤ t
+            → option_copied result ≡ when (not (is_gone (value_at attribute_track object.now (moment_of t at) self.now.history.records))) (attributes_of object.now (moment_of t at) self.now.history.records) }
     {
         bytes_of(self.version(object, Which::Attributes, at))
     }

@@ -9,8 +9,8 @@ ghost use Rattle.s4_state.specs.Sound.{IsSound, IsNext};
 ghost use Rattle.s4_state.specs.Stands.{IsKept, Stands};
 
 use crate::change::put;
-use crate::objects::Which;
 use crate::parts::Parts;
+use s4_objects::Which;
 use s4_store::Store;
 use s4_types::{Bytes, Item, NoMemory, ObjectId, Record, Version};
 use std::alloc::Global;
@@ -43,7 +43,7 @@ pub fn apply<S: Store<Version>>(
     ensures history { parts.new.history ≡ parts.old.history }
     ensures window { parts.new.window ≡ parts.old.window }
 {
-    let new = of_length(alloc, parts.data(object, None), length as usize)?;
+    let new = of_length(alloc, parts.current_data(object), length as usize)?;
     let item = Item::Data(Bytes::new(new));
     put(parts, added, object, Which::Data, item)
 }

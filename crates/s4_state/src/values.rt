@@ -8,18 +8,20 @@ ghost use Rattle.s4_state.specs.Held.{bytes_in, held_in};
 use s4_judge::Held;
 use s4_types::{Item, Version};
 
-/// The bytes of a value of the data or of the attributes, none where there is no value.
-pub fn bytes_of(version: Option<&Version>) -> &[u8]
-    ensures { result.now ≡ bytes_in (option_copied version.entry) }
+/// The bytes of a value of the data or of the attributes: an empty slice where there is no value, and
+/// None where it is erased.
+pub fn bytes_of(version: Option<&Version>) -> Option<&[u8]>
+    ensures { option_copied result ≡ bytes_in (option_copied version.entry) }
 {
     match version {
+        None => Some(&[]),
         Some(
             Version {
                 item: Some(Item::Data(bytes) | Item::Attr(bytes)),
                 ..
             },
-        ) => bytes.as_slice(),
-        _ => &[],
+        ) => Some(bytes.as_slice()),
+        Some(_) => None,
     }
 }
 

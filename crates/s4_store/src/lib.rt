@@ -3,8 +3,6 @@
 
 mod plain;
 mod store;
-#[cfg(test)]
-mod tests;
 
 pub use plain::PlainStore;
 pub use store::{Chain, NoMemory, Store};

@@ -10,7 +10,7 @@ use Rattle.s4_types.specs.Versions.{ends_by}
 use Rattle.s4_types.proofs.Booleans.{by_test, both}
 use Rattle.s4_store.specs.Chains.{newest_of}
 use Rattle.s4_tracks.specs.Chain.{begun, end_at, ended, with_end, with_put, newer, unended, in_force, endless, current_of, version_in, is_within, erased, flushed_one, flushed, is_expired}
-use Rattle.s4_tracks.specs.Swept.{IsSwept}
+use Rattle.s4_tracks.specs.Swept.{IsSwept, IsFrom}
 
 -- A SWEEP, AND A LATER ONE
 
@@ -170,11 +170,7 @@ pub swept_current : (hz : ℕ) (held all : List Version) → IsSwept hz held all
 swept_current hz held all s =
     ap endless (newest-last held) ∙ sym (ap current_of s.whole ∙ ap endless (newest-last (s.gone ++ held)) ∙ last-swept hz s.gone held s.expired)
 
--- where there is a moment, it isn't before the horizon
-abbrev pub IsFrom : ℕ → Option ℕ → Type 0
-IsFrom hz None = Unit {0}
-IsFrom hz (Some m) = hz ≤ m
-
+-- and so for a value now, or at a moment that isn't before the horizon
 pub swept_version_in : (hz : ℕ) (at : Option ℕ) (held all : List Version) → IsFrom hz at → IsSwept hz held all → version_in at held ≡ version_in at all
 swept_version_in hz None held all l s = swept_current hz held all s
 swept_version_in hz (Some m) held all l s = swept_in_force hz m held all l s

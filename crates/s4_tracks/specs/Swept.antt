@@ -1,5 +1,5 @@
 -- What a sweep leaves of the values of a track.
-use Rattle.std.specs.Prelude.{◌≡◌, ℕ, true, List, ◌++◌}
+use Rattle.std.specs.Prelude.{◌≡◌, ℕ, ◌≤◌, true, Option, Some, None, List, ◌++◌}
 use Rattle.std.specs.List.{list_all}
 use Rattle.s4_types.specs.declared.version.Version.{Version}
 use Rattle.s4_tracks.specs.Chain.{is_expired}
@@ -9,3 +9,8 @@ pub record IsSwept (horizon : ℕ) (held all : List Version) : Type 0 where
   pub gone : List Version
   pub whole : all ≡ gone ++ held
   pub expired : list_all (is_expired horizon) gone ≡ true
+
+-- where there is a moment, it isn't before the horizon
+abbrev pub IsFrom : ℕ → Option ℕ → Type 0
+IsFrom horizon None = Unit {0}
+IsFrom horizon (Some m) = horizon ≤ m

@@ -6,6 +6,3 @@ mod track;
 
 pub use eraser::Eraser;
 pub use track::{Track, cost_of};
-
-#[cfg(test)]
-mod tests;

@@ -1,6 +1,6 @@
 -- The newest value that began by a moment is what the changes up to it leave.
 use Rattle.std.proofs.Common.{◌≡◌, ℕ, ◌≤◌, Bool, true, false, cond, Option, Some, None, List, [], ◌∷◌, refl, sym, ◌∙◌, ap, arith, fold}
-use Rattle.std.specs.Prelude.{◌&&◌, nat_le, unwrap_or, if◌then◌else◌}
+use Rattle.std.specs.Prelude.{◌&&◌, nat_le, map, unwrap_or, if◌then◌else◌}
 use Rattle.std.specs.List.{find, list_all}
 use Rattle.std.specs.Option.{option_map}
 use Rattle.s4_types.specs.declared.object.ObjectId.{ObjectId}
@@ -8,7 +8,7 @@ use Rattle.s4_types.specs.declared.request.Request.{Request}
 use Rattle.s4_types.specs.declared.record.Record.{Record}
 use Rattle.s4_types.specs.Applied.{affected, applied_to, applied_after, applied, InOrder}
 use Rattle.s4_types.specs.Kinds.{concerns}
-use Rattle.s4_types.specs.Versions.{Track, Value, begun, ended, with_end, with_value, with_effect, after_change, versions_after, versions, makes, deletes, is_deleted, lives_at, value_at}
+use Rattle.s4_types.specs.Versions.{Track, Value, begun, ended, with_end, with_value, with_effect, Span, span_of, erased, flushed_by, after_mutation, after_change, versions_after, versions, makes, deletes, is_deleted, lives_at, value_at}
 use Rattle.s4_types.proofs.Booleans.{by_test, both}
 
 -- a deletion is no mutation of the track
@@ -45,6 +45,18 @@ module _ {V : Type 0} (track : Track V) (keeps : KeepsDeleted track) (o : Object
   found-with_end t [] = refl
   found-with_end t (v ∷ past) = found-ended t v past
 
+  -- what is erased is found all the same
+  found-erased : (span : Span) (values : List (Value V)) → found (map (erased span) values) ≡ found values
+  found-erased span [] = refl
+  found-erased span (v ∷ past) = by_test (nat_le v.begin m)
+      (λ e. found-here (erased span v) (map (erased span) past) e ∙ sym (found-here v past e))
+      (λ e. found-past (erased span v) (map (erased span) past) e ∙ found-erased span past ∙ sym (found-past v past e))
+
+  found-flushed : (span : Option Span) (is_flushed : Bool) (values : List (Value V)) → found (flushed_by span is_flushed values) ≡ found values
+  found-flushed None is_flushed values = refl
+  found-flushed (Some span) true values = found-erased span values
+  found-flushed (Some span) false values = refl
+
   -- a record after the moment
   module _ (r : Record) (late : nat_le r.moment m ≡ false) where
     late-value : (next : Option V) (v : Value V) (past : List (Value V)) → found (with_value r.moment next v past) ≡ found (v ∷ past)
@@ -59,7 +71,7 @@ module _ {V : Type 0} (track : Track V) (keeps : KeepsDeleted track) (o : Object
     late-change values =
         elim (concerns o.purse r) as (λ b. found (if b then after_change track o values r else values) ≡ found values) [
           | false ↦ refl
-          | true ↦ (elim (makes o r) as (λ b. found (if b then begun r.moment (track.start o) ∷ values else (if deletes o r then with_end r.moment values else with_effect r.moment (track.effect o r.request) values)) ≡ found values) [
+          | true ↦ found-flushed (span_of o r.request) track.is_flushed (after_mutation track o values r) ∙ (elim (makes o r) as (λ b. found (if b then begun r.moment (track.start o) ∷ values else (if deletes o r then with_end r.moment values else with_effect r.moment (track.effect o r.request) values)) ≡ found values) [
             | true ↦ found-past (begun r.moment (track.start o)) values late
             | false ↦ (elim (deletes o r) as (λ b. found (if b then with_end r.moment values else with_effect r.moment (track.effect o r.request) values) ≡ found values) [
               | true ↦ found-with_end r.moment values
@@ -89,7 +101,7 @@ module _ {V : Type 0} (track : Track V) (keeps : KeepsDeleted track) (o : Object
     early-change values e =
         elim (concerns o.purse r) as (λ b. found (if b then after_change track o values r else values) ≡ (if b then applied_to track o r (found values) else found values)) [
           | false ↦ refl
-          | true ↦ (elim (makes o r) as (λ b. found (if b then begun r.moment (track.start o) ∷ values else (if deletes o r then with_end r.moment values else with_effect r.moment (track.effect o r.request) values)) ≡ (if b then Some (track.start o) else affected (track.effect o r.request) (found values))) [
+          | true ↦ found-flushed (span_of o r.request) track.is_flushed (after_mutation track o values r) ∙ (elim (makes o r) as (λ b. found (if b then begun r.moment (track.start o) ∷ values else (if deletes o r then with_end r.moment values else with_effect r.moment (track.effect o r.request) values)) ≡ (if b then Some (track.start o) else affected (track.effect o r.request) (found values))) [
             | true ↦ found-here (begun r.moment (track.start o)) values early
             | false ↦ by_test (deletes o r)
                 (λ d. ap (λ b. found (if b then with_end r.moment values else with_effect r.moment (track.effect o r.request) values)) d ∙ found-with_end r.moment values
@@ -111,11 +123,20 @@ module _ {V : Type 0} (track : Track V) (keeps : KeepsDeleted track) (o : Object
   with_end-by t [] e = e
   with_end-by t (v ∷ past) e = e
 
+  erased-by : (t : ℕ) (span : Span) (values : List (Value V)) → all_by t (map (erased span) values) ≡ all_by t values
+  erased-by t span [] = refl
+  erased-by t span (v ∷ past) = ap (λ b. nat_le v.begin t && b) (erased-by t span past)
+
+  flushed-by : (t : ℕ) (span : Option Span) (is_flushed : Bool) (values : List (Value V)) → all_by t values ≡ true → all_by t (flushed_by span is_flushed values) ≡ true
+  flushed-by t None is_flushed values e = e
+  flushed-by t (Some span) true values e = erased-by t span values ∙ e
+  flushed-by t (Some span) false values e = e
+
   after-by : (values : List (Value V)) (r : Record) → all_by r.moment values ≡ true → all_by r.moment (versions_after track o values r) ≡ true
   after-by values r e =
       elim (concerns o.purse r) as (λ b. all_by r.moment (if b then after_change track o values r else values) ≡ true) [
         | false ↦ e
-        | true ↦ (elim (makes o r) as (λ b. all_by r.moment (if b then begun r.moment (track.start o) ∷ values else (if deletes o r then with_end r.moment values else with_effect r.moment (track.effect o r.request) values)) ≡ true) [
+        | true ↦ flushed-by r.moment (span_of o r.request) track.is_flushed (after_mutation track o values r) (elim (makes o r) as (λ b. all_by r.moment (if b then begun r.moment (track.start o) ∷ values else (if deletes o r then with_end r.moment values else with_effect r.moment (track.effect o r.request) values)) ≡ true) [
           | true ↦ (let self : nat_le r.moment r.moment ≡ true = grind arith in ap (λ b. b && all_by r.moment values) self ∙ e)
           | false ↦ (elim (deletes o r) as (λ b. all_by r.moment (if b then with_end r.moment values else with_effect r.moment (track.effect o r.request) values) ≡ true) [
             | true ↦ with_end-by r.moment values e

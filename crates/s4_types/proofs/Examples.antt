@@ -114,7 +114,7 @@ written_after_a_gap = refl
 
 -- the data that an object ever had, the newest first
 abbrev value : ℕ → Option ℕ → List ℕ → Value (List ℕ)
-value begin end bytes = record { begin = begin; end = end; value = bytes }
+value begin end bytes = record { begin = begin; end = end; value = bytes; is_erased = false }
 
 pub first_versions : versions data_track (object 7 0 1) (play (opened 100) first_requests_steps) ≡
     value 10 None hello ∷ value 5 (Some 10) [] ∷ []
@@ -399,7 +399,7 @@ name_bound_again = refl
 
 -- the bindings that a name ever had, the newest first
 abbrev binding : ℕ → Option ℕ → ℕ → Value ℕ
-binding begin end serial = record { begin = begin; end = end; value = serial }
+binding begin end serial = record { begin = begin; end = end; value = serial; is_erased = false }
 
 pub bound_again : bindings (purse 7 0) home (play (opened 100) name_bound_again_steps) ≡
     binding 2 None 2 ∷ binding 2 (Some 2) 1 ∷ []

@@ -9,11 +9,11 @@ use Rattle.s4_types.specs.declared.rights.Right.TheVariants as right
 use Rattle.s4_types.specs.declared.record.Record.{Record}
 use Rattle.s4_types.specs.declared.reply.Grant.{Grant}
 use Rattle.s4_types.specs.declared.reply.Refusal.{Refusal}
-use Rattle.s4_types.specs.declared.reply.Refusal.TheVariants.{Denied, TooLong}
+use Rattle.s4_types.specs.declared.reply.Refusal.TheVariants.{Denied, TooLong, BadRange}
 use Rattle.s4_types.specs.declared.reply.Reply.{Reply}
 use Rattle.s4_types.specs.declared.reply.Reply.TheVariants.{Done, Mounted}
 use Rattle.s4_types.specs.declared.request.Request.{Request}
-use Rattle.s4_types.specs.declared.request.Request.TheVariants.{Create, Delete, Read, Write, Append, Truncate, GetAttr, SetAttr, GetAclByUser, GetAclByIndex, SetAcl, PCreate, PDelete, PList, PMount, SetWindow, SetBudget, ReadAudit}
+use Rattle.s4_types.specs.declared.request.Request.TheVariants.{Create, Delete, Read, Write, Append, Truncate, GetAttr, SetAttr, GetAclByUser, GetAclByIndex, SetAcl, PCreate, PDelete, PList, PMount, Flush, FlushO, SetWindow, SetBudget, ReadAudit}
 use Rattle.s4_types.specs.Base.{Base}
 use Rattle.s4_types.specs.Names.{object_in}
 use Rattle.s4_types.specs.Kinds.{purse_of, at_of}
@@ -21,7 +21,7 @@ use Rattle.s4_types.specs.Horizon.{horizon_at}
 use Rattle.s4_types.specs.Bindings.{bound_at}
 use Rattle.s4_types.specs.Judgement.{Held, held_at, judge, judge_now, judge_past, needs_control}
 use Rattle.s4_types.specs.Outcome.{◌>>=◌, ◌>>◌, refuse_if}
-use Rattle.s4_types.specs.Answer.{timely, moment_of, found_bound, affordable, outcome_by_kind, outcome}
+use Rattle.s4_types.specs.Answer.{timely, moment_of, found_bound, administered, affordable, outcome_by_kind, outcome}
 use Rattle.s4_types.proofs.Strangers.{Each, and-false}
 use Rattle.s4_types.proofs.Unnamed.{is_sound, IsAway, HeldWithout, held-lacks}
 use Rattle.s4_types.proofs.Entryless.{unfound}
@@ -71,11 +71,16 @@ far_refusal (SetAcl o user rights) = Denied right.Control
 far_refusal (PCreate name o) = Denied right.Control
 far_refusal (PDelete purse name) = Denied right.Control
 far_refusal (PMount purse name at) = Denied right.Read
+far_refusal (FlushO o from to) = cond (nat_lt to from) BadRange (Denied right.Admin)
 far_refusal _ = Denied right.Admin
 
 sized : (long : Bool) (judged : Result Grant Refusal) (refusal : Refusal) (next : Result Reply Refusal) → judged ≡ Err refusal → (refuse_if long TooLong >> (judged >> next)) ≡ Err (cond long TooLong refusal)
 sized true judged refusal next e = refl
 sized false judged refusal next e = ap (λ j. j >> next) e
+
+flushed-far : (bad : Bool) (caller : Caller) → (caller.who == 0) ≡ false → (refuse_if bad BadRange >> administered caller) ≡ Err (cond bad BadRange (Denied right.Admin))
+flushed-far true caller z = refl
+flushed-far false caller z = rw z refl
 
 unbound-far : (near : Purse → Bool) (h : List Record) (t : ℕ) (caller : Caller) (purse : Purse) (found : Option ℕ) → IsFar near caller purse → Seen near caller h → (found_bound caller purse right.Control found >>= λ serial. (judge h t caller (object_in purse serial) right.Control None >> Ok Done)) ≡ Err (Denied right.Control)
 unbound-far near h t caller purse None f s = rw (f.ordinary, f.stranger) refl
@@ -107,6 +112,8 @@ by_kind-far near base h t caller (PCreate name o) f s = rw (denied near h t call
 by_kind-far near base h t caller (PDelete purse name) f s = unbound-far near h t caller purse (bound_at purse name t h) f s
 by_kind-far near base h t caller (PList range after at) f s = absurd f
 by_kind-far near base h t caller (PMount purse name at) f s = mounted-far near h t caller purse at (bound_at purse name (moment_of t at) h) f s
+by_kind-far near base h t caller (Flush from to) f s = absurd f
+by_kind-far near base h t caller (FlushO o from to) f s = flushed-far (nat_lt to from) caller f.ordinary
 by_kind-far near base h t caller (SetWindow ticks) f s = absurd f
 by_kind-far near base h t caller (SetBudget purse budget) f s = rw f.ordinary refl
 by_kind-far near base h t caller (ReadAudit range skip) f s = absurd f

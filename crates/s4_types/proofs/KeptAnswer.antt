@@ -7,7 +7,7 @@ use Rattle.s4_types.specs.declared.record.Record.{Record}
 use Rattle.s4_types.specs.declared.reply.Reply.{Reply}
 use Rattle.s4_types.specs.declared.reply.Refusal.{Refusal}
 use Rattle.s4_types.specs.declared.request.Request.{Request}
-use Rattle.s4_types.specs.declared.request.Request.TheVariants.{PList, SetWindow, ReadAudit}
+use Rattle.s4_types.specs.declared.request.Request.TheVariants.{PList, Flush, SetWindow, ReadAudit}
 use Rattle.s4_types.specs.Base.{Base}
 use Rattle.s4_types.specs.Kinds.{purse_of, at_of, only_reads, is_wide, concerns_all}
 use Rattle.s4_types.specs.Horizon.{horizon_at}
@@ -43,6 +43,7 @@ placeless-same base t caller request h k e f g =
 own-by_kind : (near : Purse → Bool) (base : Base) (t : ℕ) (caller : Caller) (request : Request) (h : List Record) → purse_of caller request ≡ None → KnowsOwn caller.who near → (caller.who == 0) ≡ false → Seen near caller h → outcome_by_kind base h t caller request ≡ outcome_by_kind base (without_strangers caller.who near h) t caller request
 own-by_kind near base t caller (PList range after at) h e own z s = listed-same near t caller range after at h own z s
 own-by_kind near base t caller (ReadAudit range skip) h e own z s = audit-same near base t caller range skip h z
+own-by_kind near base t caller (Flush from to) h e own z s = refl
 own-by_kind near base t caller (SetWindow ticks) h e own z s = refl
 own-by_kind near base t caller _ h e own z s = cc
 
@@ -65,6 +66,7 @@ own-same near base t caller request h None e own z s =
 -- OTHERS' REQUESTS
 
 other-by_kind : (base : Base) (t : ℕ) (caller : Caller) (request : Request) (h k : List Record) → purse_of caller request ≡ None → only_reads request ≡ false → outcome_by_kind base h t caller request ≡ outcome_by_kind base k t caller request
+other-by_kind base t caller (Flush from to) h k e reads = refl
 other-by_kind base t caller (SetWindow ticks) h k e reads = refl
 other-by_kind base t caller (PList range after at) h k e reads = cc
 other-by_kind base t caller (ReadAudit range skip) h k e reads = cc

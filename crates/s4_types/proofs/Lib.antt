@@ -5,6 +5,7 @@ pub mod Outcomes
 pub mod Examples
 pub mod OfPurse
 pub mod Applying
+pub mod Erasing
 pub mod Windows
 pub mod OfSpending
 pub mod Entries
@@ -20,3 +21,4 @@ pub mod KeptAnswer
 pub mod Sound
 pub mod Isolation
 pub mod StrikeExamples
+pub mod FlushExamples

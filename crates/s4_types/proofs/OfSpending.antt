@@ -1,4 +1,4 @@
--- The spending and the budget of a purse depend on the records that concern the purse, and on the horizon.
+-- The spending and the budget of a purse depend on the records that concern the purse.
 use Rattle.std.proofs.Common.{◌≡◌, ℕ, ◌+◌, zero, suc, cond, List, sym, ◌∙◌, ap, filter, add-zero}
 use Rattle.std.specs.Prelude.{◌&&◌, nat_lt, sum_by}
 use Rattle.s4_types.specs.declared.object.Purse.{Purse}
@@ -8,13 +8,13 @@ use Rattle.s4_types.specs.declared.record.Record.{Record}
 use Rattle.s4_types.specs.Applied.{AgreeOn}
 use Rattle.s4_types.specs.Base.{Base}
 use Rattle.s4_types.specs.Horizon.{horizon_at}
-use Rattle.s4_types.specs.Kinds.{concerns, concerns_all}
+use Rattle.s4_types.specs.Kinds.{concerns}
 use Rattle.s4_types.specs.Names.{object_in}
 use Rattle.s4_types.specs.Serials.{drawn}
 use Rattle.s4_types.specs.Spending.{past_cost, spent_on_object, sum_to, unbinding_cost, spent_on_binding, spent_above, spent_at, budget_by, budget_after, budget_of}
 use Rattle.s4_types.specs.Versions.{Value, versions, data_track, attribute_track, acl_track}
 use Rattle.s4_types.proofs.OfPurse.{fold-filter, versions-agree, drawn-agree}
-use Rattle.s4_types.proofs.Windows.{horizon_at-agree}
+use Rattle.s4_types.proofs.Windows.{horizon_at-of-purse}
 
 budget-filter : (purse : Purse) (h : List Record) → budget_of purse (filter (concerns purse) h) ≡ budget_of purse h
 budget-filter purse h = fold-filter (concerns purse) (budget_after purse) (λ old r e. ap (λ b. cond b (budget_by purse r.request old) old) e) 65536 h
@@ -50,5 +50,5 @@ spent_above-agree purse horizon h k e =
     ∙ ap (λ x. x + sum_by (spent_on_binding purse horizon) h) (sum_to-agree (λ serial. spent_on_object horizon h (object_in purse serial)) (λ serial. spent_on_object horizon k (object_in purse serial)) (λ serial. on_object-agree horizon (object_in purse serial) h k e) (drawn purse k))
     ∙ ap (λ x. sum_to (drawn purse k) (λ serial. spent_on_object horizon k (object_in purse serial)) + x) (bindings-cost-agree purse horizon h k e)
 
-pub spent_at-agree : (base : Base) (purse : Purse) (t : ℕ) (h k : List Record) → AgreeOn purse h k → filter concerns_all h ≡ filter concerns_all k → spent_at base purse h t ≡ spent_at base purse k t
-spent_at-agree base purse t h k e f = ap (λ horizon. spent_above purse horizon h) (horizon_at-agree base t h k f) ∙ spent_above-agree purse (horizon_at base k t) h k e
+pub spent_at-agree : (base : Base) (purse : Purse) (t : ℕ) (h k : List Record) → AgreeOn purse h k → spent_at base purse h t ≡ spent_at base purse k t
+spent_at-agree base purse t h k e = ap (λ horizon. spent_above purse horizon h) (horizon_at-of-purse base purse t h k e) ∙ spent_above-agree purse (horizon_at base k t) h k e

@@ -9,11 +9,11 @@ use Rattle.s4_types.specs.declared.rights.Right.TheVariants as right
 use Rattle.s4_types.specs.Names.{object_in}
 use Rattle.s4_types.specs.declared.rights.Right.{Right}
 use Rattle.s4_types.specs.declared.request.Request.{Request}
-use Rattle.s4_types.specs.declared.request.Request.TheVariants.{Create, Delete, Read, Write, Append, Truncate, GetAttr, SetAttr, GetAclByUser, GetAclByIndex, SetAcl, PCreate, PDelete, PList, PMount, SetWindow, SetBudget, ReadAudit}
+use Rattle.s4_types.specs.declared.request.Request.TheVariants.{Create, Delete, Read, Write, Append, Truncate, GetAttr, SetAttr, GetAclByUser, GetAclByIndex, SetAcl, PCreate, PDelete, PList, PMount, Flush, FlushO, SetWindow, SetBudget, ReadAudit}
 use Rattle.s4_types.specs.declared.reply.Grant.{Grant}
 use Rattle.s4_types.specs.declared.reply.Grant.TheVariants as grant
 use Rattle.s4_types.specs.declared.reply.Refusal.{Refusal}
-use Rattle.s4_types.specs.declared.reply.Refusal.TheVariants.{Denied, NoObject, Future, TooOld, TooLong, AclFull, NoEntry, NamesSpent, NoPartition, Exists, PartsFull, Named, OverBudget, NoMemory}
+use Rattle.s4_types.specs.declared.reply.Refusal.TheVariants.{Denied, NoObject, Future, TooOld, Flushed, TooLong, AclFull, NoEntry, NamesSpent, NoPartition, Exists, PartsFull, Named, OverBudget, BadRange, NoMemory}
 use Rattle.s4_types.specs.declared.reply.Reply.{Reply}
 use Rattle.s4_types.specs.declared.reply.Reply.TheVariants.{Done, Made, Data, Attr, Entry, Mounted, Names, Audit, Refused}
 use Rattle.s4_types.specs.declared.record.Record.{Record}
@@ -25,7 +25,8 @@ use Rattle.s4_types.specs.Base.{Base}
 use Rattle.s4_types.specs.Horizon.{horizon_at}
 use Rattle.s4_types.specs.Spending.{spent_at, budget_of}
 use Rattle.s4_types.specs.Acl.{names}
-use Rattle.s4_types.specs.Answer.{answer, outcome, outcome_by_kind, affordable, charge_of, timely, moment_of, data_of, attributes_of, acl_of, entry_by_user, entry_by_index, settable, found_bound}
+use Rattle.s4_types.specs.Versions.{value_at, data_track, attribute_track}
+use Rattle.s4_types.specs.Answer.{answer, outcome, outcome_by_kind, affordable, charge_of, timely, moment_of, is_gone, data_of, attributes_of, acl_of, entry_by_user, entry_by_index, settable, found_bound, administered, flushed}
 use Rattle.s4_types.specs.Serials.{drawn}
 use Rattle.s4_types.specs.Bindings.{bound_at, bound_count, has_name}
 use Rattle.s4_types.specs.Play.{is_no_memory}
@@ -145,6 +146,12 @@ plain-found caller purse needed None = of (may_know caller purse.creator)
     of true = refl
     of false = refl
 
+told-administered : (caller : Caller) → is_told (administered caller) ≡ true
+told-administered caller = told-test (not (caller.who == 0)) (Denied right.Admin) (Ok Done) refl refl
+
+told-flushed : (from to : ℕ) (caller : Caller) → is_told (flushed from to caller) ≡ true
+told-flushed from to caller = told-test (nat_lt to from) BadRange (administered caller) refl (told-administered caller)
+
 told-by-kind : (base : Base) (h : List Record) (t : ℕ) (caller : Caller) (request : Request) → is_told (outcome_by_kind base h t caller request) ≡ true
 told-by-kind base h t caller (Create number) =
     let purse : Purse = record { creator = caller.who; number = number } in
@@ -153,7 +160,10 @@ told-by-kind base h t caller (Delete o) =
     told-then (judge h t caller o right.Delete None) (refuse_if (has_name o t h) Named >> Ok Done) (plain-judge h t caller o right.Delete None)
     (told-test (has_name o t h) Named (Ok Done) refl refl)
 told-by-kind base h t caller (Read o offset length at) =
-    told-bind (judge h t caller o right.Read at) (λ g. Ok (Data g (take length (drop offset (data_of o (moment_of t at) h))))) (plain-judge h t caller o right.Read at) (λ g. refl)
+    let gone : Bool = is_gone (value_at data_track o (moment_of t at) h) in
+    let last : Grant → Result Reply Refusal = λ g. Ok (Data g (take length (drop offset (data_of o (moment_of t at) h)))) in
+    told-bind (judge h t caller o right.Read at) (λ g. refuse_if gone Flushed >> last g) (plain-judge h t caller o right.Read at)
+    (λ g. told-test gone Flushed (last g) refl refl)
 told-by-kind base h t caller (Write o offset bytes) =
     told-test (nat_lt 4096 (offset + length bytes)) TooLong (judge h t caller o right.Write None >> Ok Done) refl
     (told-then (judge h t caller o right.Write None) (Ok Done) (plain-judge h t caller o right.Write None) refl)
@@ -165,7 +175,10 @@ told-by-kind base h t caller (Truncate o length) =
     told-test (nat_lt 4096 length) TooLong (judge h t caller o right.Write None >> Ok Done) refl
     (told-then (judge h t caller o right.Write None) (Ok Done) (plain-judge h t caller o right.Write None) refl)
 told-by-kind base h t caller (GetAttr o at) =
-    told-bind (judge h t caller o right.Read at) (λ g. Ok (Attr g (attributes_of o (moment_of t at) h))) (plain-judge h t caller o right.Read at) (λ g. refl)
+    let gone : Bool = is_gone (value_at attribute_track o (moment_of t at) h) in
+    let last : Grant → Result Reply Refusal = λ g. Ok (Attr g (attributes_of o (moment_of t at) h)) in
+    told-bind (judge h t caller o right.Read at) (λ g. refuse_if gone Flushed >> last g) (plain-judge h t caller o right.Read at)
+    (λ g. told-test gone Flushed (last g) refl refl)
 told-by-kind base h t caller (SetAttr o bytes) =
     told-test (nat_lt 256 (length bytes)) TooLong (judge h t caller o right.Write None >> Ok Done) refl
     (told-then (judge h t caller o right.Write None) (Ok Done) (plain-judge h t caller o right.Write None) refl)
@@ -194,8 +207,10 @@ told-by-kind base h t caller (PMount purse name at) =
     let next : ℕ → Result Reply Refusal = λ serial. judge h t caller (object_in purse serial) right.Read at >>= last serial in
     told-bind found next (plain-found caller purse right.Read (bound_at purse name (moment_of t at) h))
     (λ serial. told-bind (judge h t caller (object_in purse serial) right.Read at) (last serial) (plain-judge h t caller (object_in purse serial) right.Read at) (λ g. refl))
-told-by-kind base h t caller (SetWindow ticks) = told-test (not (caller.who == 0)) (Denied right.Admin) (Ok Done) refl refl
-told-by-kind base h t caller (SetBudget purse budget) = told-test (not (caller.who == 0)) (Denied right.Admin) (Ok Done) refl refl
+told-by-kind base h t caller (Flush from to) = told-flushed from to caller
+told-by-kind base h t caller (FlushO o from to) = told-flushed from to caller
+told-by-kind base h t caller (SetWindow ticks) = told-administered caller
+told-by-kind base h t caller (SetBudget purse budget) = told-administered caller
 told-by-kind base h t caller (ReadAudit range skip) = refl
 
 plain-affordable : (base : Base) (h : List Record) (t : ℕ) (request : Request) (purse : Option Purse) → is_plain (affordable base h t request purse) ≡ true
@@ -249,6 +264,7 @@ replied (Err (Denied right)) e = refl
 replied (Err NoObject) e = refl
 replied (Err Future) e = refl
 replied (Err (TooOld horizon)) e = refl
+replied (Err Flushed) e = refl
 replied (Err TooLong) e = refl
 replied (Err AclFull) e = refl
 replied (Err NoEntry) e = refl
@@ -258,6 +274,7 @@ replied (Err PartsFull) e = refl
 replied (Err Named) e = refl
 replied (Err NamesSpent) e = refl
 replied (Err (OverBudget spent charge budget)) e = refl
+replied (Err BadRange) e = refl
 
 pub is_no_memory-answer : (base : Base) (h : List Record) (t : ℕ) (caller : Caller) (request : Request) → is_no_memory (answer base h t caller request) ≡ false
 is_no_memory-answer base h t caller request = replied (outcome base h t caller request) (told-outcome base h t caller request)

@@ -7,23 +7,23 @@ use Rattle.s4_types.specs.declared.object.Purse.{Purse}
 use Rattle.s4_types.specs.declared.object.ObjectId.{ObjectId}
 use Rattle.s4_types.specs.declared.rights.Right.TheVariants as right
 use Rattle.s4_types.specs.declared.record.Record.{Record}
-use Rattle.s4_types.specs.declared.reply.Refusal.TheVariants.{TooLong, Exists, PartsFull, Named, NamesSpent}
+use Rattle.s4_types.specs.declared.reply.Refusal.TheVariants.{Flushed, TooLong, Exists, PartsFull, Named, NamesSpent}
 use Rattle.s4_types.specs.declared.reply.Reply.TheVariants.{Done, Made, Data, Attr, Mounted}
 use Rattle.s4_types.specs.declared.request.Request.{Request}
-use Rattle.s4_types.specs.declared.request.Request.TheVariants.{Create, Delete, Read, Write, Append, Truncate, GetAttr, SetAttr, GetAclByUser, GetAclByIndex, SetAcl, PCreate, PDelete, PList, PMount, SetWindow, SetBudget, ReadAudit}
+use Rattle.s4_types.specs.declared.request.Request.TheVariants.{Create, Delete, Read, Write, Append, Truncate, GetAttr, SetAttr, GetAclByUser, GetAclByIndex, SetAcl, PCreate, PDelete, PList, PMount, Flush, FlushO, SetWindow, SetBudget, ReadAudit}
 use Rattle.s4_types.specs.Applied.{AgreeOn}
 use Rattle.s4_types.specs.Base.{Base}
 use Rattle.s4_types.specs.Names.{object_in}
 use Rattle.s4_types.specs.Kinds.{purse_of, at_of, concerns_all}
 use Rattle.s4_types.specs.Horizon.{horizon_at}
-use Rattle.s4_types.specs.Versions.{data_track, attribute_track, acl_track}
+use Rattle.s4_types.specs.Versions.{value_at, data_track, attribute_track, acl_track}
 use Rattle.s4_types.specs.Bindings.{bound_at, bound_count, has_name}
 use Rattle.s4_types.specs.Spending.{spent_at, budget_of}
 use Rattle.s4_types.specs.Judgement.{judge, entry_of}
 use Rattle.s4_types.specs.Outcome.{◌>>=◌, ◌>>◌, refuse_if}
-use Rattle.s4_types.specs.Answer.{timely, moment_of, data_of, attributes_of, acl_of, created, deleted, data_read, attributes_read, entry_by_user, entry_by_index, entry_read_by_user, entry_read_by_index, data_appended, settable, acl_set, name_bound, name_unbound, name_mounted, found_bound, made_past, charge_of, within, affordable, outcome_by_kind, outcome}
+use Rattle.s4_types.specs.Answer.{timely, moment_of, is_gone, data_of, attributes_of, acl_of, created, deleted, data_read, attributes_read, entry_by_user, entry_by_index, entry_read_by_user, entry_read_by_index, data_appended, settable, acl_set, name_bound, name_unbound, name_mounted, found_bound, made_past, charge_of, within, affordable, outcome_by_kind, outcome}
 use Rattle.s4_types.proofs.OfPurse.{drawn-agree, bound_at-agree}
-use Rattle.s4_types.proofs.OfObjects.{judge-agree, data_of-agree, attributes_of-agree, acl_of-agree, bound_count-agree, has_name-agree}
+use Rattle.s4_types.proofs.OfObjects.{value_at-agree, judge-agree, data_of-agree, attributes_of-agree, acl_of-agree, bound_count-agree, has_name-agree}
 use Rattle.s4_types.proofs.OfSpending.{budget-agree, spent_at-agree}
 use Rattle.s4_types.proofs.Windows.{horizon_at-agree}
 
@@ -39,13 +39,15 @@ deleted-agree t caller o h k e =
 
 data_read-agree : (t : ℕ) (caller : Caller) (o : ObjectId) (offset n : ℕ) (at : Option ℕ) (h k : List Record) → AgreeOn o.purse h k → data_read h t caller o offset n at ≡ data_read k t caller o offset n at
 data_read-agree t caller o offset n at h k e =
-    ap (λ j. j >>= λ grant. Ok (Data grant (take n (drop offset (data_of o (moment_of t at) h))))) (judge-agree t caller o right.Read at h k e)
-    ∙ ap (λ bytes. judge k t caller o right.Read at >>= λ grant. Ok (Data grant (take n (drop offset bytes)))) (data_of-agree o (moment_of t at) h k e)
+    ap (λ j. j >>= λ grant. refuse_if (is_gone (value_at data_track o (moment_of t at) h)) Flushed >> Ok (Data grant (take n (drop offset (data_of o (moment_of t at) h))))) (judge-agree t caller o right.Read at h k e)
+    ∙ ap (λ v. judge k t caller o right.Read at >>= λ grant. refuse_if (is_gone v) Flushed >> Ok (Data grant (take n (drop offset (data_of o (moment_of t at) h))))) (value_at-agree data_track o (moment_of t at) h k e)
+    ∙ ap (λ bytes. judge k t caller o right.Read at >>= λ grant. refuse_if (is_gone (value_at data_track o (moment_of t at) k)) Flushed >> Ok (Data grant (take n (drop offset bytes)))) (data_of-agree o (moment_of t at) h k e)
 
 attributes_read-agree : (t : ℕ) (caller : Caller) (o : ObjectId) (at : Option ℕ) (h k : List Record) → AgreeOn o.purse h k → attributes_read h t caller o at ≡ attributes_read k t caller o at
 attributes_read-agree t caller o at h k e =
-    ap (λ j. j >>= λ grant. Ok (Attr grant (attributes_of o (moment_of t at) h))) (judge-agree t caller o right.Read at h k e)
-    ∙ ap (λ bytes. judge k t caller o right.Read at >>= λ grant. Ok (Attr grant bytes)) (attributes_of-agree o (moment_of t at) h k e)
+    ap (λ j. j >>= λ grant. refuse_if (is_gone (value_at attribute_track o (moment_of t at) h)) Flushed >> Ok (Attr grant (attributes_of o (moment_of t at) h))) (judge-agree t caller o right.Read at h k e)
+    ∙ ap (λ v. judge k t caller o right.Read at >>= λ grant. refuse_if (is_gone v) Flushed >> Ok (Attr grant (attributes_of o (moment_of t at) h))) (value_at-agree attribute_track o (moment_of t at) h k e)
+    ∙ ap (λ bytes. judge k t caller o right.Read at >>= λ grant. refuse_if (is_gone (value_at attribute_track o (moment_of t at) k)) Flushed >> Ok (Attr grant bytes)) (attributes_of-agree o (moment_of t at) h k e)
 
 entry_read_by_user-agree : (t : ℕ) (caller : Caller) (o : ObjectId) (user : ℕ) (at : Option ℕ) (h k : List Record) → AgreeOn o.purse h k → entry_read_by_user h t caller o user at ≡ entry_read_by_user k t caller o user at
 entry_read_by_user-agree t caller o user at h k e =
@@ -108,6 +110,8 @@ by_kind-agree base t caller (PCreate name o) h k e = name_bound-agree t caller n
 by_kind-agree base t caller (PDelete purse name) h k e = name_unbound-agree t caller purse name h k e
 by_kind-agree base t caller (PList range after at) h k e = absurd e
 by_kind-agree base t caller (PMount purse name at) h k e = name_mounted-agree t caller purse name at h k e
+by_kind-agree base t caller (Flush from to) h k e = refl
+by_kind-agree base t caller (FlushO o from to) h k e = refl
 by_kind-agree base t caller (SetWindow ticks) h k e = refl
 by_kind-agree base t caller (SetBudget purse budget) h k e = refl
 by_kind-agree base t caller (ReadAudit range skip) h k e = absurd e
@@ -126,11 +130,11 @@ made_past-agree t caller (SetAttr o bytes) h k e = ap (λ old. attribute_track.c
 made_past-agree t caller (SetAcl o user rights) h k e = ap (λ old. acl_track.cost old ∷ []) (acl_of-agree o t h k e)
 made_past-agree t caller _ h k e = refl
 
-affordable-agree : (base : Base) (t : ℕ) (request : Request) (purse : Option Purse) (h k : List Record) → AgreeThere purse h k → filter concerns_all h ≡ filter concerns_all k → made_past h t request ≡ made_past k t request → affordable base h t request purse ≡ affordable base k t request purse
-affordable-agree base t request None h k e f g = absurd e
-affordable-agree base t request (Some purse) h k e f g =
+affordable-agree : (base : Base) (t : ℕ) (request : Request) (purse : Option Purse) (h k : List Record) → AgreeThere purse h k → made_past h t request ≡ made_past k t request → affordable base h t request purse ≡ affordable base k t request purse
+affordable-agree base t request None h k e g = absurd e
+affordable-agree base t request (Some purse) h k e g =
     ap (λ budget. within budget (spent_at base purse h t) (charge_of h t request)) (budget-agree purse h k e)
-    ∙ ap (λ spent. within (budget_of purse k) spent (charge_of h t request)) (spent_at-agree base purse t h k e f)
+    ∙ ap (λ spent. within (budget_of purse k) spent (charge_of h t request)) (spent_at-agree base purse t h k e)
     ∙ ap (λ charges. within (budget_of purse k) (spent_at base purse k t) (sum charges)) g
 
 -- two histories that agree on the purse of a request, and on what concerns all purses, give it one outcome
@@ -140,4 +144,4 @@ outcome-agree base t caller request h k e f =
     let at : Option ℕ = at_of request in
     ap (λ horizon. timely horizon t at >> (outcome_by_kind base h t caller request >>= λ reply. affordable base h t request place >> Ok reply)) (horizon_at-agree base t h k f)
     ∙ ap (λ made. timely (horizon_at base k t) t at >> (made >>= λ reply. affordable base h t request place >> Ok reply)) (by_kind-agree base t caller request h k e)
-    ∙ ap (λ test. timely (horizon_at base k t) t at >> (outcome_by_kind base k t caller request >>= λ reply. test >> Ok reply)) (affordable-agree base t request place h k e f (made_past-agree t caller request h k e))
+    ∙ ap (λ test. timely (horizon_at base k t) t at >> (outcome_by_kind base k t caller request >>= λ reply. test >> Ok reply)) (affordable-agree base t request place h k e (made_past-agree t caller request h k e))

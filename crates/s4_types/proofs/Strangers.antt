@@ -4,11 +4,11 @@ use Rattle.s4_types.specs.declared.principal.Caller.{Caller}
 use Rattle.s4_types.specs.declared.object.Purse.{Purse}
 use Rattle.s4_types.specs.declared.record.Record.{Record}
 use Rattle.s4_types.specs.declared.request.Request.{Request}
-use Rattle.s4_types.specs.declared.request.Request.TheVariants.{SetWindow}
+use Rattle.s4_types.specs.declared.request.Request.TheVariants.{Flush, SetWindow}
 use Rattle.s4_types.specs.Applied.{AgreeOn}
 use Rattle.s4_types.specs.Kinds.{concerns, concerns_all, purse_of, only_reads, is_accepted, is_refused, is_about, is_that, is_wide}
 use Rattle.s4_types.specs.Strike.{is_elsewhere, is_kept, without_strangers}
-use Rattle.s4_types.proofs.Booleans.{both}
+use Rattle.s4_types.proofs.Booleans.{by_test, both}
 use Rattle.s4_types.proofs.SameNames.{purse_is}
 
 -- TESTS ON EACH ELEMENT
@@ -76,22 +76,28 @@ elsewhere-near : (near : Purse → Bool) (purse : Purse) (place : Option Purse) 
 elsewhere-near near purse (Some other) wide e f = ap (λ x. not (near x)) (purse_is other purse f) ∙ ap not e
 elsewhere-near near purse None wide e f = cc
 
+wide-has_no_purse : (caller : Caller) (request : Request) → is_wide caller request ≡ true → purse_of caller request ≡ None
+wide-has_no_purse caller (Flush from to) e = refl
+wide-has_no_purse caller (SetWindow ticks) e = refl
+wide-has_no_purse caller _ e = cc
+
+-- what is about all purses is elsewhere for nobody
+wide-somewhere : (near : Purse → Bool) (caller : Caller) (request : Request) → is_wide caller request ≡ true → is_elsewhere near (purse_of caller request) (is_wide caller request) ≡ false
+wide-somewhere near caller request e = ap (λ place. is_elsewhere near place (is_wide caller request)) (wide-has_no_purse caller request e) ∙ ap not e
+
 -- what concerns a near purse is no stranger's
 concerns-kept : (who : ℕ) (near : Purse → Bool) (purse : Purse) → near purse ≡ true → (r : Record) → concerns purse r ≡ true → is_kept who near r ≡ true
 concerns-kept who near purse n r e =
-    let parts = both (is_accepted r) (is_about purse r.caller r.request) e in
-    accepted-kept who near r parts.0 (elsewhere-near near purse (purse_of r.caller r.request) (is_wide r.caller r.request) n parts.1)
-
-wide-has_no_purse : (caller : Caller) (request : Request) → is_wide caller request ≡ true → purse_of caller request ≡ None
-wide-has_no_purse caller (SetWindow ticks) e = refl
-wide-has_no_purse caller _ e = cc
+    let parts = both (is_accepted r) (is_wide r.caller r.request || is_about purse r.caller r.request) e in
+    accepted-kept who near r parts.0 (by_test (is_wide r.caller r.request)
+    (λ wide. wide-somewhere near r.caller r.request wide)
+    (λ one. elsewhere-near near purse (purse_of r.caller r.request) (is_wide r.caller r.request) n (sym (ap (λ b. b || is_about purse r.caller r.request) one) ∙ parts.1)))
 
 -- nor is what concerns all purses
 concerns_all-kept : (who : ℕ) (near : Purse → Bool) (r : Record) → concerns_all r ≡ true → is_kept who near r ≡ true
 concerns_all-kept who near r e =
     let parts = both (is_wide r.caller r.request) (is_accepted r) e in
-    accepted-kept who near r parts.1
-    (ap (λ place. is_elsewhere near place (is_wide r.caller r.request)) (wide-has_no_purse r.caller r.request parts.0) ∙ ap not parts.0)
+    accepted-kept who near r parts.1 (wide-somewhere near r.caller r.request parts.0)
 
 -- WHAT IS LEFT SAYS ALL THAT MATTERS
 

@@ -1,5 +1,5 @@
 -- A principal has no entry in the ACLs of a purse in which nobody named it.
-use Rattle.std.proofs.Common.{◌≡◌, ℕ, Bool, true, false, cond, not, ◌&&◌, ◌||◌, nat_le, ◌==◌, Option, Some, None, List, [], ◌∷◌, fold, find, refl, ap, sym, ◌∙◌}
+use Rattle.std.proofs.Common.{◌≡◌, ℕ, Bool, true, false, cond, not, ◌&&◌, ◌||◌, nat_le, ◌==◌, Option, Some, None, List, [], ◌∷◌, fold, find, refl, ap, sym, subst, ◌∙◌}
 use Rattle.std.specs.Option.{option_map}
 use Rattle.s4_types.specs.declared.object.Purse.{Purse}
 use Rattle.s4_types.specs.declared.object.ObjectId.{ObjectId}
@@ -9,10 +9,11 @@ use Rattle.s4_types.specs.declared.request.Request.{Request}
 use Rattle.s4_types.specs.declared.request.Request.TheVariants.{SetAcl}
 use Rattle.s4_types.specs.Acl.{names, acl_with}
 use Rattle.s4_types.specs.Names.{same_object}
-use Rattle.s4_types.specs.Kinds.{concerns, is_accepted, is_about}
-use Rattle.s4_types.specs.Versions.{Value, versions, versions_after, after_change, makes, deletes, begun, with_value, with_effect, with_end, acl_track, acl_effect, lives_at}
+use Rattle.s4_types.specs.Kinds.{concerns, is_accepted, is_wide, is_about}
+use Rattle.s4_types.specs.Versions.{Value, versions, versions_after, after_mutation, after_change, span_of, makes, deletes, begun, with_value, with_effect, with_end, acl_track, acl_effect, lives_at}
 use Rattle.s4_types.specs.Judgement.{Held, held_of, held_at}
 use Rattle.s4_types.proofs.Booleans.{both}
+use Rattle.s4_types.proofs.Erasing.{flushed-whole}
 use Rattle.s4_types.proofs.SameNames.{object_is}
 use Rattle.s4_types.proofs.Entryless.{acl_with-lacks}
 use Rattle.s4_types.proofs.Strangers.{Each, not-true}
@@ -78,7 +79,7 @@ pub record IsAway (who : ℕ) (near : Purse → Bool) (purse : Purse) : Type 0 w
   pub far : near purse ≡ false
 
 change-lacks : (who : ℕ) (near : Purse → Bool) (o : ObjectId) (r : Record) (values : List (Value (List AclEntry))) → IsAway who near o.purse → names_elsewhere who near r.request ≡ false → Each (is_without who) values → Each (is_without who) (after_change acl_track o values r)
-change-lacks who near o r values a f s = of (makes o r) (deletes o r)
+change-lacks who near o r values a f s = subst (Each (is_without who)) (sym (flushed-whole o (span_of o r.request) (after_mutation acl_track o values r))) (of (makes o r) (deletes o r))
   where
     of : (made ends : Bool) → Each (is_without who) (cond made (begun r.moment (acl_track.start o) ∷ values) (cond ends (with_end r.moment values) (with_effect r.moment (acl_track.effect o r.request) values)))
     of true ends = (ap (λ b. not (b || false)) a.creator, s)
@@ -92,7 +93,7 @@ fold-lacks who near o a (r ∷ h) s values e = fold-lacks who near o a h s.1 (ve
     of : (b : Bool) → concerns o.purse r ≡ b → Each (is_without who) (cond b (after_change acl_track o values r) values)
     of true c =
         change-lacks who near o r values a
-        (accepted-sound (is_accepted r) (names_elsewhere who near r.request) s.0 (both (is_accepted r) (is_about o.purse r.caller r.request) c).0) e
+        (accepted-sound (is_accepted r) (names_elsewhere who near r.request) s.0 (both (is_accepted r) (is_wide r.caller r.request || is_about o.purse r.caller r.request) c).0) e
     of false c = e
 
 -- IN FORCE

@@ -1,5 +1,5 @@
 -- What the drive answers a request, from the list of all earlier records.
-use Rattle.std.specs.Prelude.{ℕ, Bool, true, not, ◌∷◌, is_some, filter, filter_map, flat_map, ◌+◌, ◌==◌, ◌&&◌, ◌||◌, nat_lt, nat_le, Option, Some, None, Result, Ok, Err, List, [], length, take, drop, slice_get, sum, if◌then◌else◌}
+use Rattle.std.specs.Prelude.{ℕ, Bool, true, false, not, ◌∷◌, is_some, filter, filter_map, flat_map, ◌+◌, ◌==◌, ◌&&◌, ◌||◌, nat_lt, nat_le, Option, Some, None, Result, Ok, Err, List, [], length, take, drop, slice_get, sum, if◌then◌else◌}
 use Rattle.s4_types.specs.declared.principal.Caller.{Caller}
 use Rattle.s4_types.specs.declared.object.Purse.{Purse}
 use Rattle.s4_types.specs.declared.object.ObjectId.{ObjectId}
@@ -8,12 +8,12 @@ use Rattle.s4_types.specs.declared.rights.Right.{Right}
 use Rattle.s4_types.specs.declared.rights.Right.TheVariants as right
 use Rattle.std.specs.Ordering.{is_lt}
 use Rattle.s4_types.specs.declared.request.Request.{Request}
-use Rattle.s4_types.specs.declared.request.Request.TheVariants.{Create, Delete, Read, Write, Append, Truncate, GetAttr, SetAttr, GetAclByUser, GetAclByIndex, SetAcl, PCreate, PDelete, PList, PMount, SetWindow, SetBudget, ReadAudit}
+use Rattle.s4_types.specs.declared.request.Request.TheVariants.{Create, Delete, Read, Write, Append, Truncate, GetAttr, SetAttr, GetAclByUser, GetAclByIndex, SetAcl, PCreate, PDelete, PList, PMount, Flush, FlushO, SetWindow, SetBudget, ReadAudit}
 use Rattle.s4_types.specs.declared.reply.Grant.{Grant}
 use Rattle.s4_types.specs.declared.reply.NameLine.{NameLine}
 use Rattle.s4_types.specs.declared.request.After.{After}
 use Rattle.s4_types.specs.declared.reply.Refusal.{Refusal}
-use Rattle.s4_types.specs.declared.reply.Refusal.TheVariants.{Denied, Future, TooOld, TooLong, AclFull, NoEntry, NamesSpent, NoPartition, Exists, PartsFull, Named, OverBudget}
+use Rattle.s4_types.specs.declared.reply.Refusal.TheVariants.{Denied, Future, TooOld, Flushed, TooLong, AclFull, NoEntry, NamesSpent, NoPartition, Exists, PartsFull, Named, OverBudget, BadRange}
 use Rattle.s4_types.specs.declared.reply.Reply.{Reply}
 use Rattle.s4_types.specs.declared.reply.Reply.TheVariants.{Done, Made, Data, Attr, Entry, Mounted, Names, Audit}
 use Rattle.s4_types.specs.declared.record.Record.{Record}
@@ -53,6 +53,11 @@ abbrev pub value_or_empty : {X : Type 0} → Option (Value (List X)) → List X
 value_or_empty None = []
 value_or_empty (Some v) = v.value
 
+-- whether there is a value, and a flush erased it
+abbrev pub is_gone : {V : Type 0} → Option (Value V) → Bool
+is_gone None = false
+is_gone (Some v) = v.is_erased
+
 abbrev pub data_of : ObjectId → ℕ → List Record → List ℕ
 data_of o t h = value_or_empty (value_at data_track o t h)
 
@@ -75,11 +80,13 @@ created h purse = do
 abbrev pub data_read : List Record → ℕ → Caller → ObjectId → ℕ → ℕ → Option ℕ → Result Reply Refusal
 data_read h t caller o offset length at = do
   grant ← judge h t caller o right.Read at
+  refuse_if (is_gone (value_at data_track o (moment_of t at) h)) Flushed
   Ok (Data grant (take length (drop offset (data_of o (moment_of t at) h))))
 
 abbrev pub attributes_read : List Record → ℕ → Caller → ObjectId → Option ℕ → Result Reply Refusal
 attributes_read h t caller o at = do
   grant ← judge h t caller o right.Read at
+  refuse_if (is_gone (value_at attribute_track o (moment_of t at) h)) Flushed
   Ok (Attr grant (attributes_of o (moment_of t at) h))
 
 abbrev pub entry_by_user : Grant → ℕ → Option Found → Result Reply Refusal
@@ -214,6 +221,12 @@ administered caller = do
   refuse_if (not (caller.who == 0)) (Denied right.Admin)
   Ok Done
 
+-- a flush between two moments, the first of which may not come after the second
+abbrev pub flushed : ℕ → ℕ → Caller → Result Reply Refusal
+flushed from to caller = do
+  refuse_if (nat_lt to from) BadRange
+  administered caller
+
 -- AUDITS
 
 abbrev pub audited : AuditPage → Reply
@@ -269,6 +282,8 @@ outcome_by_kind base h t caller (PCreate name o) = name_bound h t caller name o
 outcome_by_kind base h t caller (PDelete purse name) = name_unbound h t caller purse name
 outcome_by_kind base h t caller (PList range after at) = names_listed h t caller range after at
 outcome_by_kind base h t caller (PMount purse name at) = name_mounted h t caller purse name at
+outcome_by_kind base h t caller (Flush from to) = flushed from to caller
+outcome_by_kind base h t caller (FlushO o from to) = flushed from to caller
 outcome_by_kind base h t caller (SetWindow ticks) = administered caller
 outcome_by_kind base h t caller (SetBudget purse budget) = administered caller
 outcome_by_kind base h t caller (ReadAudit range skip) = audit_read base h t caller range skip

@@ -16,5 +16,6 @@ pub mod Audit
 pub mod Answer
 pub mod Play
 pub mod Applied
+pub mod Erased
 pub mod SameAudit
 pub mod Strike

@@ -1,5 +1,5 @@
 -- What the past of a purse costs, and what it may cost.
-use Rattle.std.specs.Prelude.{ℕ, zero, suc, ◌+◌, ◌&&◌, nat_lt, List, fold, length, sum_by, if◌then◌else◌}
+use Rattle.std.specs.Prelude.{ℕ, Bool, not, zero, suc, ◌+◌, ◌&&◌, nat_lt, List, fold, length, sum_by, if◌then◌else◌}
 use Rattle.s4_types.specs.declared.object.Purse.{Purse}
 use Rattle.s4_types.specs.declared.object.ObjectId.{ObjectId}
 use Rattle.s4_types.specs.declared.request.Request.{Request}
@@ -12,9 +12,13 @@ use Rattle.s4_types.specs.Base.{Base}
 use Rattle.s4_types.specs.Horizon.{horizon_at, is_remembered}
 use Rattle.s4_types.specs.Versions.{Track, Value, versions, data_track, attribute_track, acl_track}
 
--- what the values cost that are past and not expired
+-- whether the value is past, and neither expired nor erased
+abbrev pub is_charged : {V : Type 0} → ℕ → Value V → Bool
+is_charged horizon v = is_remembered horizon v.end && not v.is_erased
+
+-- what the values cost that are past, and neither expired nor erased
 abbrev pub past_cost : {V : Type 0} → Track V → ℕ → List (Value V) → ℕ
-past_cost track horizon values = sum_by (λ v. if is_remembered horizon v.end then track.cost v.value else 0) values
+past_cost track horizon values = sum_by (λ v. if is_charged horizon v then track.cost v.value else 0) values
 
 -- what an object's past costs, on its three tracks
 abbrev pub spent_on_object : ℕ → List Record → ObjectId → ℕ

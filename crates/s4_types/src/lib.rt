@@ -21,8 +21,9 @@ pub use acl::{Acl, AclEntry};
 pub use audit::{AuditLine, AuditLines, AuditPage};
 pub use bytes::Bytes;
 pub use laws::{
-    horizons_depend_on_wide_changes, horizons_never_go_back, purses_depend_on_their_records,
-    spending_depends_on_its_purse, strangers_change_nothing, values_are_applied_in_order,
+    flushes_erase_the_past_alone, horizons_depend_on_wide_changes, horizons_never_go_back,
+    purses_depend_on_their_records, spending_depends_on_its_purse, strangers_change_nothing,
+    the_past_stays, values_are_applied_in_order,
 };
 pub use memory::NoMemory;
 pub use moment::Moment;
@@ -34,8 +35,3 @@ pub use reply::{Grant, NameLine, NameLines, Refusal, Reply};
 pub use request::{After, Request};
 pub use rights::{Right, Rights};
 pub use version::{Item, Version};
-
-#[cfg(test)]
-mod audit_tests;
-#[cfg(test)]
-mod tests;

@@ -4,6 +4,3 @@
 mod window;
 
 pub use window::Window;
-
-#[cfg(test)]
-mod tests;

@@ -12,7 +12,8 @@ pub struct Row {
     pub error: &'static str,
 }
 
-pub const ROWS: [Row; 32] = [
+/// Of objects, their values and their access lists, and of faults.
+pub const ROWS_OF_OBJECTS: [Row; 17] = [
     EMPTY_SCRIPT,
     FIRST_REQUESTS,
     THREE_CALLS_AT_FIVE,
@@ -27,10 +28,21 @@ pub const ROWS: [Row; 32] = [
     FULL_ACL,
     RECOVERY_FLAG,
     RECOVERY_FLAG_REVOKED,
+    FAULT_FIRST_LINE,
+    FAULT_BAD_LINE,
+    FAULT_MOMENT_GOES_BACK,
+];
+
+/// Of names.
+pub const ROWS_OF_NAMES: [Row; 4] = [
     BOUND_OBJECT,
     NAME_BOUND_AGAIN,
     VISIBLE_NAMES_ALONE,
     PARTS_FULL,
+];
+
+/// Of windows, budgets, audits and flushes, and campaigns of a stranger.
+pub const ROWS_OF_THE_PAST: [Row; 16] = [
     LARGER_WINDOW_BRINGS_NOTHING_BACK,
     SMALLER_WINDOW_ACTS_AT_ONCE,
     BUDGET_AND_HORIZON,
@@ -42,9 +54,11 @@ pub const ROWS: [Row; 32] = [
     CAMPAIGN_FILLING_A_BUDGET,
     CAMPAIGN_PROBING_MOMENTS,
     CAMPAIGN_DELETES_AND_GRANTS,
-    FAULT_FIRST_LINE,
-    FAULT_BAD_LINE,
-    FAULT_MOMENT_GOES_BACK,
+    CAMPAIGN_PROBING_NAMES,
+    CAMPAIGN_PROBING_NAMES_STRUCK,
+    WORKED_CASE_OF_TWO_CELLS,
+    FLUSH,
+    FLUSH_GIVES_BUDGET_BACK,
 ];
 
 /// An empty script is done at once.
@@ -1115,6 +1129,131 @@ const CAMPAIGN_DELETES_AND_GRANTS: Row = Row {
              data empty by 0 since 2\n\
              data empty by 0 since 3\n\
              denied read\n",
+    error: "",
+};
+
+/// A stranger learns nothing of objects and names.
+const CAMPAIGN_PROBING_NAMES: Row = Row {
+    name: "campaign_probing_names",
+    script: "window 100\n\
+             1 9 read 7.0.1 0 1\n\
+             2 7 create 0\n\
+             2 7 pcreate home 7.0.1\n\
+             3 9 read 7.0.1 0 1\n\
+             3 9 delete 7.0.1\n\
+             3 9 setacl 7.0.1 9 31\n\
+             3 9 pdelete 7.0 home\n\
+             3 9 pdelete 7.0 nope\n\
+             3 9 plist 7\n\
+             4 9 audit 7 6\n",
+    output: "denied read\n\
+             made 7.0.1\n\
+             done\n\
+             denied read\n\
+             denied delete\n\
+             denied control\n\
+             denied control\n\
+             denied control\n\
+             names 0 end\n\
+             audit 1 end\n\
+             record 3 9 0 14 range 0\n",
+    error: "",
+};
+
+/// The same without what others did: the stranger is replied the same.
+const CAMPAIGN_PROBING_NAMES_STRUCK: Row = Row {
+    name: "campaign_probing_names_struck",
+    script: "window 100\n\
+             1 9 read 7.0.1 0 1\n\
+             3 9 read 7.0.1 0 1\n\
+             3 9 delete 7.0.1\n\
+             3 9 setacl 7.0.1 9 31\n\
+             3 9 pdelete 7.0 home\n\
+             3 9 pdelete 7.0 nope\n\
+             3 9 plist 7\n\
+             4 9 audit 7 6\n",
+    output: "denied read\n\
+             denied read\n\
+             denied delete\n\
+             denied control\n\
+             denied control\n\
+             denied control\n\
+             names 0 end\n\
+             audit 1 end\n\
+             record 3 9 0 14 range 0\n",
+    error: "",
+};
+
+/// Two principals, and a smaller window between their requests.
+const WORKED_CASE_OF_TWO_CELLS: Row = Row {
+    name: "worked_case_of_two_cells",
+    script: "window 100\n\
+             5 8 create 0\n\
+             5 7 create 0\n\
+             5 0 setwindow 10\n\
+             8 8 create 0\n\
+             9 7 create 0\n",
+    output: "made 8.0.1\n\
+             made 7.0.1\n\
+             done\n\
+             made 8.0.2\n\
+             made 7.0.2\n",
+    error: "",
+};
+
+/// A flush erases what began and ended between its moments, and nothing in force.
+const FLUSH: Row = Row {
+    name: "flush",
+    script: "window 100\n\
+             5 7 create 0\n\
+             10 7 write 7.0.1 0 61\n\
+             20 7 write 7.0.1 0 62\n\
+             30 7 write 7.0.1 0 63\n\
+             40 7 flusho 7.0.1 10 30\n\
+             40 0 flusho 7.0.1 30 10\n\
+             40 0 flusho 7.0.1 10 30\n\
+             41 7 read 7.0.1 0 1 at 9\n\
+             41 7 read 7.0.1 0 1 at 15\n\
+             41 7 read 7.0.1 0 1 at 25\n\
+             41 7 read 7.0.1 0 1 at 30\n",
+    output: "made 7.0.1\n\
+             done\n\
+             done\n\
+             done\n\
+             denied admin\n\
+             bad-range\n\
+             done\n\
+             data empty by 0 since 5\n\
+             flushed\n\
+             flushed\n\
+             data 63 by 0 since 5\n",
+    error: "",
+};
+
+/// What is erased costs nothing; what ends after the flush isn't erased by it.
+const FLUSH_GIVES_BUDGET_BACK: Row = Row {
+    name: "flush_gives_budget_back",
+    script: "window 100\n\
+             0 0 setbudget 7.0 129\n\
+             5 7 create 0\n\
+             10 7 write 7.0.1 0 61\n\
+             10 7 write 7.0.1 0 62\n\
+             10 7 write 7.0.1 0 63\n\
+             10 7 read 7.0.1 0 1 at 10\n\
+             11 0 flush 0 20\n\
+             11 7 write 7.0.1 0 63\n\
+             12 7 read 7.0.1 0 1 at 9\n\
+             12 7 read 7.0.1 0 1 at 10\n",
+    output: "done\n\
+             made 7.0.1\n\
+             done\n\
+             done\n\
+             over-budget 129 65 129\n\
+             data 62 by 0 since 5\n\
+             done\n\
+             done\n\
+             flushed\n\
+             data 62 by 0 since 5\n",
     error: "",
 };
 

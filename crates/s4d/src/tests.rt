@@ -1,6 +1,9 @@
 use crate::command;
 use crate::fault::{Fault, FaultText};
-use crate::rows::{FAULT_BAD_LINE, FIRST_REQUESTS, ROWS, serials_spent};
+use crate::rows::{
+    FAULT_BAD_LINE, FIRST_REQUESTS, ROWS_OF_NAMES, ROWS_OF_OBJECTS, ROWS_OF_THE_PAST, Row,
+    serials_spent,
+};
 use crate::script::run_script;
 use crate::text::read_up_to;
 use s4_drive::{Drive, never_down};
@@ -53,17 +56,41 @@ fn replies_to<A: Abort>(rt: &A, alloc: Global, script: &str) -> Result<String, F
     Ok(texts)
 }
 
+/// Runs a row as a script, and where no line of it is at fault its requests all at once.
+fn check_row<A: Abort>(rt: &A, alloc: Global, row: &Row) -> Result<(), Fail> {
+    let (output, error) = written(alloc, row.script.as_bytes())?;
+    assert_eq!(rt; output.as_slice(), row.output.as_bytes(), "{}", row.name);
+    assert_eq!(rt; error.as_str(), row.error, "{}", row.name);
+    if row.error.is_empty() && !row.script.is_empty() {
+        let texts = replies_to(rt, alloc, row.script)?;
+        assert_eq!(rt; texts.as_str(), row.output, "{}", row.name);
+    }
+    Ok(())
+}
+
 #[test]
-fn rows(rt: HostRuntime) -> Result<(), Fail> {
+fn rows_of_objects(rt: HostRuntime) -> Result<(), Fail> {
     let alloc = rt.alloc();
-    for row in ROWS {
-        let (output, error) = written(alloc, row.script.as_bytes())?;
-        assert_eq!(rt; output.as_slice(), row.output.as_bytes(), "{}", row.name);
-        assert_eq!(rt; error.as_str(), row.error, "{}", row.name);
-        if row.error.is_empty() && !row.script.is_empty() {
-            let texts = replies_to(&rt, alloc, row.script)?;
-            assert_eq!(rt; texts.as_str(), row.output, "{}", row.name);
-        }
+    for row in &ROWS_OF_OBJECTS {
+        check_row(&rt, alloc, row)?;
+    }
+    Ok(())
+}
+
+#[test]
+fn rows_of_names(rt: HostRuntime) -> Result<(), Fail> {
+    let alloc = rt.alloc();
+    for row in &ROWS_OF_NAMES {
+        check_row(&rt, alloc, row)?;
+    }
+    Ok(())
+}
+
+#[test]
+fn rows_of_the_past(rt: HostRuntime) -> Result<(), Fail> {
+    let alloc = rt.alloc();
+    for row in &ROWS_OF_THE_PAST {
+        check_row(&rt, alloc, row)?;
     }
     Ok(())
 }

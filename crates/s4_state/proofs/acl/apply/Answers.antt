@@ -7,7 +7,7 @@ use Rattle.s4_types.specs.Acl.{acl_with}
 use Rattle.s4_types.specs.Answer.{acl_of, settable}
 use Rattle.s4_types.specs.Outcome.{◌>>◌}
 use Rattle.s4_acl.specs.Set.{acl_once_set}
-use Rattle.s4_state.specs.declared.objects.Which.TheVariants as which
+use Rattle.s4_objects.specs.declared.kept.Which.TheVariants as which
 use Rattle.s4_state.specs.Stands.{PutsOn}
 use Rattle.s4_state.proofs.Effects.{set_acl_puts, set_acl_settable, changed_made}
 use Rattle.s4_state.proofs.acl.apply.Goals as goal

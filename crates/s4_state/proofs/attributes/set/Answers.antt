@@ -1,6 +1,6 @@
 use Rattle.std.proofs.Common.{sym, subst, refl}
 use Rattle.s4_types.specs.declared.version.Item.TheVariants as item
-use Rattle.s4_state.specs.declared.objects.Which.TheVariants as which
+use Rattle.s4_objects.specs.declared.kept.Which.TheVariants as which
 use Rattle.s4_state.specs.Stands.{PutsOn}
 use Rattle.s4_state.proofs.Effects.{set_attributes_puts, changed_made}
 use Rattle.s4_state.proofs.attributes.set.Goals as goal

@@ -1,5 +1,5 @@
 use Rattle.std.proofs.Common.{◌∙◌}
-use Rattle.s4_state.specs.declared.objects.Which.TheVariants as which
+use Rattle.s4_objects.specs.declared.kept.Which.TheVariants as which
 use Rattle.s4_state.proofs.Opening.{new_open, begins}
 use Rattle.s4_state.proofs.begin.begin.Goals as goal
 

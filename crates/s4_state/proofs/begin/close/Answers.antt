@@ -1,4 +1,4 @@
-use Rattle.s4_state.specs.declared.objects.Which.TheVariants as which
+use Rattle.s4_objects.specs.declared.kept.Which.TheVariants as which
 use Rattle.s4_state.proofs.Opening.{new_open, new_empty, attributes_open, attributes_empty, data_open, data_empty, closed}
 use Rattle.s4_state.proofs.begin.close.Goals as goal
 

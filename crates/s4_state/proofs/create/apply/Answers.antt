@@ -5,7 +5,7 @@ use Rattle.std.specs.BTreeMap.{get}
 use Rattle.s4_types.specs.declared.object.ObjectId.{ObjectId}
 use Rattle.s4_types.specs.Names.{same_purse, same_object}
 use Rattle.s4_names.specs.Drawn.{drawn_in}
-use Rattle.s4_state.specs.Keys.{object_cmp}
+use Rattle.s4_objects.specs.Keys.{object_cmp}
 use Rattle.s4_state.specs.Chains.{Begins}
 use Rattle.s4_state.proofs.Standing.{stands_made}
 use Rattle.s4_state.proofs.Effects.{create_makes, new_object}

@@ -1,6 +1,6 @@
 use Rattle.std.proofs.Common.{◌≡◌, true, sym, ap, refl, ◌∙◌}
 use Rattle.std.specs.Prelude.{is_some}
-use Rattle.s4_state.specs.declared.objects.Which.TheVariants as which
+use Rattle.s4_objects.specs.declared.kept.Which.TheVariants as which
 use Rattle.s4_state.proofs.Standing.{stands_end}
 use Rattle.s4_state.proofs.Effects.{delete_ends, changed_made}
 use Rattle.s4_state.proofs.delete.apply.Goals as goal

@@ -1,7 +1,7 @@
 use Rattle.std.proofs.Common.{sym, subst}
 use Rattle.std.specs.BTreeMap.{get}
 use Rattle.s4_names.specs.Drawn.{drawn_in}
-use Rattle.s4_state.specs.Keys.{object_cmp}
+use Rattle.s4_objects.specs.Keys.{object_cmp}
 use Rattle.s4_state.specs.Stands.{StandsFor}
 use Rattle.s4_state.proofs.Binding.{stands_reserved, stands_bound, unbound_before}
 use Rattle.s4_state.proofs.partitions.bind.Given.{Over}
@@ -13,7 +13,7 @@ reserved : (g : Over) (c : In_ok-reserve-2 g) → StandsFor (g.S.Store.chains c.
 reserved g c =
     let e = c.in_ok-reserve-2.ensures in
     stands_reserved (subst (λ m. StandsFor m (get object_cmp c.args.parts.now.objects) (drawn_in c.args.parts.now.names) c.args.parts.now.partitions c.args.parts.now.history.records) (sym c.in_ok-reserve.ensures.chains) c.requires.kept)
-    (g.S.Store.chains c.reserve-2.new.store) c.reserve-2.new.self e.holds e.names e.bindings e.others e.still e.own
+    (g.S.Store.chains c.reserve-2.new.store) c.reserve-2.new.self e.holds e.waits e.waiting e.names e.bindings e.others e.still e.own
 
 pub bind-requires-clause-unbound : goal.bind-requires-clause-unbound
 bind-requires-clause-unbound g c = unbound_before (reserved g (goal.at.bind-requires-clause-unbound g c).In_ok-reserve-2) c.requires.next c.requires.granted c.args.name.now c.args.object.now c.requires.asked
@@ -21,4 +21,4 @@ bind-requires-clause-unbound g c = unbound_before (reserved g (goal.at.bind-requ
 pub returns-clause-ok : goal.returns-clause-ok
 returns-clause-ok g c =
     stands_bound (reserved g (goal.at.returns-clause-ok g c).In_ok-reserve-2) c.requires.next c.requires.granted c.args.name.now c.args.object.now c.requires.asked c.requires.sound
-    (g.S.Store.chains c.bind.new.store) c.bind.new.self c.bind.ensures.holds c.bind.ensures.others c.bind.ensures.own c.bind.ensures.names c.bind.ensures.bindings
+    (g.S.Store.chains c.bind.new.store) c.bind.new.self c.bind.ensures.holds c.bind.ensures.waits c.bind.ensures.waiting c.bind.ensures.others c.bind.ensures.own c.bind.ensures.names c.bind.ensures.bindings

@@ -1,10 +1,13 @@
-use Rattle.s4_state.proofs.Binding.{stands_unbound, bound_before}
+use Rattle.s4_state.proofs.Binding.{stands_unbound, bound_before, later_then}
 use Rattle.s4_state.proofs.partitions.unbind.Goals as goal
 
 pub unbind-requires-clause-bound : goal.unbind-requires-clause-bound
 unbind-requires-clause-bound g c = bound_before c.requires.kept c.requires.next c.requires.granted c.args.purse.now c.args.name.now c.requires.asked
 
+pub unbind-requires-clause-later : goal.unbind-requires-clause-later
+unbind-requires-clause-later g c = later_then c.requires.kept c.requires.next c.requires.granted
+
 pub returns-clause-stands : goal.returns-clause-stands
 returns-clause-stands g c =
     stands_unbound c.requires.kept c.requires.next c.requires.granted c.args.purse.now c.args.name.now c.requires.asked c.requires.sound
-    (g.S.Store.chains c.unbind.new.store) c.unbind.new.self c.unbind.ensures.holds c.unbind.ensures.others c.unbind.ensures.own c.unbind.ensures.names c.unbind.ensures.bindings
+    (g.S.Store.chains c.unbind.new.store) c.unbind.new.self c.unbind.ensures.holds c.unbind.ensures.waits c.unbind.ensures.waiting c.unbind.ensures.others c.unbind.ensures.own c.unbind.ensures.names c.unbind.ensures.bindings

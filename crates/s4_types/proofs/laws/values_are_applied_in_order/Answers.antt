@@ -2,7 +2,7 @@ use Rattle.std.proofs.Common.{◌≡◌, ℕ, true, None, List, refl}
 use Rattle.s4_types.specs.declared.object.ObjectId.{ObjectId}
 use Rattle.s4_types.specs.declared.acl.AclEntry.{AclEntry}
 use Rattle.s4_types.specs.declared.request.Request.{Request}
-use Rattle.s4_types.specs.declared.request.Request.TheVariants.{Create, Delete, Read, Write, Append, Truncate, GetAttr, SetAttr, GetAclByUser, GetAclByIndex, SetAcl, PCreate, PDelete, PList, PMount, SetWindow, SetBudget, ReadAudit}
+use Rattle.s4_types.specs.declared.request.Request.TheVariants.{Create, Delete, Read, Write, Append, Truncate, GetAttr, SetAttr, GetAclByUser, GetAclByIndex, SetAcl, PCreate, PDelete, PList, PMount, Flush, FlushO, SetWindow, SetBudget, ReadAudit}
 use Rattle.s4_types.specs.Versions.{is_deleted, data_track, attribute_track, acl_track, data_effect, attribute_effect, acl_effect}
 use Rattle.s4_types.proofs.Applying.{value_at-applied}
 use Rattle.s4_types.proofs.laws.values_are_applied_in_order.Goals as goal
@@ -23,6 +23,8 @@ keeps-data o (PCreate name p) old e = cc
 keeps-data o (PDelete purse name) old e = cc
 keeps-data o (PList range after at) old e = cc
 keeps-data o (PMount purse name at) old e = cc
+keeps-data o (Flush from to) old e = cc
+keeps-data o (FlushO p from to) old e = cc
 keeps-data o (SetWindow ticks) old e = cc
 keeps-data o (SetBudget purse budget) old e = cc
 keeps-data o (ReadAudit range skip) old e = cc
@@ -43,6 +45,8 @@ keeps-attributes o (PCreate name p) old e = cc
 keeps-attributes o (PDelete purse name) old e = cc
 keeps-attributes o (PList range after at) old e = cc
 keeps-attributes o (PMount purse name at) old e = cc
+keeps-attributes o (Flush from to) old e = cc
+keeps-attributes o (FlushO p from to) old e = cc
 keeps-attributes o (SetWindow ticks) old e = cc
 keeps-attributes o (SetBudget purse budget) old e = cc
 keeps-attributes o (ReadAudit range skip) old e = cc
@@ -63,6 +67,8 @@ keeps-acl o (PCreate name p) old e = cc
 keeps-acl o (PDelete purse name) old e = cc
 keeps-acl o (PList range after at) old e = cc
 keeps-acl o (PMount purse name at) old e = cc
+keeps-acl o (Flush from to) old e = cc
+keeps-acl o (FlushO p from to) old e = cc
 keeps-acl o (SetWindow ticks) old e = cc
 keeps-acl o (SetBudget purse budget) old e = cc
 keeps-acl o (ReadAudit range skip) old e = cc

@@ -1,4 +1,4 @@
-use Rattle.std.proofs.Common.{◌≡◌, sym, ◌∙◌, ap, length, vec_len, rules}
+use Rattle.std.proofs.Common.{◌≡◌, ◌∙◌, ap, length, vec_len, rules}
 use Rattle.s4_parts.specs.Table.{serials_on}
 use Rattle.s4_parts.proofs.Counting.{count-bound}
 use Rattle.s4_parts.proofs.parts.Parts.bound_names.Goals as goal

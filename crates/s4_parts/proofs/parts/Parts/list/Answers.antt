@@ -1,7 +1,6 @@
 use Rattle.std.proofs.Common.{◌≡◌, ℕ, ◌+◌, ◌≤◌, ◌<◌, List, refl, sym, ◌∙◌, ap, subst, arith, take, length, flat_map, vec_len, rules, min}
 use Rattle.std.specs.Prelude.{nat_lt}
 use Rattle.std.proofs.lemmas.List.{length-take}
-use Rattle.s4_types.specs.declared.reply.NameLine.{NameLine}
 use Rattle.s4_types.specs.Answer.{purse_numbers}
 use Rattle.s4_parts.specs.Page.{lines_in, lines_of}
 use Rattle.s4_parts.proofs.Listing.{next-purse, cut-page, more-page}

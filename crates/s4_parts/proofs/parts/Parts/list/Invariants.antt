@@ -1,4 +1,4 @@
-use Rattle.std.proofs.Common.{◌≡◌, ◌≤◌, take, length, flat_map, vec_capacity}
+use Rattle.std.proofs.Common.{◌≡◌, ◌≤◌, take, flat_map, vec_capacity}
 use Rattle.s4_types.specs.Answer.{purse_numbers}
 use Rattle.s4_parts.specs.Page.{lines_in}
 use Rattle.s4_parts.proofs.parts.Parts.list.Given as goal

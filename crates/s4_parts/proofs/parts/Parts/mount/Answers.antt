@@ -1,4 +1,4 @@
-use Rattle.std.proofs.Common.{◌≡◌, sym, ◌∙◌, ap}
+use Rattle.std.proofs.Common.{sym, ◌∙◌, ap}
 use Rattle.s4_parts.specs.Table.{chain_on}
 use Rattle.s4_parts.proofs.parts.Parts.mount.Goals as goal
 

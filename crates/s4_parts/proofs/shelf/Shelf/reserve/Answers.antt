@@ -1,4 +1,4 @@
-use Rattle.std.proofs.Common.{◌≡◌, ℕ, Bool, true, false, cond, Option, Some, None, List, [], refl, sym, ◌∙◌, ap, subst}
+use Rattle.std.proofs.Common.{◌≡◌, ℕ, false, cond, Option, Some, None, List, refl, sym, ◌∙◌, ap, subst}
 use Rattle.std.specs.Prelude.{is_some}
 use Rattle.std.specs.Option.{option_map}
 use Rattle.std.specs.FinMap as finmap
@@ -11,7 +11,7 @@ use Rattle.s4_types.proofs.Booleans.{by_test}
 use Rattle.s4_store.specs.Chains.{items_of}
 use Rattle.s4_store.specs.Laws.{items_here, remove-insert}
 use Rattle.s4_parts.specs.declared.shelf.Shelf.{Shelf}
-use Rattle.s4_parts.specs.Table.{chain_on, names_on}
+use Rattle.s4_parts.specs.Table.{chain_on}
 use Rattle.s4_parts.specs.Shelf.{or_else}
 use Rattle.s4_parts.proofs.Ordered.{filter-inserted}
 use Rattle.s4_parts.proofs.shelf.Shelf.reserve.Goals as goal

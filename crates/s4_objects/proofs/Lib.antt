@@ -1,0 +1,4 @@
+pub mod Counting
+pub mod Weighing
+pub mod Flushing
+pub mod Mapping

@@ -1,0 +1,150 @@
+-- What is kept stands for a history with a flush more.
+use Rattle.std.proofs.Common.{◌≡◌, ℕ, Bool, true, false, Option, Some, None, List, [], ◌∷◌, ◌++◌, refl, sym, ◌∙◌, ap, subst}
+use Rattle.std.specs.Prelude.{◌||◌, ◌==◌, map, if◌then◌else◌}
+use Rattle.std.proofs.lemmas.Bool.{eqb-true}
+use Rattle.s4_types.specs.declared.object.Purse.{Purse}
+use Rattle.s4_types.specs.declared.object.ObjectId.{ObjectId}
+use Rattle.s4_types.specs.declared.principal.Caller.{Caller}
+use Rattle.s4_types.specs.declared.request.Request.{Request}
+use Rattle.s4_types.specs.declared.request.Request.TheVariants.{Flush, FlushO}
+use Rattle.s4_types.specs.declared.reply.Reply.TheVariants.{Done}
+use Rattle.s4_types.specs.declared.record.Record.{Record}
+use Rattle.s4_types.specs.declared.version.Version.{Version}
+use Rattle.s4_types.specs.declared.version.Item.{Item}
+use Rattle.s4_types.specs.declared.version.Item.TheVariants as item
+use Rattle.s4_types.specs.Names.{same_object}
+use Rattle.s4_types.specs.Kinds.{is_refused, concerns}
+use Rattle.s4_types.specs.Base.{Base}
+use Rattle.s4_types.specs.Versions.{when, Track, Value, Span, versions, flushed_by, data_track, attribute_track, acl_track}
+use Rattle.s4_types.specs.Versions as model
+use Rattle.s4_types.proofs.Booleans.{by_test, &&-false}
+use Rattle.s4_types.proofs.Erasing.{versions-flush, versions-flush-one}
+use Rattle.s4_store.specs.Chains.{Chains}
+use Rattle.s4_tracks.specs.Chain.{is_within, erased, flushed_one, flushed}
+use Rattle.s4_parts.specs.declared.parts.Parts.{Parts as Table}
+use Rattle.s4_objects.specs.declared.flushes.Refund.{Refund}
+use Rattle.s4_objects.specs.declared.kept.Which.{Which}
+use Rattle.s4_objects.specs.declared.kept.Which.TheVariants as which
+use Rattle.s4_objects.specs.declared.kept.Kept.{Kept}
+use Rattle.s4_objects.specs.Chains.{chain_of, Chained}
+use Rattle.s4_objects.specs.Flushes.{flushed_on, Flushes}
+use Rattle.s4_state.specs.Laid.{version_of, laid, versions_on}
+use Rattle.s4_state.specs.Sound.{IsSound, IsNext}
+use Rattle.s4_state.specs.Stands.{StandsFor, NamesStand, MakesNone, RebindsNone}
+use Rattle.s4_state.proofs.Granting.{told, told-asked, accepted-asked, flush-done, flush_one-done, flush-asker}
+use Rattle.s4_state.proofs.Naming.{names_with, names_over, last-up}
+use Rattle.s4_state.proofs.Standing.{stands_on}
+
+-- VALUES AND VERSIONS
+
+module _ {V : Type 0} (track : Track V) (wrap : V → Item) (from to : ℕ) where
+  abbrev span : Span
+  span = record { from = from; to = to }
+
+  flushed-append : (us vs : List Version) → flushed from to (us ++ vs) ≡ flushed from to us ++ flushed from to vs
+  flushed-append [] vs = refl
+  flushed-append (u ∷ us) vs = ap (λ ws. flushed_one from to u ∷ ws) (flushed-append us vs)
+
+  -- a value that a flush erases is a version that it erases
+  flushed-value : (v : Value V) → version_of track wrap (model.erased span v) ≡ flushed_one from to (version_of track wrap v)
+  flushed-value v = of v.is_erased (is_within from to (version_of track wrap v))
+    where
+      of : (e b : Bool) → record { begin = v.begin; end = v.end; item = if e || b then None else Some (wrap v.value); cost = track.cost v.value }
+          ≡ (if b then erased (record { begin = v.begin; end = v.end; item = if e then None else Some (wrap v.value); cost = track.cost v.value })
+          else record { begin = v.begin; end = v.end; item = if e then None else Some (wrap v.value); cost = track.cost v.value })
+      of true true = refl
+      of true false = refl
+      of false true = refl
+      of false false = refl
+
+  flushed-laid : (values : List (Value V)) → laid track wrap (map (model.erased span) values) ≡ flushed from to (laid track wrap values)
+  flushed-laid [] = refl
+  flushed-laid (v ∷ past) =
+      ap (λ vs. vs ++ version_of track wrap (model.erased span v) ∷ []) (flushed-laid past)
+      ∙ ap (λ w. flushed from to (laid track wrap past) ++ w ∷ []) (flushed-value v)
+      ∙ sym (flushed-append (laid track wrap past) (version_of track wrap v ∷ []))
+
+  -- where the object is asked for
+  flushed-if : (asked : Bool) (values : List (Value V)) → laid track wrap (flushed_by (when asked span) true values) ≡ (if asked then flushed from to (laid track wrap values) else laid track wrap values)
+  flushed-if true values = flushed-laid values
+  flushed-if false values = refl
+
+  kept-if : (asked : Bool) (values : List (Value V)) → laid track wrap (flushed_by (when asked span) false values) ≡ (if asked then laid track wrap values else laid track wrap values)
+  kept-if true values = refl
+  kept-if false values = refl
+
+-- THE RECORD
+
+unmoved : {A : Type 0} (b : Bool) (x : A) → (if b then x else x) ≡ x
+unmoved true x = refl
+unmoved false x = refl
+
+module _ {chains : Chains Version} {found : ObjectId → Option Kept} {serials : Purse → ℕ} {table : Table} {h : List Record} (s : StandsFor chains found serials table h) {new : Chains Version} {asked : ObjectId → Bool} {from to : ℕ} {refunds : List Refund} (f : Flushes chains new found asked from to refunds) where
+  chained-flushed : Chained new found
+  chained-flushed = record { opened = λ o k w got. f.still (chain_of w k) (s.chained.opened o k w got); apart = s.chained.apart }
+
+  names-flushed : NamesStand new found table h
+  names-flushed = names_over s.partitions new found (record {
+    opened = λ p n c got. f.still c (s.partitions.holds.opened p n c got);
+    items = λ p n c got. f.others c (λ o k w kept. by_test (c == chain_of w k)
+        (λ e. absurd (s.partitions.apart o k w kept p n (got ∙ ap (λ x. Some x) (eqb-true c (chain_of w k) e))))
+        (λ e. e));
+  }) s.partitions.apart
+
+  stands_flushed : (r : Record) → IsSound (h ++ r ∷ []) → MakesNone r → RebindsNone r
+      → ((o : ObjectId) (w : Which) → versions_on w o (h ++ r ∷ []) ≡ (if asked o then flushed_on from to w (versions_on w o h) else versions_on w o h))
+      → StandsFor new found serials table (h ++ r ∷ [])
+  stands_flushed r sound none rebinds tracks = stands_on s r sound none chained-flushed
+      (λ o w. f.tracks o w ∙ ap (λ vs. if asked o then flushed_on from to w vs else vs) (s.tracks o w) ∙ sym (tracks o w))
+      (names_with names-flushed r (last-up h r sound.moments) rebinds)
+
+-- a flush that was carried out makes and binds nothing
+module _ (t : ℕ) (caller : Caller) where
+  abbrev flush_of : Request → Record
+  flush_of request = record { moment = t; caller = caller; request = request; reply = Done }
+
+  flush-makes : (from to : ℕ) → MakesNone (flush_of (Flush from to))
+  flush-makes from to = record { makes_none = λ q. &&-false (concerns q.purse (flush_of (Flush from to))); draws_none = λ p. &&-false (concerns p (flush_of (Flush from to))) }
+
+  flush-rebinds : (from to : ℕ) → RebindsNone (flush_of (Flush from to))
+  flush-rebinds from to = record { bindings = λ p n old. unmoved (concerns p (flush_of (Flush from to))) old; names = λ p old. unmoved (concerns p (flush_of (Flush from to))) old }
+
+  flush_one-makes : (o : ObjectId) (from to : ℕ) → MakesNone (flush_of (FlushO o from to))
+  flush_one-makes o from to = record { makes_none = λ q. &&-false (concerns q.purse (flush_of (FlushO o from to))); draws_none = λ p. &&-false (concerns p (flush_of (FlushO o from to))) }
+
+  flush_one-rebinds : (o : ObjectId) (from to : ℕ) → RebindsNone (flush_of (FlushO o from to))
+  flush_one-rebinds o from to = record { bindings = λ p n old. unmoved (concerns p (flush_of (FlushO o from to))) old; names = λ p old. unmoved (concerns p (flush_of (FlushO o from to))) old }
+
+-- the versions that the flush of all objects leaves
+flush-tracks : (h : List Record) (t client from to : ℕ) (o : ObjectId) (w : Which) → versions_on w o (h ++ flush_of t (record { who = 0; client = client }) (Flush from to) ∷ []) ≡ flushed_on from to w (versions_on w o h)
+flush-tracks h t client from to o which.Data = ap (laid data_track item.Data) (versions-flush data_track o h t client from to (λ old. refl)) ∙ flushed-if data_track item.Data from to true (versions data_track o h)
+flush-tracks h t client from to o which.Attributes = ap (laid attribute_track item.Attr) (versions-flush attribute_track o h t client from to (λ old. refl)) ∙ flushed-if attribute_track item.Attr from to true (versions attribute_track o h)
+flush-tracks h t client from to o which.Acl = ap (laid acl_track item.Acl) (versions-flush acl_track o h t client from to (λ old. refl))
+
+-- and that of one object
+flush_one-tracks : (h : List Record) (t : ℕ) (caller : Caller) (p : ObjectId) (from to : ℕ) (o : ObjectId) (w : Which) → versions_on w o (h ++ flush_of t caller (FlushO p from to) ∷ []) ≡ (if same_object p o then flushed_on from to w (versions_on w o h) else versions_on w o h)
+flush_one-tracks h t caller p from to o which.Data = ap (laid data_track item.Data) (versions-flush-one data_track o h t 0 from to caller p (λ old. refl)) ∙ flushed-if data_track item.Data from to (same_object p o) (versions data_track o h)
+flush_one-tracks h t caller p from to o which.Attributes = ap (laid attribute_track item.Attr) (versions-flush-one attribute_track o h t 0 from to caller p (λ old. refl)) ∙ flushed-if attribute_track item.Attr from to (same_object p o) (versions attribute_track o h)
+flush_one-tracks h t caller p from to o which.Acl = ap (laid acl_track item.Acl) (versions-flush-one acl_track o h t 0 from to caller p (λ old. refl)) ∙ kept-if acl_track item.Acl from to (same_object p o) (versions acl_track o h)
+
+module _ {chains : Chains Version} {found : ObjectId → Option Kept} {serials : Purse → ℕ} {table : Table} {h : List Record} (s : StandsFor chains found serials table h) {base : Base} {r : Record} (n : IsNext base h r) (granted : is_refused r.reply ≡ false) (sound : IsSound (h ++ r ∷ [])) {new : Chains Version} {from to : ℕ} {refunds : List Refund} where
+  -- a flush of all objects
+  pub stands_flush : r.request ≡ Flush from to → Flushes chains new found (λ o. true) from to refunds → StandsFor new found serials table (h ++ r ∷ [])
+  stands_flush asked f =
+      let accepted : is_refused (told base h r.moment r.caller (Flush from to)) ≡ false = accepted-asked n granted (Flush from to) asked in
+      let told' : r.reply ≡ Done = told-asked n granted (Flush from to) asked ∙ flush-done base h r.moment r.caller from to accepted in
+      let asker : r.caller.who ≡ 0 = eqb-true r.caller.who 0 (flush-asker base h r.moment r.caller from to accepted) in
+      let admin : Caller = record { who = 0; client = r.caller.client } in
+      let is : r ≡ flush_of r.moment admin (Flush from to) = λ i. record { moment = r.moment; caller = record { who = asker i; client = r.caller.client }; request = asked i; reply = told' i } in
+      subst (λ x. StandsFor new found serials table (h ++ x ∷ [])) (sym is)
+      (stands_flushed s f (flush_of r.moment admin (Flush from to)) (subst (λ x. IsSound (h ++ x ∷ [])) is sound)
+      (flush-makes r.moment admin from to) (flush-rebinds r.moment admin from to) (flush-tracks h r.moment r.caller.client from to))
+
+  -- a flush of one object
+  pub stands_flush_one : (o : ObjectId) → r.request ≡ FlushO o from to → Flushes chains new found (same_object o) from to refunds → StandsFor new found serials table (h ++ r ∷ [])
+  stands_flush_one o asked f =
+      let told' : r.reply ≡ Done = told-asked n granted (FlushO o from to) asked ∙ flush_one-done base h r.moment r.caller o from to (accepted-asked n granted (FlushO o from to) asked) in
+      let is : r ≡ flush_of r.moment r.caller (FlushO o from to) = λ i. record { moment = r.moment; caller = r.caller; request = asked i; reply = told' i } in
+      subst (λ x. StandsFor new found serials table (h ++ x ∷ [])) (sym is)
+      (stands_flushed s f (flush_of r.moment r.caller (FlushO o from to)) (subst (λ x. IsSound (h ++ x ∷ [])) is sound)
+      (flush_one-makes r.moment r.caller o from to) (flush_one-rebinds r.moment r.caller o from to) (flush_one-tracks h r.moment r.caller o from to))

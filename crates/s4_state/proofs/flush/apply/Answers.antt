@@ -1,0 +1,12 @@
+use Rattle.std.proofs.lemmas.Result.{IfOk-weaker}
+use Rattle.s4_state.proofs.Flushing.{stands_flush}
+use Rattle.s4_state.proofs.Refunding.{flush_charged}
+use Rattle.s4_state.proofs.flush.apply.Goals as goal
+
+pub returns-clause-ok : goal.returns-clause-ok
+returns-clause-ok g c =
+    IfOk-weaker c.flush.result _ _ (λ refunds flushed. stands_flush c.requires.kept c.requires.next c.requires.granted c.requires.sound c.requires.asked flushed) c.flush.ensures.ok
+
+pub returns-clause-charged : goal.returns-clause-charged
+returns-clause-charged g c =
+    IfOk-weaker c.flush.result _ _ (λ refunds flushed weight p. flush_charged c.requires.kept c.args.added.now (stands_flush c.requires.kept c.requires.next c.requires.granted c.requires.sound c.requires.asked flushed) flushed c.requires.asked weight p) c.flush.ensures.ok

@@ -1,0 +1,97 @@
+use s4_judge::{Held, judge_now, judge_past};
+use s4_types::{
+    Acl, AclEntry, Caller, Grant, Moment, ObjectId, Principal, Purse, PurseNo, Refusal, Right,
+    Rights, Serial,
+};
+use std::test::Fail;
+
+fn principal(number: u32) -> Result<Principal, Fail> {
+    Ok(Principal::new(number).ok_or("a principal")?)
+}
+
+fn caller(number: u32) -> Result<Caller, Fail> {
+    let who = principal(number)?;
+    Ok(Caller { who, client: 3 })
+}
+
+// Object 7.0.1.
+fn object() -> Result<ObjectId, Fail> {
+    Ok(ObjectId {
+        purse: Purse {
+            creator: principal(7)?,
+            number: PurseNo::new(0).ok_or("a purse")?,
+        },
+        serial: Serial::new(1).ok_or("a serial")?,
+    })
+}
+
+// One entry of principal 9, with rights 1 (Read) or 17 (Read and Recover).
+fn acl(rights: u8) -> Result<Acl, Fail> {
+    let mut acl = Acl::empty();
+    if rights > 0 && rights < 32 {
+        acl.push(AclEntry {
+            who: principal(9)?,
+            rights: Rights::new(rights).ok_or("rights")?,
+        });
+    }
+    Ok(acl)
+}
+
+fn by_entry(since: u64) -> Result<Grant, Refusal> {
+    Ok(Grant::Entry {
+        index: 0,
+        since: Moment::new(since),
+    })
+}
+
+#[test]
+fn what_is_asked_now(rt: HostRuntime) -> Result<(), Fail> {
+    let acl = acl(1)?;
+    let since = Moment::new(20);
+    let held = Some(Held { acl: &acl, since });
+    for (who, right, wanted) in [
+        (0, Right::Write, Ok(Grant::Admin)),
+        (0, Right::Control, Ok(Grant::Admin)),
+        (7, Right::Control, Ok(Grant::Owner)),
+        (7, Right::Read, Err(Refusal::Denied(Right::Read))),
+        (9, Right::Read, by_entry(20)),
+        (9, Right::Control, Err(Refusal::Denied(Right::Control))),
+        (8, Right::Delete, Err(Refusal::Denied(Right::Delete))),
+    ] {
+        assert_eq!(rt; judge_now(caller(who)?, &object()?, &held, right), wanted);
+    }
+    for (who, wanted) in [
+        (0, Refusal::NoObject),
+        (7, Refusal::NoObject),
+        (9, Refusal::Denied(Right::Write)),
+    ] {
+        let judged = judge_now(caller(who)?, &object()?, &None, Right::Write);
+        assert_eq!(rt; judged, Err(wanted));
+    }
+    Ok(())
+}
+
+#[test]
+fn what_is_asked_of_the_past(rt: HostRuntime) -> Result<(), Fail> {
+    let since = Moment::new(20);
+    for (rights, wanted) in [
+        (1, Err(Refusal::Denied(Right::Recover))),
+        (16, Err(Refusal::Denied(Right::Read))),
+        (17, by_entry(20)),
+    ] {
+        let acl = acl(rights)?;
+        let held = Some(Held { acl: &acl, since });
+        assert_eq!(rt; judge_past(caller(9)?, &object()?, &held), wanted);
+        assert_eq!(rt; judge_past(caller(0)?, &object()?, &held), Ok(Grant::Admin));
+        let creator = judge_past(caller(7)?, &object()?, &held);
+        assert_eq!(rt; creator, Err(Refusal::Denied(Right::Read)));
+    }
+    for (who, wanted) in [
+        (0, Refusal::NoObject),
+        (7, Refusal::NoObject),
+        (9, Refusal::Denied(Right::Read)),
+    ] {
+        assert_eq!(rt; judge_past(caller(who)?, &object()?, &None), Err(wanted));
+    }
+    Ok(())
+}

@@ -1,0 +1,172 @@
+use s4_ledger::{DEFAULT_BUDGET, Ledger};
+use s4_types::{Moment, Principal, Purse, PurseNo};
+use std::process::Abort;
+use std::test::Fail;
+
+fn purse(creator: u32, number: u8) -> Result<Purse, Fail> {
+    Ok(Purse {
+        creator: Principal::new(creator).ok_or("a principal")?,
+        number: PurseNo::new(number).ok_or("a purse number")?,
+    })
+}
+
+// The calls that require something, each behind the test that a caller has for it.
+
+fn charge(
+    rt: &impl Abort,
+    ledger: &mut Ledger,
+    purse: &Purse,
+    end: u64,
+    cost: u32,
+) -> Result<(), Fail> {
+    assert!(rt; cost > 0);
+    ledger.reserve(purse, Moment::new(end), cost)?;
+    assert!(rt; ledger.room(purse, cost));
+    ledger.charge(purse, Moment::new(end), cost);
+    Ok(())
+}
+
+fn forgive(rt: &impl Abort, ledger: &mut Ledger, purse: &Purse, end: u64, cost: u32) {
+    let is_past = end <= ledger.horizon().tick();
+    assert!(rt; is_past || ledger.has_charge(purse, Moment::new(end), cost));
+    ledger.forgive(purse, Moment::new(end), cost);
+}
+
+fn advance(rt: &impl Abort, ledger: &mut Ledger, horizon: u64) {
+    assert!(rt; ledger.horizon().tick() <= horizon);
+    ledger.advance(Moment::new(horizon));
+}
+
+fn spent_at(rt: &impl Abort, ledger: &Ledger, purse: &Purse, horizon: u64) -> u32 {
+    assert!(rt; ledger.horizon().tick() <= horizon);
+    ledger.spent_at(purse, Moment::new(horizon))
+}
+
+fn room_at(rt: &impl Abort, ledger: &Ledger, purse: &Purse, horizon: u64, cost: u32) -> bool {
+    assert!(rt; ledger.horizon().tick() <= horizon);
+    ledger.room_at(purse, Moment::new(horizon), cost)
+}
+
+#[test]
+fn charges_count_until_the_horizon_reaches_their_end(rt: HostRuntime) -> Result<(), Fail> {
+    let mut ledger = Ledger::new(rt.alloc());
+    let home = purse(7, 0)?;
+    let other = purse(3, 1)?;
+    charge(&rt, &mut ledger, &home, 10, 164)?;
+    charge(&rt, &mut ledger, &other, 20, 80)?;
+    charge(&rt, &mut ledger, &home, 30, 65)?;
+    charge(&rt, &mut ledger, &home, 20, 64)?;
+    assert_eq!(rt; ledger.spent(&home), 293);
+    assert_eq!(rt; ledger.spent(&other), 80);
+    assert_eq!(rt; spent_at(&rt, &ledger, &home, 9), 293);
+    assert_eq!(rt; spent_at(&rt, &ledger, &home, 10), 129);
+    assert_eq!(rt; spent_at(&rt, &ledger, &home, 20), 65);
+    assert_eq!(rt; spent_at(&rt, &ledger, &other, 20), 0);
+    advance(&rt, &mut ledger, 20);
+    assert_eq!(rt; ledger.horizon().tick(), 20);
+    assert_eq!(rt; ledger.spent(&home), 65);
+    assert_eq!(rt; ledger.spent(&other), 0);
+    assert_eq!(rt; ledger.spent(&purse(7, 1)?), 0);
+    Ok(())
+}
+
+#[test]
+fn forgiven_charges_count_no_more(rt: HostRuntime) -> Result<(), Fail> {
+    let mut ledger = Ledger::new(rt.alloc());
+    let home = purse(7, 0)?;
+    let other = purse(7, 1)?;
+    charge(&rt, &mut ledger, &other, 5, 64)?;
+    charge(&rt, &mut ledger, &home, 5, 64)?;
+    charge(&rt, &mut ledger, &home, 5, 64)?;
+    assert!(rt; ledger.has_charge(&home, Moment::new(5), 64));
+    assert!(rt; !ledger.has_charge(&home, Moment::new(5), 65));
+    assert!(rt; !ledger.has_charge(&home, Moment::new(6), 64));
+    forgive(&rt, &mut ledger, &home, 5, 64);
+    assert_eq!(rt; ledger.spent(&home), 64);
+    assert_eq!(rt; ledger.spent(&other), 64);
+    forgive(&rt, &mut ledger, &home, 5, 64);
+    assert_eq!(rt; ledger.spent(&home), 0);
+    assert!(rt; !ledger.has_charge(&home, Moment::new(5), 64));
+    charge(&rt, &mut ledger, &home, 6, 128)?;
+    assert_eq!(rt; spent_at(&rt, &ledger, &home, 5), 128);
+    advance(&rt, &mut ledger, 5);
+    assert_eq!(rt; ledger.spent(&home), 128);
+    assert_eq!(rt; ledger.spent(&other), 0);
+    Ok(())
+}
+
+#[test]
+fn a_charge_that_has_ended_changes_nothing(rt: HostRuntime) -> Result<(), Fail> {
+    let mut ledger = Ledger::new(rt.alloc());
+    let home = purse(7, 0)?;
+    advance(&rt, &mut ledger, 8);
+    charge(&rt, &mut ledger, &home, 8, 64)?;
+    assert_eq!(rt; ledger.spent(&home), 0);
+    forgive(&rt, &mut ledger, &home, 8, 64);
+    assert_eq!(rt; ledger.spent(&home), 0);
+    charge(&rt, &mut ledger, &home, 9, 64)?;
+    assert_eq!(rt; ledger.spent(&home), 64);
+    Ok(())
+}
+
+#[test]
+fn a_budget_may_be_met_and_no_more(rt: HostRuntime) -> Result<(), Fail> {
+    let mut ledger = Ledger::new(rt.alloc());
+    let home = purse(7, 0)?;
+    let other = purse(7, 1)?;
+    assert_eq!(rt; DEFAULT_BUDGET, 65536);
+    assert_eq!(rt; ledger.budget(&home), 65536);
+    ledger.set_budget(&home, 129)?;
+    assert_eq!(rt; ledger.budget(&home), 129);
+    assert_eq!(rt; ledger.budget(&other), 65536);
+    assert!(rt; ledger.room(&home, 129));
+    assert!(rt; !ledger.room(&home, 130));
+    assert!(rt; !ledger.room(&home, u32::MAX));
+    charge(&rt, &mut ledger, &home, 4, 65)?;
+    assert!(rt; ledger.room(&home, 64));
+    assert!(rt; !ledger.room(&home, 65));
+    assert!(rt; !room_at(&rt, &ledger, &home, 3, 65));
+    assert!(rt; room_at(&rt, &ledger, &home, 4, 129));
+    ledger.set_budget(&home, 64)?;
+    assert_eq!(rt; ledger.spent(&home), 65);
+    assert!(rt; !ledger.room(&home, 0));
+    Ok(())
+}
+
+#[test]
+fn a_budget_that_has_room_stays_as_it_was(rt: HostRuntime) -> Result<(), Fail> {
+    let mut ledger = Ledger::new(rt.alloc());
+    let home = purse(7, 0)?;
+    let other = purse(7, 1)?;
+    ledger.reserve_budget(&home)?;
+    assert_eq!(rt; ledger.budget(&home), 65536);
+    assert_eq!(rt; ledger.budget(&other), 65536);
+    ledger.set_budget(&home, 200)?;
+    ledger.reserve_budget(&home)?;
+    ledger.reserve_budget(&other)?;
+    assert_eq!(rt; ledger.budget(&home), 200);
+    assert_eq!(rt; ledger.budget(&other), 65536);
+    ledger.set_budget(&other, u32::MAX)?;
+    assert_eq!(rt; ledger.budget(&home), 200);
+    assert_eq!(rt; ledger.budget(&other), 4294967295);
+    Ok(())
+}
+
+#[test]
+fn a_place_is_no_charge(rt: HostRuntime) -> Result<(), Fail> {
+    let mut ledger = Ledger::new(rt.alloc());
+    let home = purse(7, 0)?;
+    ledger.reserve(&home, Moment::new(5), 64)?;
+    assert!(rt; !ledger.has_charge(&home, Moment::new(5), 64));
+    assert_eq!(rt; ledger.spent(&home), 0);
+    assert_eq!(rt; ledger.budget(&home), 65536);
+    charge(&rt, &mut ledger, &home, 6, 65)?;
+    ledger.reserve(&home, Moment::new(6), 65)?;
+    assert_eq!(rt; ledger.spent(&home), 65);
+    assert_eq!(rt; spent_at(&rt, &ledger, &home, 5), 65);
+    advance(&rt, &mut ledger, 5);
+    assert!(rt; ledger.has_charge(&home, Moment::new(6), 65));
+    advance(&rt, &mut ledger, 6);
+    assert_eq!(rt; ledger.spent(&home), 0);
+    Ok(())
+}

@@ -1,0 +1,333 @@
+//! Each public call once, and at its borders.
+
+use s4_types::{
+    Acl, AclEntry, Bytes, Caller, Grant, Moment, Name, NameLine, NameLines, ObjectId, Principal,
+    Purse, PurseNo, Refusal, Reply, Request, Right, Rights, Serial,
+};
+use std::alloc::Global;
+use std::cmp::Ordering;
+use std::test::Fail;
+
+fn bytes(alloc: Global, text: &[u8]) -> Result<Bytes, Fail> {
+    Ok(Bytes::new(Vec::from_slice(alloc, text)?))
+}
+
+fn named(text: &[u8]) -> Result<Name, Fail> {
+    Ok(Name::new(text).ok_or("a name")?)
+}
+
+fn last_object() -> Result<ObjectId, Fail> {
+    Ok(ObjectId {
+        purse: Purse {
+            creator: Principal::administrator(),
+            number: PurseNo::new(15).ok_or("a purse")?,
+        },
+        serial: Serial::new(65535).ok_or("a serial")?,
+    })
+}
+
+fn home_line() -> Result<NameLine, Fail> {
+    Ok(NameLine {
+        name: named(b"home")?,
+        object: last_object()?,
+        grant: Grant::Entry {
+            index: 1,
+            since: Moment::new(5),
+        },
+    })
+}
+
+#[test]
+fn numbers_at_their_borders(rt: HostRuntime) -> Result<(), Fail> {
+    for (number, want) in [
+        (0, Some(0)),
+        (4294967294, Some(4294967294)),
+        (4294967295, None),
+    ] {
+        let principal = Principal::new(number);
+        assert_eq!(rt; principal.map(|p| p.number()), want, "principal {number}");
+    }
+    for (number, want) in [(0, Some(0)), (15, Some(15)), (16, None), (255, None)] {
+        let purse = PurseNo::new(number);
+        assert_eq!(rt; purse.map(|p| p.number()), want, "purse {number}");
+    }
+    for (number, want) in [(0, None), (1, Some(1)), (65535, Some(65535))] {
+        let serial = Serial::new(number);
+        assert_eq!(rt; serial.map(|s| s.number()), want, "serial {number}");
+    }
+    for (number, want) in [(0, Some(0)), (31, Some(31)), (32, None), (255, None)] {
+        let rights = Rights::new(number);
+        assert_eq!(rt; rights.map(|r| r.number()), want, "rights {number}");
+    }
+    Ok(())
+}
+
+#[test]
+fn administrator_is_principal_0(rt: HostRuntime) -> Result<(), Fail> {
+    assert_eq!(rt; Principal::administrator().number(), 0);
+    assert!(rt; Principal::administrator().is_administrator());
+    let other = Principal::new(1).ok_or("a principal")?;
+    assert!(rt; !other.is_administrator());
+    Ok(())
+}
+
+#[test]
+fn moments_are_ordered(rt: HostRuntime) {
+    let early = Moment::new(5);
+    let late = Moment::new(u64::MAX);
+    assert_eq!(rt; early.tick(), 5);
+    assert_eq!(rt; late.tick(), 18446744073709551615);
+    assert!(rt; early < late);
+    assert!(rt; early == Moment::new(5));
+}
+
+#[test]
+fn rights_are_sums(rt: HostRuntime) -> Result<(), Fail> {
+    let all = Rights::all();
+    let some = Rights::new(18).ok_or("rights")?;
+    assert_eq!(rt; all.number(), 31);
+    for (right, number, in_all, in_some) in [
+        (Right::Read, 1, true, false),
+        (Right::Write, 2, true, true),
+        (Right::Delete, 4, true, false),
+        (Right::Control, 8, true, false),
+        (Right::Recover, 16, true, true),
+        (Right::Admin, 32, false, false),
+    ] {
+        assert_eq!(rt; right.number(), number, "number of {right:?}");
+        assert_eq!(rt; all.has(right), in_all, "{right:?} in all");
+        assert_eq!(rt; some.has(right), in_some, "{right:?} in 18");
+    }
+    Ok(())
+}
+
+#[test]
+fn first_acl_has_its_creator(rt: HostRuntime) -> Result<(), Fail> {
+    let who = Principal::new(7).ok_or("a principal")?;
+    let rights = Rights::new(31).ok_or("rights")?;
+    let wanted = [AclEntry { who, rights }];
+    let acl = Acl::of_creator(who);
+    assert_eq!(rt; acl.entries(), wanted.as_slice());
+    let copied = acl.copy();
+    assert_eq!(rt; copied.entries(), wanted.as_slice());
+    assert!(rt; Acl::empty().entries().is_empty());
+    assert!(rt; Rights::none().is_empty());
+    assert!(rt; !rights.is_empty());
+    Ok(())
+}
+
+#[test]
+fn bytes_stay_as_given(rt: HostRuntime) -> Result<(), Fail> {
+    let alloc = rt.alloc();
+    let empty = bytes(alloc, b"")?;
+    assert!(rt; empty.is_empty());
+    assert_eq!(rt; empty.len(), 0);
+    let hello = bytes(alloc, b"hello")?;
+    assert!(rt; !hello.is_empty());
+    assert_eq!(rt; hello.len(), 5);
+    assert_eq!(rt; hello.as_slice(), b"hello".as_slice());
+    assert_eq!(rt; hello.copy()?, hello);
+    assert_ne!(rt; hello, empty);
+    assert_eq!(rt; hello.into_vec().as_slice(), b"hello".as_slice());
+    Ok(())
+}
+
+#[test]
+fn copies_of_requests_are_equal(rt: HostRuntime) -> Result<(), Fail> {
+    let object = last_object()?;
+    let written = Request::Write {
+        object,
+        offset: u32::MAX,
+        bytes: bytes(rt.alloc(), b"hello")?,
+    };
+    let deleted = Request::Delete { object };
+    let bound = Request::PCreate {
+        name: named(b"home")?,
+        object,
+    };
+    assert_eq!(rt; written.copy()?, written);
+    assert_eq!(rt; deleted.copy()?, deleted);
+    assert_eq!(rt; bound.copy()?, bound);
+    let (from, to) = (Moment::new(0), Moment::new(u64::MAX));
+    let flushed = Request::Flush { from, to };
+    let flushed_one = Request::FlushO { object, from, to };
+    assert_eq!(rt; flushed.copy()?, flushed);
+    assert_eq!(rt; flushed_one.copy()?, flushed_one);
+    assert_ne!(rt; flushed, Request::Flush { from, to: from });
+    Ok(())
+}
+
+#[test]
+fn moments_that_requests_name(rt: HostRuntime) -> Result<(), Fail> {
+    let object = last_object()?;
+    for at in [None, Some(Moment::new(0)), Some(Moment::new(u64::MAX))] {
+        let read = Request::Read {
+            object,
+            offset: 0,
+            length: 1,
+            at,
+        };
+        let mounted = Request::PMount {
+            purse: object.purse,
+            name: named(b"home")?,
+            at,
+        };
+        assert_eq!(rt; read.at(), at, "{read:?}");
+        assert_eq!(rt; mounted.at(), at, "{mounted:?}");
+    }
+    let deleted = Request::Delete { object };
+    let windowed = Request::SetWindow { ticks: 5 };
+    let flushed = Request::Flush {
+        from: Moment::new(0),
+        to: Moment::new(5),
+    };
+    assert_eq!(rt; deleted.at(), None);
+    assert_eq!(rt; windowed.at(), None);
+    assert_eq!(rt; flushed.at(), None);
+    Ok(())
+}
+
+#[test]
+fn purses_of_requests(rt: HostRuntime) -> Result<(), Fail> {
+    let object = last_object()?;
+    let number = PurseNo::new(3).ok_or("a purse")?;
+    let who = Principal::new(7).ok_or("a principal")?;
+    let caller = Caller { who, client: 1 };
+    let own = Purse {
+        creator: who,
+        number,
+    };
+    let created = Request::Create { number };
+    let deleted = Request::Delete { object };
+    let unbound = Request::PDelete {
+        purse: own,
+        name: named(b"home")?,
+    };
+    let listed = Request::PList {
+        range: who,
+        after: None,
+        at: None,
+    };
+    let windowed = Request::SetWindow { ticks: 5 };
+    let budgeted = Request::SetBudget {
+        purse: object.purse,
+        budget: u32::MAX,
+    };
+    let (from, to) = (Moment::new(0), Moment::new(5));
+    let flushed = Request::Flush { from, to };
+    let flushed_one = Request::FlushO { object, from, to };
+    for (request, wanted) in [
+        (&created, Some(own)),
+        (&deleted, Some(object.purse)),
+        (&unbound, Some(own)),
+        (&listed, None),
+        (&flushed, None),
+        (&flushed_one, Some(object.purse)),
+        (&windowed, None),
+        (&budgeted, Some(object.purse)),
+    ] {
+        assert_eq!(rt; request.purse(&caller), wanted, "{request:?}");
+    }
+    Ok(())
+}
+
+#[test]
+fn copies_of_replies_are_equal(rt: HostRuntime) -> Result<(), Fail> {
+    let told = Reply::Data {
+        grant: Grant::Admin,
+        bytes: bytes(rt.alloc(), b"hello")?,
+    };
+    let listed = Reply::Names {
+        lines: NameLines::new(vec![in rt.alloc(); home_line()?]?),
+        more: true,
+    };
+    let refused = Reply::Refused(Refusal::Denied(Right::Admin));
+    for (reply, is_refused) in [
+        (&told, false),
+        (&Reply::Done, false),
+        (&listed, false),
+        (&refused, true),
+    ] {
+        assert_eq!(rt; reply.copy()?, *reply);
+        assert_eq!(rt; reply.is_refused(), is_refused, "{reply:?}");
+    }
+    Ok(())
+}
+
+#[test]
+fn names_at_their_borders(rt: HostRuntime) -> Result<(), Fail> {
+    for (text, taken) in [
+        (b"".as_slice(), false),
+        (b"a".as_slice(), true),
+        (b"z".as_slice(), true),
+        (b"0".as_slice(), true),
+        (b"9".as_slice(), true),
+        (b"-".as_slice(), true),
+        (b"abcdefghijklmnopqrstuvwxyz012345".as_slice(), true),
+        (b"abcdefghijklmnopqrstuvwxyz0123456".as_slice(), false),
+        (b"A".as_slice(), false),
+        (b"Z".as_slice(), false),
+        (b"_".as_slice(), false),
+        (b".".as_slice(), false),
+        (b"`".as_slice(), false),
+        (b"{".as_slice(), false),
+        (b"/".as_slice(), false),
+        (b":".as_slice(), false),
+        (b"home.".as_slice(), false),
+    ] {
+        assert_eq!(rt; Name::new(text).is_some(), taken, "name {text:?}");
+    }
+    Ok(())
+}
+
+#[test]
+fn names_stay_as_given(rt: HostRuntime) -> Result<(), Fail> {
+    for text in [
+        b"-".as_slice(),
+        b"home".as_slice(),
+        b"abcdefghijklmnopqrstuvwxyz012345".as_slice(),
+    ] {
+        let name = named(text)?;
+        assert_eq!(rt; name.as_slice(), text);
+        let copied = name.clone()?;
+        assert_eq!(rt; copied, name);
+        assert_eq!(rt; copied.as_slice(), text);
+    }
+    Ok(())
+}
+
+#[test]
+fn names_are_ordered_by_their_bytes(rt: HostRuntime) -> Result<(), Fail> {
+    for (low, high) in [
+        (b"-".as_slice(), b"0".as_slice()),
+        (b"0".as_slice(), b"9".as_slice()),
+        (b"9".as_slice(), b"a".as_slice()),
+        (b"a".as_slice(), b"a-".as_slice()),
+        (b"a-".as_slice(), b"a0".as_slice()),
+        (b"a0".as_slice(), b"ab".as_slice()),
+        (b"ab".as_slice(), b"b".as_slice()),
+    ] {
+        let low = named(low)?;
+        let high = named(high)?;
+        assert!(rt; low < high);
+        assert_eq!(rt; low.cmp(&high), Ordering::Less);
+        assert_eq!(rt; high.cmp(&low), Ordering::Greater);
+        assert_eq!(rt; low.cmp(&low), Ordering::Equal);
+        assert_ne!(rt; low, high);
+    }
+    Ok(())
+}
+
+#[test]
+fn lines_stay_as_given(rt: HostRuntime) -> Result<(), Fail> {
+    let alloc = rt.alloc();
+    let empty = NameLines::new(Vec::new(alloc));
+    assert!(rt; empty.as_slice().is_empty());
+    let lines = NameLines::new(vec![in alloc; home_line()?]?);
+    let copied = lines.clone()?;
+    assert_eq!(rt; copied, lines);
+    assert_ne!(rt; copied, empty);
+    let wanted = [home_line()?];
+    assert_eq!(rt; copied.as_slice(), wanted.as_slice());
+    Ok(())
+}
