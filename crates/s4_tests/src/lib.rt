@@ -9,6 +9,10 @@ mod audit;
 #[cfg(test)]
 mod audit_lines;
 #[cfg(test)]
+mod codec_replies;
+#[cfg(test)]
+mod codec_requests;
+#[cfg(test)]
 mod drive;
 #[cfg(test)]
 mod judge;

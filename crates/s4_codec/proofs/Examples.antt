@@ -1,0 +1,93 @@
+-- Worked examples of spellings, each computed.
+use Rattle.std.proofs.Common.{◌≡◌, ℕ, true, false, Some, None, List, [], ◌∷◌, ◌++◌, refl}
+use Rattle.s4_types.specs.declared.object.ObjectId.{ObjectId}
+use Rattle.s4_types.specs.declared.request.Request.TheVariants.{Create, Read, Write}
+use Rattle.s4_types.specs.declared.reply.Grant.TheVariants as grant
+use Rattle.s4_types.specs.declared.reply.Refusal.TheVariants.{TooLong, NoMemory}
+use Rattle.s4_types.specs.declared.reply.Reply.TheVariants.{Done, Made, Data, Names, Audit, Refused}
+use Rattle.s4_codec.specs.Format.{number_at}
+use Rattle.s4_codec.specs.Frames.{frame_limit, framed, front_of, Whole, Part, BadLength}
+use Rattle.s4_codec.specs.Requests.{request, request_in}
+use Rattle.s4_codec.specs.Replies.{reply, reply_in, has_body}
+
+-- 7.0.1, and its bytes with a byte between creator and purse number
+abbrev object : ObjectId
+object = record { purse = record { creator = 7; number = 0 }; serial = 1 }
+
+abbrev object_with : ℕ → List ℕ
+object_with pad = 0 ∷ 0 ∷ 0 ∷ 7 ∷ pad ∷ 0 ∷ 0 ∷ 1 ∷ []
+
+-- 'hello'
+abbrev hello : List ℕ
+hello = 104 ∷ 101 ∷ 108 ∷ 108 ∷ 111 ∷ []
+
+-- ---- requests
+
+pub a_create_is_framed : framed (request.spell (Create 0)) ≡ 0 ∷ 0 ∷ 0 ∷ 2 ∷ 1 ∷ 0 ∷ []
+a_create_is_framed = refl
+
+pub a_create_is_read : request_in (1 ∷ 0 ∷ []) ≡ Some (Create 0)
+a_create_is_read = refl
+
+pub a_write_is_framed : framed (request.spell (Write object 0 hello)) ≡ 0 ∷ 0 ∷ 0 ∷ 20 ∷ 4 ∷ object_with 0 ++ 0 ∷ 0 ∷ 0 ∷ 0 ∷ 0 ∷ 5 ∷ hello
+a_write_is_framed = refl
+
+-- a Read of five bytes, with the byte that says whether it names a moment
+abbrev read_with : ℕ → ℕ → List ℕ
+read_with pad named = 3 ∷ object_with pad ++ 0 ∷ 0 ∷ 0 ∷ 0 ∷ 0 ∷ 0 ∷ 0 ∷ 5 ∷ named ∷ []
+
+pub a_read_is_read : request_in (read_with 0 0) ≡ Some (Read object 0 5 None)
+unfolding number_at
+a_read_is_read = refl
+
+pub a_pad_of_one_is_no_spelling : request_in (read_with 1 0) ≡ None
+unfolding number_at
+a_pad_of_one_is_no_spelling = refl
+
+pub an_option_of_two_is_no_spelling : request_in (read_with 0 2) ≡ None
+unfolding number_at
+an_option_of_two_is_no_spelling = refl
+
+pub a_byte_left_over_is_no_spelling : request_in (read_with 0 0 ++ 0 ∷ []) ≡ None
+unfolding number_at
+a_byte_left_over_is_no_spelling = refl
+
+-- ---- replies
+
+pub replies_are_framed :
+    framed (reply.spell (Made object)) ++ framed (reply.spell Done) ++ framed (reply.spell (Data (grant.Entry 0 6) hello))
+    ≡ 0 ∷ 0 ∷ 0 ∷ 9 ∷ 1 ∷ object_with 0 ++ 0 ∷ 0 ∷ 0 ∷ 1 ∷ 0 ∷ 0 ∷ 0 ∷ 0 ∷ 18 ∷ 2 ∷ 1 ∷ 0 ∷ 0 ∷ 0 ∷ 0 ∷ 0 ∷ 0 ∷ 0 ∷ 0 ∷ 6 ∷ 0 ∷ 5 ∷ hello
+replies_are_framed = refl
+
+pub refusals_are_spelled : reply.spell (Refused TooLong) ++ reply.spell (Refused NoMemory) ≡ 8 ∷ 7 ∷ 8 ∷ 16 ∷ []
+refusals_are_spelled = refl
+
+pub a_refusal_is_read : reply_in (8 ∷ 7 ∷ []) ≡ Some (Refused TooLong)
+a_refusal_is_read = refl
+
+pub a_page_is_spelled :
+    reply.spell (Names (record { name = 120 ∷ []; object = object; grant = grant.Entry 1 3 } ∷ []) true)
+    ≡ 6 ∷ 1 ∷ 1 ∷ 120 ∷ object_with 0 ++ 1 ∷ 1 ∷ 0 ∷ 0 ∷ 0 ∷ 0 ∷ 0 ∷ 0 ∷ 0 ∷ 3 ∷ 1 ∷ []
+a_page_is_spelled = refl
+
+pub an_audit_is_spelled :
+    reply.spell (Audit (record { moment = 8; who = 7; client = 0; code = 20; is_wide = false; reply = 0 } ∷ []) false)
+    ≡ 7 ∷ 1 ∷ 0 ∷ 0 ∷ 0 ∷ 0 ∷ 0 ∷ 0 ∷ 0 ∷ 8 ∷ 0 ∷ 0 ∷ 0 ∷ 7 ∷ 0 ∷ 0 ∷ 0 ∷ 0 ∷ 20 ∷ 0 ∷ 0 ∷ 0 ∷ []
+an_audit_is_spelled = refl
+
+pub what_is_served_to_an_owner_has_no_body : has_body (Data grant.Owner hello) ≡ false
+what_is_served_to_an_owner_has_no_body = refl
+
+-- ---- frames
+
+pub a_frame_is_taken : front_of frame_limit (0 ∷ 0 ∷ 0 ∷ 2 ∷ 1 ∷ 0 ∷ 9 ∷ []) ≡ Whole (1 ∷ 0 ∷ []) (9 ∷ [])
+a_frame_is_taken = refl
+
+pub a_frame_is_awaited : front_of frame_limit (0 ∷ 0 ∷ 32 ∷ 0 ∷ 1 ∷ []) ≡ Part
+a_frame_is_awaited = refl
+
+pub no_frame_is_empty : front_of frame_limit (0 ∷ 0 ∷ 0 ∷ 0 ∷ []) ≡ BadLength
+no_frame_is_empty = refl
+
+pub no_frame_is_longer : front_of frame_limit (0 ∷ 0 ∷ 32 ∷ 1 ∷ []) ≡ BadLength
+no_frame_is_longer = refl

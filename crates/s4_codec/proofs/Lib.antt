@@ -1,0 +1,9 @@
+pub mod Lawful
+pub mod PartLaws
+pub mod RequestLaws
+pub mod ReplyLaws
+pub mod BodyLaws
+pub mod Lists
+pub mod Added
+pub mod FrameLaws
+pub mod Examples

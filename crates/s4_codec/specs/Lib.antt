@@ -1,0 +1,9 @@
+pub mod Format
+pub mod Parts
+pub mod Requests
+pub mod Replies
+pub mod Frames
+pub mod Fronts
+pub mod Readings
+pub mod Writings
+pub mod Texts

@@ -1,0 +1,26 @@
+//! Requests, replies and frames as bytes (docs/PROTOCOL.md says it in prose).
+#![tactic(auto)]
+
+mod error;
+mod frames;
+mod input;
+mod laws;
+mod read_lines;
+mod read_parts;
+mod read_replies;
+mod read_requests;
+mod write_lines;
+mod write_parts;
+mod write_replies;
+mod write_requests;
+
+pub use error::{ReadError, WriteError};
+pub use frames::{FRAME_LIMIT, Front, read_frame};
+pub use laws::{
+    framed_bodies_are_read_back, no_spelling_begins_another, read_values_are_spelled,
+    spelled_values_are_read_back,
+};
+pub use read_replies::read_reply;
+pub use read_requests::read_request;
+pub use write_replies::write_reply;
+pub use write_requests::write_request;

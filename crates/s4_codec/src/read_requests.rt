@@ -1,0 +1,272 @@
+//! Reading requests.
+
+ghost use Rattle.std.specs.Prelude.{◌≡◌, ◌≢◌, IfOk, IsErrOf};
+ghost use Rattle.s4_types.specs.declared.request.Request.{Request};
+ghost use Rattle.s4_codec.specs.Format.{in_place};
+ghost use Rattle.s4_codec.specs.Requests as format;
+ghost use Rattle.s4_codec.specs.Requests.{bodies, request_in, IsRequestBody};
+ghost use Rattle.s4_codec.specs.Readings.{Gives, Reads, Takes};
+ghost use Rattle.s4_codec.specs.declared.error.ReadError.TheVariants as read_error;
+
+use crate::error::ReadError;
+use crate::frames::FRAME_LIMIT;
+use crate::input::Input;
+use crate::read_parts::{
+    read_byte, read_bytes, read_moment, read_name, read_object, read_optional_after,
+    read_optional_moment, read_principal, read_purse, read_purse_number, read_rights, read_u32,
+    read_u64,
+};
+use s4_types::Request;
+use std::alloc::Global;
+
+/// The request that the body spells (docs/PROTOCOL.md, "Requests").
+pub fn read_request(alloc: Global, body: &[u8]) -> Result<Request, ReadError>
+    // The body is the spelling of what is read.
+    ensures read { IfOk result (λ request. IsRequestBody body.now request) }
+    // What is malformed is the spelling of no request.
+    ensures malformed { IsErrOf result read_error.Malformed → (request : Request) → IsRequestBody body.now request → ⊥ }
+    // What a stream's meaning says of the body.
+    ensures meaning { Gives result (request_in body.now) }
+{
+    read_whole(alloc, body)
+}
+
+fn read_whole(alloc: Global, body: &[u8]) -> Result<Request, ReadError>
+    ensures { Gives result (request_in body.now) }
+{
+    if body.len() > FRAME_LIMIT {
+        return Err(ReadError::Malformed);
+    }
+    let mut input = Input { left: body };
+    let request = read_code_and_fields(alloc, &mut input)?;
+    if !input.left.is_empty() {
+        return Err(ReadError::Malformed);
+    }
+    Ok(request)
+}
+
+fn read_code_and_fields(alloc: Global, input: &mut Input) -> Result<Request, ReadError>
+    ensures { Takes result input.new.left.now (format.request.at input.old.left.now) }
+{
+    let code = read_byte(input).ok_or(ReadError::Malformed)?;
+    read_fields(alloc, code, input)
+}
+
+fn read_fields(alloc: Global, code: u8, input: &mut Input) -> Result<Request, ReadError>
+    ensures { Takes result input.new.left.now ((in_place bodies code).at input.old.left.now) }
+{
+    match code {
+        4 => read_write(alloc, input),
+        5 => read_append(alloc, input),
+        8 => read_set_attr(alloc, input),
+        _ => read_plain_fields(code, input).ok_or(ReadError::Malformed),
+    }
+}
+
+/// The fields of a request that has no bytes among them.
+fn read_plain_fields(code: u8, input: &mut Input) -> Option<Request>
+    requires no_write { code ≢ 4 }
+    requires no_append { code ≢ 5 }
+    requires no_set_attr { code ≢ 8 }
+    ensures { Reads result input.new.left.now ((in_place bodies code).at input.old.left.now) }
+{
+    match code {
+        1 => read_create(input),
+        2 => read_delete(input),
+        3 => read_read(input),
+        6 => read_truncate(input),
+        7 => read_get_attr(input),
+        9 => read_get_acl_by_user(input),
+        10 => read_get_acl_by_index(input),
+        11 => read_set_acl(input),
+        12 => read_pcreate(input),
+        13 => read_pdelete(input),
+        14 => read_plist(input),
+        15 => read_pmount(input),
+        16 => read_flush(input),
+        17 => read_flush_object(input),
+        18 => read_set_window(input),
+        19 => read_set_budget(input),
+        20 => read_read_audit(input),
+        _ => None,
+    }
+}
+
+fn read_create(input: &mut Input) -> Option<Request>
+    ensures { Reads result input.new.left.now (format.create.at input.old.left.now) }
+{
+    let number = read_purse_number(input)?;
+    Some(Request::Create { number })
+}
+
+fn read_delete(input: &mut Input) -> Option<Request>
+    ensures { Reads result input.new.left.now (format.delete.at input.old.left.now) }
+{
+    let object = read_object(input)?;
+    Some(Request::Delete { object })
+}
+
+fn read_read(input: &mut Input) -> Option<Request>
+    ensures { Reads result input.new.left.now (format.read.at input.old.left.now) }
+{
+    let object = read_object(input)?;
+    let offset = read_u32(input)?;
+    let length = read_u32(input)?;
+    let at = read_optional_moment(input)?;
+    Some(Request::Read {
+        object,
+        offset,
+        length,
+        at,
+    })
+}
+
+fn read_write(alloc: Global, input: &mut Input) -> Result<Request, ReadError>
+    ensures { Takes result input.new.left.now (format.write.at input.old.left.now) }
+{
+    let object = read_object(input).ok_or(ReadError::Malformed)?;
+    let offset = read_u32(input).ok_or(ReadError::Malformed)?;
+    let bytes = read_bytes(alloc, input)?;
+    Ok(Request::Write {
+        object,
+        offset,
+        bytes,
+    })
+}
+
+fn read_append(alloc: Global, input: &mut Input) -> Result<Request, ReadError>
+    ensures { Takes result input.new.left.now (format.append.at input.old.left.now) }
+{
+    let object = read_object(input).ok_or(ReadError::Malformed)?;
+    let bytes = read_bytes(alloc, input)?;
+    Ok(Request::Append { object, bytes })
+}
+
+fn read_truncate(input: &mut Input) -> Option<Request>
+    ensures { Reads result input.new.left.now (format.truncate.at input.old.left.now) }
+{
+    let object = read_object(input)?;
+    let length = read_u32(input)?;
+    Some(Request::Truncate { object, length })
+}
+
+fn read_get_attr(input: &mut Input) -> Option<Request>
+    ensures { Reads result input.new.left.now (format.get_attr.at input.old.left.now) }
+{
+    let object = read_object(input)?;
+    let at = read_optional_moment(input)?;
+    Some(Request::GetAttr { object, at })
+}
+
+fn read_set_attr(alloc: Global, input: &mut Input) -> Result<Request, ReadError>
+    ensures { Takes result input.new.left.now (format.set_attr.at input.old.left.now) }
+{
+    let object = read_object(input).ok_or(ReadError::Malformed)?;
+    let bytes = read_bytes(alloc, input)?;
+    Ok(Request::SetAttr { object, bytes })
+}
+
+fn read_get_acl_by_user(input: &mut Input) -> Option<Request>
+    ensures { Reads result input.new.left.now (format.get_acl_by_user.at input.old.left.now) }
+{
+    let object = read_object(input)?;
+    let user = read_principal(input)?;
+    let at = read_optional_moment(input)?;
+    Some(Request::GetAclByUser { object, user, at })
+}
+
+fn read_get_acl_by_index(input: &mut Input) -> Option<Request>
+    ensures { Reads result input.new.left.now (format.get_acl_by_index.at input.old.left.now) }
+{
+    let object = read_object(input)?;
+    let index = read_byte(input)?;
+    let at = read_optional_moment(input)?;
+    Some(Request::GetAclByIndex { object, index, at })
+}
+
+fn read_set_acl(input: &mut Input) -> Option<Request>
+    ensures { Reads result input.new.left.now (format.set_acl.at input.old.left.now) }
+{
+    let object = read_object(input)?;
+    let user = read_principal(input)?;
+    let rights = read_rights(input)?;
+    Some(Request::SetAcl {
+        object,
+        user,
+        rights,
+    })
+}
+
+fn read_pcreate(input: &mut Input) -> Option<Request>
+    ensures { Reads result input.new.left.now (format.pcreate.at input.old.left.now) }
+{
+    let name = read_name(input)?;
+    let object = read_object(input)?;
+    Some(Request::PCreate { name, object })
+}
+
+fn read_pdelete(input: &mut Input) -> Option<Request>
+    ensures { Reads result input.new.left.now (format.pdelete.at input.old.left.now) }
+{
+    let purse = read_purse(input)?;
+    let name = read_name(input)?;
+    Some(Request::PDelete { purse, name })
+}
+
+fn read_plist(input: &mut Input) -> Option<Request>
+    ensures { Reads result input.new.left.now (format.plist.at input.old.left.now) }
+{
+    let range = read_principal(input)?;
+    let after = read_optional_after(input)?;
+    let at = read_optional_moment(input)?;
+    Some(Request::PList { range, after, at })
+}
+
+fn read_pmount(input: &mut Input) -> Option<Request>
+    ensures { Reads result input.new.left.now (format.pmount.at input.old.left.now) }
+{
+    let purse = read_purse(input)?;
+    let name = read_name(input)?;
+    let at = read_optional_moment(input)?;
+    Some(Request::PMount { purse, name, at })
+}
+
+fn read_flush(input: &mut Input) -> Option<Request>
+    ensures { Reads result input.new.left.now (format.flush.at input.old.left.now) }
+{
+    let from = read_moment(input)?;
+    let to = read_moment(input)?;
+    Some(Request::Flush { from, to })
+}
+
+fn read_flush_object(input: &mut Input) -> Option<Request>
+    ensures { Reads result input.new.left.now (format.flush_object.at input.old.left.now) }
+{
+    let object = read_object(input)?;
+    let from = read_moment(input)?;
+    let to = read_moment(input)?;
+    Some(Request::FlushO { object, from, to })
+}
+
+fn read_set_window(input: &mut Input) -> Option<Request>
+    ensures { Reads result input.new.left.now (format.set_window.at input.old.left.now) }
+{
+    let ticks = read_u64(input)?;
+    Some(Request::SetWindow { ticks })
+}
+
+fn read_set_budget(input: &mut Input) -> Option<Request>
+    ensures { Reads result input.new.left.now (format.set_budget.at input.old.left.now) }
+{
+    let purse = read_purse(input)?;
+    let budget = read_u32(input)?;
+    Some(Request::SetBudget { purse, budget })
+}
+
+fn read_read_audit(input: &mut Input) -> Option<Request>
+    ensures { Reads result input.new.left.now (format.read_audit.at input.old.left.now) }
+{
+    let range = read_principal(input)?;
+    let skip = read_u32(input)?;
+    Some(Request::ReadAudit { range, skip })
+}

@@ -1,0 +1,306 @@
+//! Bytes of frames and requests, taken from the format's table and from worked examples.
+
+use s4_codec::{
+    FRAME_LIMIT, Front, ReadError, WriteError, read_frame, read_request, write_request,
+};
+use s4_types::{
+    After, Bytes, Moment, Name, ObjectId, Principal, Purse, PurseNo, Request, Rights, Serial,
+};
+use std::alloc::Global;
+use std::test::Fail;
+
+fn bytes(alloc: Global, text: &[u8]) -> Result<Bytes, Fail> {
+    Ok(Bytes::new(Vec::from_slice(alloc, text)?))
+}
+
+fn named(text: &[u8]) -> Result<Name, Fail> {
+    Ok(Name::new(text).ok_or("a name")?)
+}
+
+fn principal(number: u32) -> Result<Principal, Fail> {
+    Ok(Principal::new(number).ok_or("a principal")?)
+}
+
+fn purse(creator: u32, number: u8) -> Result<Purse, Fail> {
+    Ok(Purse {
+        creator: principal(creator)?,
+        number: PurseNo::new(number).ok_or("a purse")?,
+    })
+}
+
+/// The object 7.0.1.
+fn object() -> Result<ObjectId, Fail> {
+    Ok(ObjectId {
+        purse: purse(7, 0)?,
+        serial: Serial::new(1).ok_or("a serial")?,
+    })
+}
+
+/// That the request is written as this body, and read from it.
+fn is_spelled(alloc: Global, request: &Request, body: &[u8]) -> Result<bool, Fail> {
+    Ok(write_request(alloc, request)?.as_slice() == body && read_request(alloc, body)? == *request)
+}
+
+#[test]
+fn frames_at_their_borders(rt: HostRuntime) {
+    for (taken, wanted) in [
+        (b"".as_slice(), Front::Part),
+        (b"\x00\x00\x00", Front::Part),
+        (b"\x00\x00\x00\x02\x01", Front::Part),
+        (b"\x00\x00\x20\x00", Front::Part),
+        (b"\x00\x00\x00\x00", Front::BadLength),
+        (b"\x00\x00\x20\x01", Front::BadLength),
+        (b"\xff\xff\xff\xff", Front::BadLength),
+    ] {
+        assert_eq!(rt; read_frame(FRAME_LIMIT, taken), wanted, "{taken:?}");
+    }
+    let whole = Front::Whole {
+        body: b"\x01\x00",
+        rest: b"\x00",
+    };
+    assert_eq!(rt;
+        read_frame(FRAME_LIMIT, b"\x00\x00\x00\x02\x01\x00\x00"),
+        whole
+    );
+    assert_eq!(rt; read_frame(2, b"\x00\x00\x00\x02\x01\x00\x00"), whole);
+    assert_eq!(rt;
+        read_frame(1, b"\x00\x00\x00\x02\x01\x00\x00"),
+        Front::BadLength
+    );
+}
+
+#[test]
+fn spellings_of_changes(rt: HostRuntime) -> Result<(), Fail> {
+    let alloc = rt.alloc();
+    let object = object()?;
+    let user = principal(9)?;
+    let (from, to) = (Moment::new(5), Moment::new(6));
+    for (request, body) in [
+        (
+            Request::Create {
+                number: PurseNo::new(0).ok_or("a purse")?,
+            },
+            b"\x01\x00".as_slice(),
+        ),
+        (
+            Request::Delete { object },
+            b"\x02\x00\x00\x00\x07\x00\x00\x00\x01",
+        ),
+        (
+            Request::Write {
+                object,
+                offset: 0,
+                bytes: bytes(alloc, b"hello")?,
+            },
+            b"\x04\x00\x00\x00\x07\x00\x00\x00\x01\x00\x00\x00\x00\x00\x05hello",
+        ),
+        (
+            Request::Append {
+                object,
+                bytes: bytes(alloc, b"")?,
+            },
+            b"\x05\x00\x00\x00\x07\x00\x00\x00\x01\x00\x00",
+        ),
+        (
+            Request::Truncate {
+                object,
+                length: 4096,
+            },
+            b"\x06\x00\x00\x00\x07\x00\x00\x00\x01\x00\x00\x10\x00",
+        ),
+        (
+            Request::SetAttr {
+                object,
+                bytes: bytes(alloc, b"a")?,
+            },
+            b"\x08\x00\x00\x00\x07\x00\x00\x00\x01\x00\x01a",
+        ),
+        (
+            Request::SetAcl {
+                object,
+                user,
+                rights: Rights::all(),
+            },
+            b"\x0b\x00\x00\x00\x07\x00\x00\x00\x01\x00\x00\x00\x09\x1f",
+        ),
+        (
+            Request::PCreate {
+                name: named(b"home")?,
+                object,
+            },
+            b"\x0c\x04home\x00\x00\x00\x07\x00\x00\x00\x01",
+        ),
+        (
+            Request::PDelete {
+                purse: purse(7, 15)?,
+                name: named(b"a-0")?,
+            },
+            b"\x0d\x00\x00\x00\x07\x0f\x03a-0",
+        ),
+        (
+            Request::Flush { from, to },
+            b"\x10\x00\x00\x00\x00\x00\x00\x00\x05\x00\x00\x00\x00\x00\x00\x00\x06",
+        ),
+        (
+            Request::FlushO { object, from, to },
+            b"\x11\x00\x00\x00\x07\x00\x00\x00\x01\
+              \x00\x00\x00\x00\x00\x00\x00\x05\x00\x00\x00\x00\x00\x00\x00\x06",
+        ),
+        (
+            Request::SetWindow { ticks: u64::MAX },
+            b"\x12\xff\xff\xff\xff\xff\xff\xff\xff",
+        ),
+        (
+            Request::SetBudget {
+                purse: purse(4294967294, 1)?,
+                budget: 65536,
+            },
+            b"\x13\xff\xff\xff\xfe\x01\x00\x01\x00\x00",
+        ),
+    ] {
+        assert!(rt; is_spelled(alloc, &request, body)?, "{request:?}");
+    }
+    Ok(())
+}
+
+#[test]
+fn spellings_of_reads(rt: HostRuntime) -> Result<(), Fail> {
+    let alloc = rt.alloc();
+    let object = object()?;
+    let range = principal(9)?;
+    let at = Some(Moment::new(258));
+    for (request, body) in [
+        (
+            Request::Read {
+                object,
+                offset: 0,
+                length: 5,
+                at: None,
+            },
+            b"\x03\x00\x00\x00\x07\x00\x00\x00\x01\x00\x00\x00\x00\x00\x00\x00\x05\x00".as_slice(),
+        ),
+        (
+            Request::GetAttr { object, at },
+            b"\x07\x00\x00\x00\x07\x00\x00\x00\x01\x01\x00\x00\x00\x00\x00\x00\x01\x02",
+        ),
+        (
+            Request::GetAclByUser {
+                object,
+                user: range,
+                at: None,
+            },
+            b"\x09\x00\x00\x00\x07\x00\x00\x00\x01\x00\x00\x00\x09\x00",
+        ),
+        (
+            Request::GetAclByIndex {
+                object,
+                index: 255,
+                at: None,
+            },
+            b"\x0a\x00\x00\x00\x07\x00\x00\x00\x01\xff\x00",
+        ),
+        (
+            Request::PList {
+                range,
+                after: None,
+                at,
+            },
+            b"\x0e\x00\x00\x00\x09\x00\x01\x00\x00\x00\x00\x00\x00\x01\x02",
+        ),
+        (
+            Request::PList {
+                range,
+                after: Some(After {
+                    number: PurseNo::new(1).ok_or("a purse")?,
+                    name: named(b"b1")?,
+                }),
+                at: None,
+            },
+            b"\x0e\x00\x00\x00\x09\x01\x01\x02b1\x00",
+        ),
+        (
+            Request::PMount {
+                purse: purse(7, 0)?,
+                name: named(b"home")?,
+                at: None,
+            },
+            b"\x0f\x00\x00\x00\x07\x00\x04home\x00",
+        ),
+        (
+            Request::ReadAudit { range, skip: 2 },
+            b"\x14\x00\x00\x00\x09\x00\x00\x00\x02",
+        ),
+    ] {
+        assert!(rt; is_spelled(alloc, &request, body)?, "{request:?}");
+    }
+    Ok(())
+}
+
+#[test]
+fn bodies_of_no_request(rt: HostRuntime) {
+    let alloc = rt.alloc();
+    for body in [
+        b"".as_slice(),
+        // No kind has these codes.
+        b"\x00",
+        b"\x15\x00",
+        // No such purse number, a byte left over, and one too few.
+        b"\x01\x10",
+        b"\x01\x00\x00",
+        b"\x01",
+        // A byte between creator and purse number that isn't 0, no principal, no serial.
+        b"\x02\x00\x00\x00\x07\x01\x00\x00\x01",
+        b"\x02\xff\xff\xff\xff\x00\x00\x00\x01",
+        b"\x02\x00\x00\x00\x07\x00\x00\x00\x00",
+        // Neither no moment nor one, and a moment that isn't whole.
+        b"\x07\x00\x00\x00\x07\x00\x00\x00\x01\x02",
+        b"\x07\x00\x00\x00\x07\x00\x00\x00\x01\x01\x00\x00\x00\x00\x00\x00\x01",
+        // Fewer bytes than their number says, and more rights than there are.
+        b"\x05\x00\x00\x00\x07\x00\x00\x00\x01\x00\x02a",
+        b"\x0b\x00\x00\x00\x07\x00\x00\x00\x01\x00\x00\x00\x09\x20",
+        // No names.
+        b"\x0d\x00\x00\x00\x07\x00\x00",
+        b"\x0d\x00\x00\x00\x07\x00\x01A",
+        b"\x0d\x00\x00\x00\x07\x00\x21abcdefghijklmnopqrstuvwxyz0123456",
+    ] {
+        let read = read_request(alloc, body);
+        assert!(rt; read == Err(ReadError::Malformed), "{body:?}");
+    }
+}
+
+#[test]
+fn largest_request(rt: HostRuntime) -> Result<(), Fail> {
+    let alloc = rt.alloc();
+    for (length, fits) in [(8177, true), (8178, false), (65536, false)] {
+        let request = Request::Write {
+            object: object()?,
+            offset: 0,
+            bytes: Bytes::new(vec![in alloc; 97; length]?),
+        };
+        let written = write_request(alloc, &request);
+        if fits {
+            let body = written?;
+            assert_eq!(rt; body.len(), FRAME_LIMIT);
+            assert_eq!(rt; read_request(alloc, &body)?, request);
+        } else {
+            assert!(rt; written == Err(WriteError::TooBig), "{length}");
+        }
+    }
+    Ok(())
+}
+
+#[test]
+fn texts_of_errors(rt: HostRuntime) -> Result<(), Fail> {
+    let alloc = rt.alloc();
+    assert_eq!(rt;
+        ReadError::Malformed.to_string(alloc)?.as_str(),
+        "malformed"
+    );
+    assert_eq!(rt; ReadError::NoMemory.to_string(alloc)?.as_str(), "no memory");
+    assert_eq!(rt; WriteError::TooBig.to_string(alloc)?.as_str(), "too big");
+    assert_eq!(rt;
+        WriteError::NoMemory.to_string(alloc)?.as_str(),
+        "no memory"
+    );
+    Ok(())
+}
