@@ -3,6 +3,7 @@
 ghost use Rattle.std.specs.Prelude.{◌≡◌, ◌≤◌};
 ghost use Rattle.s4_types.specs.Answer.{entry_read_by_user, entry_read_by_index, acl_set};
 ghost use Rattle.s4_types.specs.Play.{last_of};
+ghost use Rattle.s4_drive.specs.Step.{IsTold};
 
 use s4_acl::{by_index, entry_of, set};
 use s4_state::State;
@@ -19,6 +20,7 @@ pub fn by_user_outcome<S: Store<Version>>(
     at: &Option<Moment>,
 ) -> Result<Reply, Refusal>
     requires later { last_of state.now.history ≤ moment }
+    requires told { IsTold state.now at.now }
     ensures { result ≡ entry_read_by_user state.now.history moment caller object.now user at.now }
 {
     let grant = state.judge(caller, object, Right::Read, *at)?;
@@ -43,6 +45,7 @@ pub fn by_index_outcome<S: Store<Version>>(
     at: &Option<Moment>,
 ) -> Result<Reply, Refusal>
     requires later { last_of state.now.history ≤ moment }
+    requires told { IsTold state.now at.now }
     ensures { result ≡ entry_read_by_index state.now.history moment caller object.now index at.now }
 {
     let grant = state.judge(caller, object, Right::Read, *at)?;

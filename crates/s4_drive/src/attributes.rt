@@ -3,7 +3,7 @@
 ghost use Rattle.std.specs.Prelude.{◌≡◌, ◌≤◌};
 ghost use Rattle.s4_types.specs.Answer.{attributes_read, attributes_set};
 ghost use Rattle.s4_types.specs.Play.{last_of};
-ghost use Rattle.s4_drive.specs.Step.{IsOutcome};
+ghost use Rattle.s4_drive.specs.Step.{IsOutcome, IsTold};
 
 use crate::read::copied;
 use s4_state::State;
@@ -21,6 +21,7 @@ pub fn get_outcome<S: Store<Version>>(
     at: &Option<Moment>,
 ) -> Result<Reply, Refusal>
     requires later { last_of state.now.history ≤ moment }
+    requires told { IsTold state.now at.now }
     ensures { IsOutcome result (attributes_read state.now.history moment caller object.now at.now) }
 {
     let grant = state.judge(caller, object, Right::Read, *at)?;

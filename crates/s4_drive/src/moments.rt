@@ -1,8 +1,9 @@
 //! Which moments a run and a request may name.
 
-ghost use Rattle.std.specs.Prelude.{◌≡◌, ◌↔◌, IsTrue};
+ghost use Rattle.std.specs.Prelude.{◌≡◌, ◌↔◌, IsTrue, OnOk};
 ghost use Rattle.s4_types.specs.Answer.{timely as timely_at};
 ghost use Rattle.s4_types.specs.Play.{NeverDown};
+ghost use Rattle.s4_tracks.specs.Swept.{IsFrom};
 
 use s4_types::{Moment, Refusal, Step};
 
@@ -27,7 +28,8 @@ pub fn never_down(from: Moment, steps: &[Step]) -> bool
 
 /// Refuses a moment that is to come, and one below the horizon.
 pub fn timely(horizon: Moment, moment: Moment, at: Option<Moment>) -> Result<(), Refusal>
-    ensures { result ≡ timely_at horizon moment at }
+    ensures value { result ≡ timely_at horizon moment at }
+    ensures told { OnOk result (IsFrom horizon at) }
 {
     match at {
         Some(at) if at > moment => Err(Refusal::Future),

@@ -5,7 +5,7 @@ ghost use Rattle.s4_types.specs.Answer.{name_bound, name_unbound, names_listed, 
 ghost use Rattle.s4_types.specs.Judgement.{denied_absent};
 ghost use Rattle.s4_types.specs.declared.reply.Refusal.TheVariants as refusal;
 ghost use Rattle.s4_types.specs.Play.{last_of};
-ghost use Rattle.s4_drive.specs.Step.{IsOutcome};
+ghost use Rattle.s4_drive.specs.Step.{IsOutcome, IsTold};
 
 use s4_state::State;
 use s4_store::Store;
@@ -62,6 +62,7 @@ pub fn list_outcome<S: Store<Version>>(
     at: &Option<Moment>,
 ) -> Result<Reply, Refusal>
     requires later { last_of state.now.history ≤ moment }
+    requires told { IsTold state.now at.now }
     ensures { IsOutcome result (names_listed state.now.history moment caller range after.now at.now) }
 {
     match state.page(moment, caller, range, after, at) {
@@ -83,6 +84,7 @@ pub fn mount_outcome<S: Store<Version>>(
     at: &Option<Moment>,
 ) -> Result<Reply, Refusal>
     requires later { last_of state.now.history ≤ moment }
+    requires told { IsTold state.now at.now }
     ensures { result ≡ name_mounted state.now.history moment caller purse.now name.now at.now }
 {
     let Some(object) = state.bound(purse, name, *at) else {

@@ -4,9 +4,10 @@ ghost use Rattle.std.specs.Prelude.{◌≡◌, ◌≤◌, IfOk};
 ghost use Rattle.s4_types.specs.Answer.{answer as answer_of, outcome as outcome_of, outcome_by_kind as outcome_by_kind_of};
 ghost use Rattle.s4_types.specs.Base.{opened};
 ghost use Rattle.s4_types.specs.Horizon.{horizon_at};
+ghost use Rattle.s4_types.specs.Kinds.{at_of};
 ghost use Rattle.s4_types.specs.Play.{last_of};
 ghost use Rattle.s4_drive.specs.Stands.{LimitsStand};
-ghost use Rattle.s4_drive.specs.Step.{IsOutcome};
+ghost use Rattle.s4_drive.specs.Step.{IsOutcome, IsTold};
 
 use crate::limits::{Limits, afford};
 use crate::moments::timely;
@@ -75,6 +76,7 @@ fn outcome_by_kind<S: Store<Version>>(
 ) -> Result<Reply, Refusal>
     requires horizon { horizon ≡ horizon_at (opened state.now.window) state.now.history moment }
     requires later { last_of state.now.history ≤ moment }
+    requires told { IsTold state.now (at_of request.now) }
     ensures { IsOutcome result (outcome_by_kind_of (opened state.now.window) state.now.history moment caller request.now) }
 {
     match request {

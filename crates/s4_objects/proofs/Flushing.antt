@@ -12,7 +12,8 @@ use Rattle.s4_types.specs.Names.{same_purse, same_object, object_in}
 use Rattle.s4_types.specs.Spending.{sum_to}
 use Rattle.s4_types.proofs.Booleans.{by_test, both, not_both, &&-false}
 use Rattle.s4_types.proofs.SameNames.{object_is, object_self, purse_is}
-use Rattle.s4_store.specs.Chains.{Chains, items_of, StillOpen}
+use Rattle.s4_store.specs.Counts.{item_count-more}
+use Rattle.s4_store.specs.Chains.{Chains, items_of, StillOpen, item_count}
 use Rattle.s4_store.specs.Laws.{items_here, items_elsewhere, insert_twice, StillOpen-insert}
 use Rattle.s4_tracks.specs.declared.eraser.Eraser.{Eraser}
 use Rattle.s4_tracks.specs.Chain.{is_within, erased, flushed_one, flushed, is_erasable, told, first_told, with_first_erased}
@@ -76,6 +77,13 @@ module _ (m0 m new : Chains Version) (t from to : ℕ) (e : Eraser) (chain : e.c
 
 -- AN OBJECT
 
+-- an erased value is held still
+pub used_still : (m new : Chains Version) (t from to : ℕ) → new ≡ finmap.insert m t (flushed from to (items_of m t)) → item_count new ≡ item_count m
+used_still m new t from to changed =
+    let same : length (flushed from to (items_of m t)) ≡ length (items_of m t) = length-map (items_of m t) (flushed_one from to) in
+    let all : item_count (finmap.insert m t (flushed from to (items_of m t))) ≡ item_count m + 0 = item_count-more m t 0 (flushed from to (items_of m t)) (omega arith) in
+    ap item_count changed ∙ omega arith
+
 -- one track after the other
 module _ (m a b : Chains Version) (d t from to : ℕ) (apart : (t == d) ≡ false) (first : a ≡ finmap.insert m d (flushed from to (items_of m d))) where
   pub second_before : items_of a t ≡ items_of m t
@@ -125,6 +133,7 @@ module _ {found : ObjectId → Option Kept} (from to : ℕ) where
     tracks = λ o w. refl;
     others = λ c foreign. refl;
     still = λ c opened. opened;
+    used = refl;
     weights = λ weight p n high. omega arith;
   }
 
@@ -134,6 +143,7 @@ module _ {found : ObjectId → Option Kept} (from to : ℕ) where
     tracks = λ o w. f.tracks o w ∙ of o w (found o) refl;
     others = f.others;
     still = f.still;
+    used = f.used;
     weights = f.weights;
   }
     where
@@ -151,6 +161,7 @@ module _ {found : ObjectId → Option Kept} (from to : ℕ) where
     tracks = λ o w. h.tracks o w ∙ join (asked o) (more o) w (held m (found o) w) (held a (found o) w) (f.tracks o w);
     others = λ c foreign. h.others c foreign ∙ f.others c foreign;
     still = λ c opened. h.still c (f.still c opened);
+    used = h.used ∙ f.used;
     weights = λ weight p n high.
         let first : sum_to n (λ s. past_weight weight a (found (object_in p s))) + refunded weight p rs ≡ sum_to n (λ s. past_weight weight m (found (object_in p s))) = f.weights weight p n high in
         let second : sum_to n (λ s. past_weight weight b (found (object_in p s))) + refunded weight p qs ≡ sum_to n (λ s. past_weight weight a (found (object_in p s))) = h.weights weight p n high in
@@ -169,7 +180,7 @@ module _ {found : ObjectId → Option Kept} (from to : ℕ) where
       (data' : items_of new k.data.chain ≡ flushed from to (items_of m k.data.chain))
       (attributes : items_of new k.attributes.chain ≡ flushed from to (items_of m k.attributes.chain))
       (others : (d : ℕ) → (d == k.data.chain) ≡ false → (d == k.attributes.chain) ≡ false → items_of new d ≡ items_of m d)
-      (still : StillOpen m new) where
+      (still : StillOpen m new) (used : item_count new ≡ item_count m) where
     -- chains of other tracks are other chains
     chain-apart : (q : ObjectId) (l : Kept) (w u : Which) → found q ≡ Some l → ((o ≡ q) × (w ≡ u) → ⊥) → (chain_of u l == chain_of w k) ≡ false
     chain-apart q l w u got other = by_test (chain_of u l == chain_of w k) (λ e. absurd (other (c.apart o q k l w u kept got (sym (eqb-true (chain_of u l) (chain_of w k) e))))) (λ e. e)
@@ -254,6 +265,7 @@ module _ {found : ObjectId → Option Kept} (from to : ℕ) where
       tracks = one-tracks;
       others = λ d foreign. others d (foreign o k which.Data kept) (foreign o k which.Attributes kept);
       still = still;
+      used = used;
       weights = one-weights;
     }
 

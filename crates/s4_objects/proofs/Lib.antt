@@ -2,3 +2,8 @@ pub mod Counting
 pub mod Weighing
 pub mod Flushing
 pub mod Mapping
+pub mod Opening
+pub mod Standing
+pub mod Queueing
+pub mod Holding
+pub mod Using

@@ -5,7 +5,7 @@ use Rattle.s4_types.specs.declared.object.ObjectId.{ObjectId}
 use Rattle.s4_types.specs.declared.version.Version.{Version}
 use Rattle.s4_types.specs.Names.{same_purse, object_in}
 use Rattle.s4_types.specs.Spending.{sum_to}
-use Rattle.s4_store.specs.Chains.{Chains, items_of, StillOpen}
+use Rattle.s4_store.specs.Chains.{Chains, items_of, item_count, StillOpen}
 use Rattle.s4_tracks.specs.Chain.{flushed, is_erasable, told}
 use Rattle.s4_objects.specs.declared.kept.Which.{Which}
 use Rattle.s4_objects.specs.declared.kept.Which.TheVariants as which
@@ -75,6 +75,8 @@ pub record Flushes (before after : Chains Version) (found : ObjectId → Option 
   -- a chain that is none of an object's
   pub others : (c : ℕ) → ((o : ObjectId) (k : Kept) (w : Which) → found o ≡ Some k → (c == chain_of w k) ≡ false) → items_of after c ≡ items_of before c
   pub still : StillOpen before after
+  -- an erased value is held still
+  pub used : item_count after ≡ item_count before
   -- what a purse's past weighs less is what is refunded
   pub weights : (weight : ℕ → ℕ → ℕ) (p : Purse) (n : ℕ) → ((o : ObjectId) → is_some (found o) ≡ true → o.purse ≡ p → o.serial ≤ n)
       → sum_to n (λ s. past_weight weight after (found (object_in p s))) + refunded weight p refunds ≡ sum_to n (λ s. past_weight weight before (found (object_in p s)))

@@ -4,7 +4,7 @@ ghost use Rattle.std.specs.Prelude.{◌≡◌, ◌+◌, ◌≤◌, ◌==◌, ℕ
 ghost use Rattle.std.specs.BTreeMap.{get};
 ghost use Rattle.std.specs.FinMap as finmap;
 ghost use Rattle.s4_types.specs.Names.{same_object};
-ghost use Rattle.s4_store.specs.Chains.{items_of, IsOpen, StillOpen};
+ghost use Rattle.s4_store.specs.Chains.{items_of, item_count, IsOpen, StillOpen};
 ghost use Rattle.s4_tracks.specs.Chain.{flushed, is_erasable as can_be_erased};
 ghost use Rattle.s4_objects.specs.Keys.{object_cmp};
 ghost use Rattle.s4_objects.specs.Chains.{Chained};
@@ -156,6 +156,7 @@ fn flush_kept<S: Store<Version>>(
     ensures attributes { items_of (S.chains store.new) kept.now.attributes.chain ≡ flushed from to (items_of (S.chains store.old) kept.now.attributes.chain) }
     ensures others { (c : ℕ) → (c == kept.now.data.chain) ≡ false → (c == kept.now.attributes.chain) ≡ false → items_of (S.chains store.new) c ≡ items_of (S.chains store.old) c }
     ensures still { StillOpen (S.chains store.old) (S.chains store.new) }
+    ensures used { item_count (S.chains store.new) ≡ item_count (S.chains store.old) }
     ensures refunds { refunds.new.items ≡ refunds.old.items ++ (refunds_of purse.now from to (items_of (S.chains store.old) kept.now.data.chain) ++ refunds_of purse.now from to (items_of (S.chains store.old) kept.now.attributes.chain)) }
     ensures capacity { vec_capacity refunds.new ≡ vec_capacity refunds.old }
     ensures room { S.room store.new ≡ S.room store.old }

@@ -1,8 +1,13 @@
-//! Objects: the tracks of each, on chains of a store.
+//! Objects: what is held of their tracks, on chains of a store.
 #![tactic(auto)]
 
+mod begin;
+mod ends;
 mod flushes;
+mod free;
 mod kept;
+mod objects;
 
-pub use flushes::{Refund, flush, flush_object};
-pub use kept::{Kept, Which};
+pub use flushes::Refund;
+pub use kept::Which;
+pub use objects::Objects;

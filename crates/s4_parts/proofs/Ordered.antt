@@ -20,13 +20,13 @@ use Rattle.s4_types.proofs.SameNames.{name_is, name_self, at_name}
 less-other : (a b : List ℕ) → name_cmp a b ≡ Less → same_name a b ≡ false
 less-other a b e = sym (at_name a b) ∙ ap is_eq e
 
-greater-other : (a b : List ℕ) → name_cmp a b ≡ Greater → same_name a b ≡ false
+pub greater-other : (a b : List ℕ) → name_cmp a b ≡ Greater → same_name a b ≡ false
 greater-other a b e = sym (at_name a b) ∙ ap is_eq e
 
-equal-same : (a b : List ℕ) → name_cmp a b ≡ Equal → a ≡ b
+pub equal-same : (a b : List ℕ) → name_cmp a b ≡ Equal → a ≡ b
 equal-same a b e = name_is a b (sym (at_name a b) ∙ ap is_eq e)
 
-by_order : {A : Type 0} (o : Ordering) → (o ≡ Less → A) → (o ≡ Equal → A) → (o ≡ Greater → A) → A
+pub by_order : {A : Type 0} (o : Ordering) → (o ≡ Less → A) → (o ≡ Equal → A) → (o ≡ Greater → A) → A
 by_order Less l e g = l refl
 by_order Equal l e g = e refl
 by_order Greater l e g = g refl
@@ -41,10 +41,10 @@ count-cons p x xs = sum_by-cons (λ y. tally (p y)) x xs
 -- ALL NAMES BEHIND ONE
 
 -- the name is below all of these
-abbrev IsBelow : List ℕ → List (List ℕ) → Type 0
+abbrev pub IsBelow : List ℕ → List (List ℕ) → Type 0
 IsBelow name ks = AllByRecursion (λ k. name_cmp name k ≡ Less) ks
 
-below-through : (a b : List ℕ) (ks : List (List ℕ)) → name_cmp a b ≡ Less → IsBelow b ks → IsBelow a ks
+pub below-through : (a b : List ℕ) (ks : List (List ℕ)) → name_cmp a b ≡ Less → IsBelow b ks → IsBelow a ks
 below-through a b [] e l = _
 below-through a b (k ∷ ks) e l = (nat_list_cmp_total.trans a b k e l.0, below-through a b ks e l.1)
 
@@ -52,14 +52,14 @@ none-below : (a : List ℕ) (ks : List (List ℕ)) → IsBelow a ks → list_any
 none-below a [] l = refl
 none-below a (k ∷ ks) l = ap (λ b. b || list_any (same_name a) ks) (less-other a k l.0) ∙ none-below a ks l.1
 
-filter-below : (a : List ℕ) (p : List ℕ → Bool) (ks : List (List ℕ)) → IsBelow a ks → IsBelow a (filter p ks)
+pub filter-below : (a : List ℕ) (p : List ℕ → Bool) (ks : List (List ℕ)) → IsBelow a ks → IsBelow a (filter p ks)
 filter-below a p [] l = _
 filter-below a p (k ∷ ks) l = by_test (p k)
     (λ e. subst (λ b. IsBelow a (cond b (k ∷ filter p ks) (filter p ks))) (sym e) (l.0, filter-below a p ks l.1))
     (λ e. subst (λ b. IsBelow a (cond b (k ∷ filter p ks) (filter p ks))) (sym e) (filter-below a p ks l.1))
 
 -- a test that is told apart at the name alone says the same of all others
-filter-others : (a : List ℕ) (p q : List ℕ → Bool) (ks : List (List ℕ)) → ((n : List ℕ) → same_name a n ≡ false → p n ≡ q n) → IsBelow a ks → filter p ks ≡ filter q ks
+pub filter-others : (a : List ℕ) (p q : List ℕ → Bool) (ks : List (List ℕ)) → ((n : List ℕ) → same_name a n ≡ false → p n ≡ q n) → IsBelow a ks → filter p ks ≡ filter q ks
 filter-others a p q [] same l = refl
 filter-others a p q (k ∷ ks) same l =
     ap (λ b. cond b (k ∷ filter p ks) (filter p ks)) (same k (less-other a k l.0)) ∙ ap (λ xs. cond (q k) (k ∷ xs) xs) (filter-others a p q ks same l.1)
@@ -69,13 +69,13 @@ count-others a p q [] same l = refl
 count-others a p q (k ∷ ks) same l =
     count-cons p k ks ∙ ap (λ b. tally b + count_by p ks) (same k (less-other a k l.0)) ∙ ap (λ n. tally (q k) + n) (count-others a p q ks same l.1) ∙ sym (count-cons q k ks)
 
-in-front : (a : List ℕ) (ks : List (List ℕ)) → IsBelow a ks → with_name a ks ≡ a ∷ ks
+pub in-front : (a : List ℕ) (ks : List (List ℕ)) → IsBelow a ks → with_name a ks ≡ a ∷ ks
 in-front a [] l = refl
 in-front a (k ∷ ks) l = ap (λ o. in_order o (a ∷ k ∷ ks) (k ∷ ks) (k ∷ with_name a ks)) l.0
 
 -- ONE NAME AMONG ITS LIKES
 
-tail-sorted : (k : List ℕ) (ks : List (List ℕ)) → IsStrictlySortedBy name_cmp (k ∷ ks) → IsBelow k ks × IsStrictlySortedBy name_cmp ks
+pub tail-sorted : (k : List ℕ) (ks : List (List ℕ)) → IsStrictlySortedBy name_cmp (k ∷ ks) → IsBelow k ks × IsStrictlySortedBy name_cmp ks
 unfolding IsStrictlySortedBy
 tail-sorted k ks s = s
 

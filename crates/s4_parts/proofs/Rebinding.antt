@@ -1,5 +1,5 @@
 -- What a name has was changed, on its chain and on its shelf.
-use Rattle.std.proofs.Common.{◌≡◌, ℕ, ◌+◌, Bool, true, cond, Option, Some, None, List, [], ◌∷◌, ◌++◌, refl, sym, ◌∙◌, ap, subst, arith, filter, ◌⊎◌, inl, inr}
+use Rattle.std.proofs.Common.{◌≡◌, ℕ, suc, ◌+◌, Bool, true, cond, Option, Some, None, List, [], ◌∷◌, ◌++◌, refl, sym, ◌∙◌, ap, subst, arith, length, filter, ◌⊎◌, inl, inr}
 use Rattle.std.specs.Prelude.{◌&&◌, ◌==◌, is_some, count_by, slice_get, if◌then◌else◌}
 use Rattle.std.specs.List.{list_any, remove}
 use Rattle.std.specs.Ordering.{is_eq}
@@ -16,7 +16,8 @@ use Rattle.s4_types.specs.Bindings.{with_name}
 use Rattle.s4_types.proofs.Booleans.{by_test, both}
 use Rattle.s4_types.proofs.SameNames.{purse_is, name_is}
 use Rattle.s4_types.proofs.Snoc.{newest-snoc}
-use Rattle.s4_store.specs.Chains.{Chains, items_of}
+use Rattle.s4_store.specs.Chains.{Chains, items_of, item_count}
+use Rattle.s4_store.specs.Counts.{item_count-more}
 use Rattle.s4_store.specs.Laws.{items_elsewhere, StillOpen-insert}
 use Rattle.s4_tracks.specs.Chain.{endless, current_of, with_end, ended, end_at}
 use Rattle.s4_tracks.proofs.Ending.{with_end-snoc}
@@ -153,3 +154,15 @@ unbound-counted test items m serial serials serials' i now got is =
     let before : tally (passes test (serial_now items)) ≡ tally (test serial) = ap (λ x. tally (passes test x)) now in
     let ended' : tally (passes test (serial_now (with_end m items))) ≡ 0 = ap (λ v. tally (passes test (option_map (λ x. x.serial) (object_of v)))) (current-ended m items) in
     omega arith
+
+length-with_end : (m : ℕ) (vs : List Version) → length (with_end m vs) ≡ length vs
+length-with_end m [] = refl
+length-with_end m (v ∷ []) = refl
+length-with_end m (v ∷ w ∷ vs) = ap suc (length-with_end m (w ∷ vs))
+
+-- a binding that ends is held still
+pub unbound-used : (m : Chains Version) (c t : ℕ) {new : Chains Version} → new ≡ finmap.insert m c (with_end t (items_of m c)) → item_count new ≡ item_count m
+unbound-used m c t changed =
+    let same : length (with_end t (items_of m c)) ≡ length (items_of m c) = length-with_end t (items_of m c) in
+    let all : item_count (finmap.insert m c (with_end t (items_of m c))) ≡ item_count m + 0 = item_count-more m c 0 (with_end t (items_of m c)) (omega arith) in
+    ap item_count changed ∙ omega arith

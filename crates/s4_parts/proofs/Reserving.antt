@@ -1,16 +1,17 @@
 -- A name was given a chain, where it had none, and its shelf has room.
-use Rattle.std.proofs.Common.{◌≡◌, ℕ, ◌<◌, true, cond, Some, List, refl, sym, ◌∙◌, ap, filter, vec_len, vec_capacity}
+use Rattle.std.proofs.Common.{◌≡◌, ℕ, ◌<◌, true, cond, Option, Some, None, List, refl, sym, ◌∙◌, ap, filter, vec_len, vec_capacity}
 use Rattle.std.specs.Prelude.{is_some}
 use Rattle.std.specs.Ordering.{is_eq}
 use Rattle.s4_types.specs.declared.object.Purse.{Purse}
 use Rattle.s4_types.specs.declared.version.Version.{Version}
 use Rattle.s4_types.specs.Names.{purse_cmp}
 use Rattle.s4_types.proofs.SameNames.{purse_self}
-use Rattle.s4_store.specs.Chains.{Chains, items_of, IsOpen, StillOpen}
+use Rattle.s4_store.specs.Chains.{Chains, items_of, item_count, IsOpen, StillOpen}
+use Rattle.s4_store.specs.Counts.{item_count-open}
 use Rattle.s4_parts.specs.declared.parts.Parts.{Parts}
 use Rattle.s4_parts.specs.declared.shelf.Shelf.{Shelf}
 use Rattle.s4_parts.specs.Table.{shelf_of, chain_at, chain_on, names_on, serials_on, items_on, bindings_in, names_in, is_any, Holds, HasRoom}
-use Rattle.s4_parts.specs.Shelf.{Grows}
+use Rattle.s4_parts.specs.Shelf.{Grows, with_chain}
 use Rattle.s4_parts.proofs.Shelving.{shelf-here, named-on, grown-chains, grown-names, grown-sorted, grown-serials}
 use Rattle.s4_parts.proofs.Standing.{items-kept, still-open, bindings-kept, own-old, names-kept, holds-opened}
 use Rattle.s4_parts.proofs.Rebinding.{moved}
@@ -48,3 +49,11 @@ module _ (chains new : Chains Version) (before mid after : Parts) (s : Holds cha
   reserved-room ends there room =
       let here : shelf_of after purse ≡ Some w = shelf-here mid after purse shelf w found replaced purse (purse_self purse) in
       record { chain = ap (λ x. is_some (chain_on x name)) here ∙ there; shelf = w; found = here; serials = room; ends = ends }
+
+-- the store holds as many items as before
+pub reserved-used : {old new : Chains Version} {before after : Shelf} {name : List ℕ} → Grows old new before after name → item_count new ≡ item_count old
+reserved-used {old} g = ap item_count g.opened ∙ of g.fresh refl
+  where
+    of : (fresh : Option ℕ) → g.fresh ≡ fresh → item_count (with_chain old fresh) ≡ item_count old
+    of None e = refl
+    of (Some c) e = item_count-open old c (g.unopened c e)

@@ -64,6 +64,7 @@ impl Parts {
         ensures others { (c : ℕ) → IsOpen (S.chains store.old) c → items_of (S.chains store.new) c ≡ items_of (S.chains store.old) c }
         ensures still { StillOpen (S.chains store.old) (S.chains store.new) }
         ensures own { (p : Purse) (n : List ℕ) (c : ℕ) → chain_at self.new p n ≡ Some c → IsOpen (S.chains store.old) c → chain_at self.old p n ≡ Some c }
+        ensures used { item_count (S.chains store.new) ≡ item_count (S.chains store.old) }
         ensures store_room { S.room store.new ≡ S.room store.old }
     {
         self.ends.make_room()?;
@@ -111,6 +112,7 @@ impl Parts {
             ≡ (if same_purse object.now.purse p && same_name name.now n then bindings_in (S.chains store.old) self.old p n ++ binding moment name.now object.now ∷ [] else bindings_in (S.chains store.old) self.old p n) }
         ensures others { KeepsOthers (S.chains store.old) (S.chains store.new) self.old }
         ensures own { (p : Purse) (n : List ℕ) → chain_at self.new p n ≡ chain_at self.old p n }
+        ensures used { item_count (S.chains store.new) ≡ item_count (S.chains store.old) + 1 }
         ensures store_room { S.room store.new + 1 ≡ S.room store.old }
     {
         self.ends.await_one();
@@ -147,6 +149,7 @@ impl Parts {
             ≡ (if same_purse purse.now p && same_name name.now n then with_end moment (bindings_in (S.chains store.old) self.old p n) else bindings_in (S.chains store.old) self.old p n) }
         ensures others { KeepsOthers (S.chains store.old) (S.chains store.new) self.old }
         ensures own { (p : Purse) (n : List ℕ) → chain_at self.new p n ≡ chain_at self.old p n }
+        ensures used { item_count (S.chains store.new) ≡ item_count (S.chains store.old) }
         ensures store_room { S.room store.new ≡ S.room store.old }
     {
         let shelf = self.shelves.get_mut(purse).unwrap();

@@ -112,6 +112,10 @@ reply_text (reply.Names lines more) = names_text lines more
 reply_text (reply.Audit lines more) = audit_text lines more
 reply_text (reply.Refused why) = refusal_text why
 
+-- how many values and bindings a drive holds
+abbrev pub used_text : ℕ → List ℕ
+used_text count = codes "used " ++ decimal count
+
 -- why a line isn't taken
 abbrev pub parse_error_text : ParseError → List ℕ
 parse_error_text parse_error.Bad = codes "bad line"

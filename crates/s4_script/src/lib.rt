@@ -11,4 +11,4 @@ mod words;
 
 pub use error::ParseError;
 pub use line::{Line, parse_line, parse_window};
-pub use replies::ReplyText;
+pub use replies::{ReplyText, UsedText};

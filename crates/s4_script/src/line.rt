@@ -2,18 +2,19 @@
 
 use crate::error::ParseError;
 use crate::{requests, words};
-use s4_types::{Caller, Moment, Request};
+use s4_types::{Caller, Step};
 use std::alloc::Global;
 
 /// The most words that a line has.
 const MOST_WORDS: usize = 9;
 
-/// A line after the first: a request at a moment.
+/// A line after the first.
 #[derive(Debug, PartialEq, Drop)]
-pub struct Line {
-    pub moment: Moment,
-    pub caller: Caller,
-    pub request: Request,
+pub enum Line {
+    /// What the drive is to do: a request at a moment, or a sweep.
+    Step(Step),
+    /// It asks how many values and bindings the drive holds.
+    Used,
 }
 
 /// The window that the first line opens the drive with.
@@ -26,18 +27,35 @@ pub fn parse_window(alloc: Global, line: &[u8]) -> Result<u64, ParseError> {
 
 /// What a line after the first asks for.
 pub fn parse_line(alloc: Global, line: &[u8]) -> Result<Line, ParseError> {
-    let words = words_of(alloc, line)?;
-    let [moment, who, verb, words @ ..] = words.as_slice() else {
-        return Err(ParseError::Bad);
-    };
-    Ok(Line {
+    match words_of(alloc, line)?.as_slice() {
+        ["used"] => Ok(Line::Used),
+        ["sweep", most] => sweep(most),
+        [moment, who, verb, words @ ..] => request(alloc, moment, who, verb, words),
+        _ => Err(ParseError::Bad),
+    }
+}
+
+fn sweep(most: &str) -> Result<Line, ParseError> {
+    Ok(Line::Step(Step::Sweep {
+        n: words::number(most)?,
+    }))
+}
+
+fn request(
+    alloc: Global,
+    moment: &str,
+    who: &str,
+    verb: &str,
+    words: &[&str],
+) -> Result<Line, ParseError> {
+    Ok(Line::Step(Step::Request {
         moment: words::moment(moment)?,
         caller: Caller {
             who: words::principal(who)?,
             client: 0,
         },
         request: requests::parse_request(alloc, verb, words)?,
-    })
+    }))
 }
 
 /// The words of a line. Of a line with too many words there is one more than any line has.

@@ -3,7 +3,7 @@
 ghost use Rattle.std.specs.Prelude.{◌≡◌, Some};
 ghost use Rattle.std.specs.Fmt.{DisplaysOnOk};
 ghost use Rattle.hex.specs.Hex.{encode_lower};
-ghost use Rattle.s4_script.specs.Texts.{bytes_text, grant_text, line_text, lines_text, names_text, object_text, refusal_text, reply_text, right_text};
+ghost use Rattle.s4_script.specs.Texts.{bytes_text, grant_text, line_text, lines_text, names_text, object_text, refusal_text, reply_text, right_text, used_text};
 
 use crate::records::AuditText;
 use s4_types::{Grant, Name, NameLine, ObjectId, Refusal, Reply, Right};
@@ -53,6 +53,18 @@ impl fmt::Display for ReplyText<'_> {
             Reply::Audit { lines, more } => write!(f, "{}", AuditText(lines.as_slice(), *more)),
             Reply::Refused(refusal) => write!(f, "{}", RefusalText(*refusal)),
         }
+    }
+}
+
+/// How many values and bindings a drive holds, as its line.
+#[derive(Clone, Copy)]
+pub struct UsedText(pub u64);
+
+impl fmt::Display for UsedText {
+    ghost output = { λ t. Some (used_text t.0) };
+
+    fn fmt<W: fmt::Write>(&self, f: &mut fmt::Formatter<W>) -> fmt::Result {
+        write!(f, "used {}", self.0)
     }
 }
 

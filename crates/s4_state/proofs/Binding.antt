@@ -1,8 +1,11 @@
 -- Names: what is held of them tells what they are bound to, and records that bind them.
-use Rattle.std.proofs.Common.{◌≡◌, ℕ, ◌+◌, ◌≤◌, Bool, true, false, cond, Option, Some, None, List, [], ◌∷◌, ◌++◌, refl, sym, ◌∙◌, ap, subst, arith, length}
-use Rattle.std.specs.Prelude.{◌&&◌, nat_le, is_some, count_by, if◌then◌else◌}
+use Rattle.std.proofs.Common.{◌≡◌, ℕ, ◌+◌, ◌≤◌, Bool, true, false, cond, Option, Some, None, List, [], ◌∷◌, ◌++◌, refl, sym, ◌∙◌, ap, subst, arith, length, filter}
+use Rattle.std.specs.Prelude.{◌&&◌, ◌==◌, nat_le, is_some, count_by, map, replicate, if◌then◌else◌}
 use Rattle.std.specs.List.{list_any}
 use Rattle.std.specs.Option.{option_map}
+use Rattle.std.proofs.lemmas.Bool.{eqb-true, eq-eqb}
+use Rattle.std.proofs.lemmas.List.{map-append}
+use Rattle.std.proofs.lemmas.List.Folds.{list_all-map}
 use Rattle.s4_types.specs.declared.object.Purse.{Purse}
 use Rattle.s4_types.specs.declared.object.ObjectId.{ObjectId}
 use Rattle.s4_types.specs.declared.principal.Caller.{Caller}
@@ -22,26 +25,35 @@ use Rattle.s4_types.specs.Versions as model
 use Rattle.s4_types.specs.Base.{Base}
 use Rattle.s4_types.specs.Answer.{moment_of}
 use Rattle.s4_types.specs.Play.{last_of}
-use Rattle.s4_types.proofs.Booleans.{by_test, both}
-use Rattle.s4_types.proofs.Snoc.{newest-snoc, last_of-snoc}
-use Rattle.s4_types.proofs.SameNames.{purse_is, name_is}
-use Rattle.s4_store.specs.Chains.{Chains, items_of, IsOpen, StillOpen}
-use Rattle.s4_tracks.specs.Chain.{in_force, endless, current_of, version_in, with_end, end_at}
+use Rattle.s4_types.proofs.Booleans.{by_test, both, not_both, &&-false}
+use Rattle.s4_types.proofs.Snoc.{newest-snoc}
+use Rattle.s4_types.proofs.SameNames.{purse_is, name_is, name_self}
+use Rattle.s4_store.specs.Chains.{Chains, items_of, item_count, IsOpen, StillOpen}
+use Rattle.s4_tracks.specs.Chain.{endless, current_of, version_in, with_end, end_at}
+use Rattle.s4_tracks.specs.Swept.{IsSwept, IsFrom}
 use Rattle.s4_tracks.proofs.Ending.{with_end-snoc}
-use Rattle.s4_parts.specs.declared.parts.Parts.{Parts as Table}
-use Rattle.s4_parts.specs.Waiting.{waiting_in, all_by, Waits}
-use Rattle.s4_parts.specs.Table.{Holds, chain_at, names_in, bindings_in, binding, object_of, serial_now, KeepsOthers}
+use Rattle.s4_tracks.proofs.Sweeping.{swept_up, swept_end, swept_more, swept_version_in}
 use Rattle.s4_objects.specs.declared.kept.Which.{Which}
 use Rattle.s4_objects.specs.declared.kept.Which.TheVariants as which
 use Rattle.s4_objects.specs.declared.kept.Kept.{Kept}
-use Rattle.s4_objects.specs.Chains.{chain_of, held, Chained}
+use Rattle.s4_objects.specs.declared.objects.Objects.{Objects}
+use Rattle.s4_objects.specs.Chains.{chain_of}
+use Rattle.s4_objects.specs.Laws.{KeepsObjects, held_still, holds_still}
+use Rattle.s4_objects.specs.Table.{found_in, ends_in}
+use Rattle.s4_parts.specs.declared.parts.Parts.{Parts as Table}
+use Rattle.s4_parts.specs.Waiting.{waiting_in, all_by, Waits}
+use Rattle.s4_parts.specs.Table.{Holds, chain_at, names_in, bindings_in, binding, object_of, serial_now, is_any, IsForeign, KeepsOthers}
+use Rattle.s4_state.specs.Counts.{made_by, values_ended_by, bindings_ended_by, counted}
 use Rattle.s4_state.specs.Laid.{laid, laid_by, version_by, versions_on, bindings_on}
 use Rattle.s4_state.specs.Sound.{IsSound, IsNext, EndsBy, BindingsStand}
-use Rattle.s4_state.specs.Stands.{StandsFor, MakesNone}
+use Rattle.s4_state.specs.Stands.{horizon_now, ObjectsStand, NamesStand, StandsFor, MakesNone}
 use Rattle.s4_state.proofs.Reading.{in_force-laid}
-use Rattle.s4_state.proofs.Naming.{bindings-snoc, names_of-snoc, later-up, later-more}
+use Rattle.s4_state.proofs.Living.{all_by-up}
+use Rattle.s4_state.proofs.Naming.{bindings-snoc, names_of-snoc}
+use Rattle.s4_state.proofs.Waiting.{ends-by, no-more, waiting_by, waiting_same, waiting_next}
+use Rattle.s4_state.proofs.Left.{serial-none, any-more, any-end, count-filter, any-filter, filter-with, names-sorted}
 use Rattle.s4_state.proofs.Granting.{told as told-of, told-asked, accepted-asked, bound-done, unbound-done, was_unbound, was_bound, window-done, budget-done}
-use Rattle.s4_state.proofs.Standing.{stands_on, stands_still}
+use Rattle.s4_state.proofs.Standing.{swept_as, swept_if, horizon_up, objects_next, stands_on, stands_still}
 use Rattle.s4_state.proofs.Effects.{makes-none, idle}
 
 -- WHAT A NAME IS BOUND TO
@@ -69,18 +81,17 @@ current-bound p n last t (v ∷ past) l s =
     of None b = refl
     of (Some end) b = let over : nat_le end t ≡ true = grind arith in sym (ap (λ x. option_map (as_version p n) (if x then None else Some v)) over)
 
-module _ {chains : Chains Version} {found : ObjectId → Option Kept} {serials : Purse → ℕ} {table : Table} {h : List Record} (s : StandsFor chains found serials table h) where
-  -- now, or at a moment
-  pub bound-in : (p : Purse) (n : List ℕ) (t : ℕ) → last_of h ≤ t → (at : Option ℕ) → object_of (version_in at (bindings_in chains table p n)) ≡ option_map (object_in p) (bound_at p n (moment_of t at) h)
-  bound-in p n t l None =
-      ap (λ vs. object_of (current_of vs)) (s.partitions.bindings p n) ∙ ap object_of (current-bound p n (last_of h) t (bindings p n h) l (s.sound.bindings p n))
-      ∙ object-laid p n (in_force_by t (bindings p n h))
-  bound-in p n t l (Some m) =
-      ap (λ vs. object_of (in_force m vs)) (s.partitions.bindings p n) ∙ ap object_of (in_force-laid (λ serial. 64 + length n) (λ v. Some (item.Bind (object_in p v.value))) m (bindings p n h))
-      ∙ object-laid p n (in_force_by m (bindings p n h))
+module _ {window freed : ℕ} {chains : Chains Version} {kept : Objects} {serials : Purse → ℕ} {table : Table} {h : List Record} (s : StandsFor window freed chains kept serials table h) where
+  -- now, or at a moment that isn't below the horizon
+  pub bound-in : (p : Purse) (n : List ℕ) (t : ℕ) → last_of h ≤ t → (at : Option ℕ) → IsFrom (horizon_now window h) at → object_of (version_in at (bindings_in chains table p n)) ≡ option_map (object_in p) (bound_at p n (moment_of t at) h)
+  bound-in p n t l at from = ap object_of (swept_version_in (horizon_now window h) at (bindings_in chains table p n) (bindings_on p n h) from (s.partitions.bindings p n)) ∙ all at
+    where
+      all : (at : Option ℕ) → object_of (version_in at (bindings_on p n h)) ≡ option_map (object_in p) (bound_at p n (moment_of t at) h)
+      all None = ap object_of (current-bound p n (last_of h) t (bindings p n h) l (s.sound.bindings p n)) ∙ object-laid p n (in_force_by t (bindings p n h))
+      all (Some m) = ap object_of (in_force-laid (λ serial. 64 + length n) (λ v. Some (item.Bind (object_in p v.value))) m (bindings p n h)) ∙ object-laid p n (in_force_by m (bindings p n h))
 
   pub serial-now : (p : Purse) (n : List ℕ) (t : ℕ) → last_of h ≤ t → serial_now (bindings_in chains table p n) ≡ bound_at p n t h
-  serial-now p n t l = ap (option_map (λ o. o.serial)) (bound-in p n t l None) ∙ of (bound_at p n t h)
+  serial-now p n t l = ap (option_map (λ o. o.serial)) (bound-in p n t l None tt) ∙ of (bound_at p n t h)
     where
       of : (x : Option ℕ) → option_map (λ o. o.serial) (option_map (object_in p) x) ≡ x
       of None = refl
@@ -88,60 +99,94 @@ module _ {chains : Chains Version} {found : ObjectId → Option Kept} {serials :
 
   -- how many names are bound, and whether an object has one
   pub count-now : (p : Purse) (t : ℕ) → last_of h ≤ t → count_by (λ n. is_some (serial_now (bindings_in chains table p n))) (names_in chains table p) ≡ bound_count p t h
-  count-now p t l = ap (λ f. count_by f (names_in chains table p)) (λ i n. is_some (serial-now p n t l i)) ∙ ap (count_by (λ n. is_some (bound_at p n t h))) (s.partitions.names p)
+  count-now p t l = ap (count_by (λ n. is_some (serial_now (bindings_in chains table p n)))) (s.partitions.names p)
+      ∙ count-filter _ _ (names_of p h) (λ n e. ap is_some (serial-none (bindings_in chains table p n) e))
+      ∙ ap (λ f. count_by f (names_of p h)) (λ i n. is_some (serial-now p n t l i))
 
   pub named-now : (o : ObjectId) (t : ℕ) → last_of h ≤ t → list_any (λ n. is_serial o.serial (serial_now (bindings_in chains table o.purse n))) (names_in chains table o.purse) ≡ has_name o t h
-  named-now o t l = ap (λ f. list_any f (names_in chains table o.purse)) (λ i n. is_serial o.serial (serial-now o.purse n t l i)) ∙ ap (list_any (λ n. is_serial o.serial (bound_at o.purse n t h))) (s.partitions.names o.purse)
+  named-now o t l = ap (list_any (λ n. is_serial o.serial (serial_now (bindings_in chains table o.purse n)))) (s.partitions.names o.purse)
+      ∙ any-filter _ _ (names_of o.purse h) (λ n e. ap (is_serial o.serial) (serial-none (bindings_in chains table o.purse n) e))
+      ∙ ap (λ f. list_any f (names_of o.purse h)) (λ i n. is_serial o.serial (serial-now o.purse n t l i))
 
 -- ROOM FOR A NAME
 
-module _ {chains : Chains Version} {found : ObjectId → Option Kept} {serials : Purse → ℕ} {table : Table} {h : List Record} (s : StandsFor chains found serials table h) (new : Chains Version) (table' : Table) where
-  held-same : ((o : ObjectId) (k : Kept) (w : Which) → found o ≡ Some k → items_of new (chain_of w k) ≡ items_of chains (chain_of w k)) → (o : ObjectId) (w : Which) → held new (found o) w ≡ held chains (found o) w
-  held-same same o w = of (found o) refl
-    where
-      of : (f : Option Kept) → found o ≡ f → held new f w ≡ held chains f w
-      of None got = refl
-      of (Some k) got = same o k w got
+-- what is kept of objects, where the chains of their tracks are as before
+pub objects_beside : {hz : ℕ} {chains new : Chains Version} {kept : Objects} {h : List Record} → ObjectsStand hz chains kept h → KeepsObjects chains new kept → ObjectsStand hz new kept h
+objects_beside {hz} {h = h} s keeps = record {
+  holds = holds_still keeps s.holds;
+  made = s.made;
+  tracks = λ o w. subst (λ vs. IsSwept hz vs (versions_on w o h)) (sym (held_still keeps o w)) (s.tracks o w);
+  ends = s.ends;
+}
 
-  chained-same : StillOpen chains new → Chained new found
-  chained-same still = record { opened = λ o k w got. still (chain_of w k) (s.chained.opened o k w got); apart = s.chained.apart }
+-- no chain of an object is one of a name
+pub strange : {hz : ℕ} {chains : Chains Version} {kept : Objects} {table : Table} {h : List Record} → NamesStand hz chains kept table h → (o : ObjectId) (k : Kept) (w : Which) → found_in kept o ≡ Some k → IsForeign table (chain_of w k)
+strange s o k w got p n has = not_both _ (eq-eqb (chain_of w k) (chain_of w k) refl) (s.apart p n (chain_of w k) has o k w got)
 
+module _ {window freed : ℕ} {chains : Chains Version} {kept : Objects} {serials : Purse → ℕ} {table : Table} {h : List Record} (s : StandsFor window freed chains kept serials table h) (new : Chains Version) (table' : Table) where
   pub stands_reserved : Holds new table' → Waits new table' → waiting_in table' ≡ waiting_in table → ((p : Purse) → names_in new table' p ≡ names_in chains table p) → ((p : Purse) (n : List ℕ) → bindings_in new table' p n ≡ bindings_in chains table p n)
       → ((c : ℕ) → IsOpen chains c → items_of new c ≡ items_of chains c) → StillOpen chains new
-      → ((p : Purse) (n : List ℕ) (c : ℕ) → chain_at table' p n ≡ Some c → IsOpen chains c → chain_at table p n ≡ Some c)
-      → StandsFor new found serials table' h
-  stands_reserved holds waits waiting names bindings others still own = record {
+      → ((p : Purse) (n : List ℕ) (c : ℕ) → chain_at table' p n ≡ Some c → IsOpen chains c → chain_at table p n ≡ Some c) → item_count new ≡ item_count chains
+      → StandsFor window freed new kept serials table' h
+  stands_reserved holds waits waiting names bindings others still own same = record {
     sound = s.sound;
-    chained = chained-same still;
-    kept = s.kept;
-    tracks = λ o w. held-same (λ o k w got. others (chain_of w k) (s.chained.opened o k w got)) o w ∙ s.tracks o w;
+    objects = objects_beside s.objects (record {
+      opened = λ o k w got. still (chain_of w k) (s.objects.holds.chained.opened o k w got);
+      items = λ o k w got. others (chain_of w k) (s.objects.holds.chained.opened o k w got);
+    });
     names = s.names;
     partitions = record {
       holds = holds;
-      names = λ p. names p ∙ s.partitions.names p;
-      bindings = λ p n. bindings p n ∙ s.partitions.bindings p n;
       waits = waits;
-      later = ap (all_by (last_of h)) waiting ∙ s.partitions.later;
-      apart = λ o k w got p n has. s.partitions.apart o k w got p n (own p n (chain_of w k) has (s.chained.opened o k w got));
+      bindings = λ p n. subst (λ vs. IsSwept (horizon_now window h) vs (bindings_on p n h)) (sym (bindings p n)) (s.partitions.bindings p n);
+      names = λ p. names p ∙ s.partitions.names p ∙ ap (λ f. filter f (names_of p h)) (λ i n. is_any (sym (bindings p n) i));
+      ends = waiting_same (ap (map (λ e. e.end)) waiting) refl s.partitions.ends;
+      apart = λ p n c has o k w got. by_test (c == chain_of w k)
+          (λ e. let is : c ≡ chain_of w k = eqb-true c (chain_of w k) e in
+          absurd (strange s.partitions o k w got p n (own p n c has (subst (IsOpen chains) (sym is) (s.objects.holds.chained.opened o k w got)) ∙ ap (λ x. Some x) is)))
+          (λ e. e);
     };
+    used = ap (λ n. n + freed) same ∙ s.used;
+    ended = s.ended ∙ ap (λ es. freed + length (ends_in kept) + length es) (sym waiting);
   }
 
   -- A RECORD ABOUT A NAME
 
-  stands_named : (r : Record) → IsSound (h ++ r ∷ []) → MakesNone r → ((o : ObjectId) (w : Which) → versions_on w o (h ++ r ∷ []) ≡ versions_on w o h)
-      → Holds new table' → Waits new table' → all_by (last_of (h ++ r ∷ [])) (waiting_in table') ≡ true → KeepsOthers chains new table → ((p : Purse) (n : List ℕ) → chain_at table' p n ≡ chain_at table p n)
-      → ((p : Purse) → names_in new table' p ≡ names_of p (h ++ r ∷ [])) → ((p : Purse) (n : List ℕ) → bindings_in new table' p n ≡ bindings_on p n (h ++ r ∷ []))
-      → StandsFor new found serials table' (h ++ r ∷ [])
-  stands_named r sound none tracks holds waits later others own names bindings = stands_on s r sound none (chained-same others.still)
-      (λ o w. held-same (λ q k u got. others.items (chain_of u k) (s.chained.opened q k u got) (s.partitions.apart q k u got)) o w ∙ s.tracks o w ∙ sym (tracks o w))
-      (record {
-        holds = holds;
-        names = names;
-        bindings = bindings;
-        waits = waits;
-        later = later;
-        apart = λ o k w got p n has. s.partitions.apart o k w got p n (sym (own p n) ∙ has);
+  stands_named : (r : Record) (sound : IsSound (h ++ r ∷ [])) → MakesNone r → counted values_ended_by r ≡ 0 → ((o : ObjectId) (w : Which) → versions_on w o (h ++ r ∷ []) ≡ versions_on w o h)
+      → Holds new table' → Waits new table' → map (λ e. e.end) (waiting_in table') ≡ map (λ e. e.end) (waiting_in table) ++ replicate (counted bindings_ended_by r) r.moment
+      → KeepsOthers chains new table → ((p : Purse) (n : List ℕ) → chain_at table' p n ≡ chain_at table p n)
+      → ((p : Purse) → names_in new table' p ≡ filter (λ n. is_any (bindings_in new table' p n)) (names_of p (h ++ r ∷ [])))
+      → ((p : Purse) (n : List ℕ) → IsSwept (horizon_now window h) (bindings_in new table' p n) (bindings_on p n (h ++ r ∷ [])))
+      → item_count new ≡ item_count chains + counted made_by r → StandsFor window freed new kept serials table' (h ++ r ∷ [])
+  stands_named r sound none unended tracks holds waits waiting others own names bindings made = stands_on s r sound none objects (record {
+    holds = holds;
+    waits = waits;
+    bindings = λ p n. swept_up (horizon_now window h) (horizon_now window (h ++ r ∷ [])) _ _ (horizon_up s r sound) (bindings p n);
+    names = names;
+    ends = waiting_next (horizon_up s r sound) bindings_ended_by h r waiting s.partitions.ends;
+    apart = λ p n c has. s.partitions.apart p n c (sym (own p n) ∙ has);
+  }) made (no-more (ends_in kept) r.moment unended) waiting
+    where
+      beside : ObjectsStand (horizon_now window h) new kept h
+      beside = objects_beside s.objects (record {
+        opened = λ o k w got. others.still (chain_of w k) (s.objects.holds.chained.opened o k w got);
+        items = λ o k w got. others.items (chain_of w k) (s.objects.holds.chained.opened o k w got) (strange s.partitions o k w got);
       })
+
+      objects : ObjectsStand (horizon_now window (h ++ r ∷ [])) new kept (h ++ r ∷ [])
+      objects = objects_next s r sound beside.holds (λ o. refl) none (λ q u. swept_as refl (tracks q u) (beside.tracks q u))
+          (no-more (ends_in kept) r.moment unended)
+
+same-count : (n m : ℕ) → m ≡ 0 → n ≡ n + m
+same-count n m e = omega (arith, e)
+
+unmoved : {A : Type 0} (b : Bool) (x : A) → cond b x x ≡ x
+unmoved true x = refl
+unmoved false x = refl
+
+-- the versions of a name's bindings
+abbrev laid-on : Purse → List ℕ → List (Value ℕ) → List Version
+laid-on p m values = laid_by (λ serial. 64 + length m) (λ v. Some (item.Bind (object_in p v.value))) values
 
 -- a test that is made twice
 twice : {A : Type 0} (b c : Bool) (x y : A) → cond b (cond (b && c) x y) y ≡ cond (b && c) x y
@@ -173,10 +218,10 @@ bound-laid m name o p n old e f =
     ap (λ w. laid_by (λ serial. 64 + length n) (λ v. Some (item.Bind (object_in p v.value))) old ++ w ∷ [])
     (λ i. record { begin = m; end = None; item = Some (item.Bind (sym is i)); cost = 64 + length (name_is name n f i) })
 
-module _ {chains : Chains Version} {found : ObjectId → Option Kept} {serials : Purse → ℕ} {table : Table} {h : List Record} (s : StandsFor chains found serials table h) {base : Base} {r : Record} (n : IsNext base h r) (granted : is_refused r.reply ≡ false) where
+module _ {window freed : ℕ} {chains : Chains Version} {kept : Objects} {serials : Purse → ℕ} {table : Table} {h : List Record} (s : StandsFor window freed chains kept serials table h) {base : Base} {r : Record} (n : IsNext base h r) (granted : is_refused r.reply ≡ false) where
   -- no binding that waits ended later than the record
   pub later_then : all_by r.moment (waiting_in table) ≡ true
-  later_then = later-up (last_of h) r.moment (waiting_in table) n.later s.partitions.later
+  later_then = sym (list_all-map (λ end. nat_le end r.moment) (λ e. e.end) (waiting_in table)) ∙ waiting_by r.moment (ends-by bindings_ended_by r.moment h (all_by-up (last_of h) r.moment h n.later s.sound.moments)) s.partitions.ends
 
   module _ (name : List ℕ) (o : ObjectId) (asked : r.request ≡ PCreate name o) where
     bound-accepted : is_refused (told-of base h r.moment r.caller (PCreate name o)) ≡ false
@@ -190,39 +235,48 @@ module _ {chains : Chains Version} {found : ObjectId → Option Kept} {serials :
         let told' : r.reply ≡ Done = told-asked n granted (PCreate name o) asked ∙ bound-done base h r.moment r.caller name o bound-accepted in
         λ i. record { moment = r.moment; caller = r.caller; request = asked i; reply = told' i }
 
+    bound-on : (p : Purse) (m : List ℕ) → bindings_on p m (h ++ bound-record ∷ []) ≡ (if same_purse o.purse p && same_name name m then bindings_on p m h ++ binding r.moment name o ∷ [] else bindings_on p m h)
+    bound-on p m = ap (laid-on p m) (bindings-snoc p m h bound-record ∙ twice (same_purse o.purse p) (same_name name m) (model.begun r.moment o.serial ∷ bindings p m h) (bindings p m h))
+        ∙ by_test (same_purse o.purse p && same_name name m)
+        (λ e. let parts = both (same_purse o.purse p) (same_name name m) e in
+        ap (λ b. laid-on p m (cond b (model.begun r.moment o.serial ∷ bindings p m h) (bindings p m h))) e
+        ∙ sym (bound-laid r.moment name o p m (bindings p m h) parts.0 parts.1)
+        ∙ sym (ap (λ b. if b then bindings_on p m h ++ binding r.moment name o ∷ [] else bindings_on p m h) e))
+        (λ e. ap (λ b. laid-on p m (cond b (model.begun r.moment o.serial ∷ bindings p m h) (bindings p m h))) e
+        ∙ sym (ap (λ b. if b then bindings_on p m h ++ binding r.moment name o ∷ [] else bindings_on p m h) e))
+
+    bound-names : (p : Purse) → names_of p (h ++ bound-record ∷ []) ≡ cond (same_purse o.purse p) (with_name name (names_of p h)) (names_of p h)
+    bound-names p = names_of-snoc p h bound-record ∙ twice-alone (same_purse o.purse p) (with_name name (names_of p h)) (names_of p h)
+
     pub stands_bound : IsSound (h ++ r ∷ []) → (new : Chains Version) (table' : Table) → Holds new table' → Waits new table' → waiting_in table' ≡ waiting_in table → KeepsOthers chains new table → ((p : Purse) (m : List ℕ) → chain_at table' p m ≡ chain_at table p m)
         → ((p : Purse) → names_in new table' p ≡ (if same_purse o.purse p then with_name name (names_in chains table p) else names_in chains table p))
         → ((p : Purse) (m : List ℕ) → bindings_in new table' p m ≡ (if same_purse o.purse p && same_name name m then bindings_in chains table p m ++ binding r.moment name o ∷ [] else bindings_in chains table p m))
-        → StandsFor new found serials table' (h ++ r ∷ [])
-    stands_bound sound new table' holds waits waiting others own names bindings = subst (λ x. StandsFor new found serials table' (h ++ x ∷ [])) (sym bound-is)
+        → item_count new ≡ item_count chains + 1 → StandsFor window freed new kept serials table' (h ++ r ∷ [])
+    stands_bound sound new table' holds waits waiting others own names held made = subst (λ x. StandsFor window freed new kept serials table' (h ++ x ∷ [])) (sym bound-is)
         (stands_named s new table' bound-record (subst (λ x. IsSound (h ++ x ∷ [])) bound-is sound)
-        (makes-none h bound-record o (λ p. refl) (λ q. refl) refl)
+        (makes-none h bound-record o (λ p. refl) (λ q. refl) refl) refl
         (tracks-idle h r.moment r.caller o (PCreate name o) (λ p. refl) refl (λ q. refl) (λ q. refl) (λ q old. refl) (λ q old. refl) (λ q old. refl))
-        holds waits (ap (λ t. all_by t (waiting_in table')) (last_of-snoc h bound-record) ∙ ap (all_by r.moment) waiting ∙ later_then) others own
-        (λ p. names p ∙ ap (λ old. if same_purse o.purse p then with_name name old else old) (s.partitions.names p)
-        ∙ sym (names_of-snoc p h bound-record ∙ twice-alone (same_purse o.purse p) (with_name name (names_of p h)) (names_of p h)))
-        (λ p m. bindings p m ∙ ap (λ old. if same_purse o.purse p && same_name name m then old ++ binding r.moment name o ∷ [] else old) (s.partitions.bindings p m)
-        ∙ by_test (same_purse o.purse p && same_name name m)
-        (λ e. let parts = both (same_purse o.purse p) (same_name name m) e in
-        ap (λ b. if b then bindings_on p m h ++ binding r.moment name o ∷ [] else bindings_on p m h) e
-        ∙ bound-laid r.moment name o p m (model-bindings p m) parts.0 parts.1
-        ∙ sym (ap (laid-on p m) (bindings-snoc p m h bound-record ∙ twice (same_purse o.purse p) (same_name name m) (model.begun r.moment o.serial ∷ model-bindings p m) (model-bindings p m) ∙ ap (λ b. cond b (model.begun r.moment o.serial ∷ model-bindings p m) (model-bindings p m)) e)))
-        (λ e. ap (λ b. if b then bindings_on p m h ++ binding r.moment name o ∷ [] else bindings_on p m h) e
-        ∙ sym (ap (laid-on p m) (bindings-snoc p m h bound-record ∙ twice (same_purse o.purse p) (same_name name m) (model.begun r.moment o.serial ∷ model-bindings p m) (model-bindings p m) ∙ ap (λ b. cond b (model.begun r.moment o.serial ∷ model-bindings p m) (model-bindings p m)) e)))))
-      where
-        model-bindings : Purse → List ℕ → List (Value ℕ)
-        model-bindings p m = Rattle.s4_types.specs.Bindings.bindings p m h
-
-        laid-on : (p : Purse) (m : List ℕ) → List (Value ℕ) → List Version
-        laid-on p m values = laid_by (λ serial. 64 + length m) (λ v. Some (item.Bind (object_in p v.value))) values
+        holds waits (ap (map (λ e. e.end)) waiting ∙ no-more (map (λ e. e.end) (waiting_in table)) r.moment refl) others own
+        (λ p. by_test (same_purse o.purse p)
+        (λ e. names p ∙ ap (λ b. if b then with_name name (names_in chains table p) else names_in chains table p) e ∙ ap (with_name name) (s.partitions.names p)
+        ∙ filter-with name (λ m. is_any (bindings_in new table' p m)) (λ m. is_any (bindings_in chains table p m))
+        (λ m other. ap is_any (held p m ∙ ap (λ b. if same_purse o.purse p && b then bindings_in chains table p m ++ binding r.moment name o ∷ [] else bindings_in chains table p m) other
+        ∙ ap (λ b. if b then bindings_in chains table p m ++ binding r.moment name o ∷ [] else bindings_in chains table p m) (&&-false (same_purse o.purse p))))
+        (ap is_any (held p name ∙ ap (λ b. if b && same_name name name then bindings_in chains table p name ++ binding r.moment name o ∷ [] else bindings_in chains table p name) e
+        ∙ ap (λ b. if b then bindings_in chains table p name ++ binding r.moment name o ∷ [] else bindings_in chains table p name) (name_self name)) ∙ any-more (bindings_in chains table p name) (binding r.moment name o))
+        (names_of p h) (names-sorted p h)
+        ∙ ap (filter (λ m. is_any (bindings_in new table' p m))) (sym (bound-names p ∙ ap (λ b. cond b (with_name name (names_of p h)) (names_of p h)) e)))
+        (λ e. names p ∙ ap (λ b. if b then with_name name (names_in chains table p) else names_in chains table p) e ∙ s.partitions.names p
+        ∙ ap (λ f. filter f (names_of p h)) (λ i m. is_any (sym (held p m ∙ ap (λ b. if b && same_name name m then bindings_in chains table p m ++ binding r.moment name o ∷ [] else bindings_in chains table p m) e) i))
+        ∙ ap (filter (λ m. is_any (bindings_in new table' p m))) (sym (bound-names p ∙ ap (λ b. cond b (with_name name (names_of p h)) (names_of p h)) e))))
+        (λ p m. swept_as (held p m) (bound-on p m) (swept_if (same_purse o.purse p && same_name name m) (swept_more (horizon_now window h) (binding r.moment name o) _ _ (s.partitions.bindings p m)) (s.partitions.bindings p m))) made)
 
     -- it wasn't bound, so what is held of it isn't current
     pub unbound_before : object_of (current_of (bindings_in chains table o.purse name)) ≡ None
-    unbound_before = ap object_of
-        (ap current_of (s.partitions.bindings o.purse name) ∙ current-bound o.purse name (last_of h) r.moment (Rattle.s4_types.specs.Bindings.bindings o.purse name h) n.later (s.sound.bindings o.purse name)
-        ∙ none (in_force_by r.moment (Rattle.s4_types.specs.Bindings.bindings o.purse name h)) (was_unbound base h r.moment r.caller name o bound-accepted))
+    unbound_before = bound-in s o.purse name r.moment n.later None tt
+        ∙ none (bound_at o.purse name r.moment h) (was_unbound base h r.moment r.caller name o bound-accepted)
       where
-        none : (x : Option (Value ℕ)) → is_some (option_map (λ v. v.value) x) ≡ false → option_map (as_version o.purse name) x ≡ None
+        none : (x : Option ℕ) → is_some x ≡ false → option_map (object_in o.purse) x ≡ None
         none None e = refl
         none (Some v) e = cc
 
@@ -264,48 +318,35 @@ module _ {chains : Chains Version} {found : ObjectId → Option Kept} {serials :
         current : v.end ≡ None
         current = open-end v.end b.1 refl
 
+    unbound-on : (p : Purse) (m : List ℕ) → bindings_on p m (h ++ unbound-record ∷ []) ≡ (if same_purse purse p && same_name name m then with_end r.moment (bindings_on p m h) else bindings_on p m h)
+    unbound-on p m = ap (laid-on p m) (bindings-snoc p m h unbound-record ∙ twice (same_purse purse p) (same_name name m) (model.with_end r.moment (bindings p m h)) (bindings p m h))
+        ∙ by_test (same_purse purse p && same_name name m)
+        (λ e. let parts = both (same_purse purse p) (same_name name m) e in
+        ap (λ b. laid-on p m (cond b (model.with_end r.moment (bindings p m h)) (bindings p m h))) e
+        ∙ subst (λ x. laid-on x m (model.with_end r.moment (bindings x m h)) ≡ with_end r.moment (bindings_on x m h)) (purse_is purse p parts.0)
+        (subst (λ y. laid-on purse y (model.with_end r.moment (bindings purse y h)) ≡ with_end r.moment (bindings_on purse y h)) (name_is name m parts.1)
+        (sym (ended-laid (bindings purse name h) (s.sound.bindings purse name) (was_bound base h r.moment r.caller purse name unbound-accepted))))
+        ∙ sym (ap (λ b. if b then with_end r.moment (bindings_on p m h) else bindings_on p m h) e))
+        (λ e. ap (λ b. laid-on p m (cond b (model.with_end r.moment (bindings p m h)) (bindings p m h))) e
+        ∙ sym (ap (λ b. if b then with_end r.moment (bindings_on p m h) else bindings_on p m h) e))
+
     pub stands_unbound : IsSound (h ++ r ∷ []) → (new : Chains Version) (table' : Table) → Holds new table' → Waits new table' → waiting_in table' ≡ waiting_in table ++ record { end = r.moment; purse = purse; name = name } ∷ [] → KeepsOthers chains new table → ((p : Purse) (m : List ℕ) → chain_at table' p m ≡ chain_at table p m)
         → ((p : Purse) → names_in new table' p ≡ names_in chains table p)
         → ((p : Purse) (m : List ℕ) → bindings_in new table' p m ≡ (if same_purse purse p && same_name name m then with_end r.moment (bindings_in chains table p m) else bindings_in chains table p m))
-        → StandsFor new found serials table' (h ++ r ∷ [])
-    stands_unbound sound new table' holds waits waiting others own names bindings = subst (λ x. StandsFor new found serials table' (h ++ x ∷ [])) (sym unbound-is)
+        → item_count new ≡ item_count chains → StandsFor window freed new kept serials table' (h ++ r ∷ [])
+    stands_unbound sound new table' holds waits waiting others own names held made = subst (λ x. StandsFor window freed new kept serials table' (h ++ x ∷ [])) (sym unbound-is)
         (stands_named s new table' unbound-record (subst (λ x. IsSound (h ++ x ∷ [])) unbound-is sound)
-        (makes-none h unbound-record (object_in purse 0) (λ p. refl) (λ q. refl) refl)
+        (makes-none h unbound-record (object_in purse 0) (λ p. refl) (λ q. refl) refl) refl
         (tracks-idle h r.moment r.caller (object_in purse 0) (PDelete purse name) (λ p. refl) refl (λ q. refl) (λ q. refl) (λ q old. refl) (λ q old. refl) (λ q old. refl))
-        holds waits (ap (λ t. all_by t (waiting_in table')) (last_of-snoc h unbound-record) ∙ ap (all_by r.moment) waiting
-        ∙ later-more r.moment (waiting_in table) (record { end = r.moment; purse = purse; name = name }) later_then (itself r.moment)) others own
-        (λ p. names p ∙ s.partitions.names p ∙ sym (names_of-snoc p h unbound-record ∙ same-either (same_purse purse p) (names_of p h)))
-        (λ p m. bindings p m ∙ ap (λ old. if same_purse purse p && same_name name m then with_end r.moment old else old) (s.partitions.bindings p m)
-        ∙ by_test (same_purse purse p && same_name name m)
-        (λ e. let parts = both (same_purse purse p) (same_name name m) e in
-        ap (λ b. if b then with_end r.moment (bindings_on p m h) else bindings_on p m h) e
-        ∙ subst (λ x. with_end r.moment (bindings_on x m h) ≡ laid-on x m (model.with_end r.moment (model-bindings x m))) (purse_is purse p parts.0)
-        (subst (λ y. with_end r.moment (bindings_on purse y h) ≡ laid-on purse y (model.with_end r.moment (model-bindings purse y))) (name_is name m parts.1)
-        (ended-laid (model-bindings purse name) (s.sound.bindings purse name) (was_bound base h r.moment r.caller purse name unbound-accepted)))
-        ∙ sym (ap (laid-on p m) (bindings-snoc p m h unbound-record ∙ twice (same_purse purse p) (same_name name m) (model.with_end r.moment (model-bindings p m)) (model-bindings p m) ∙ ap (λ b. cond b (model.with_end r.moment (model-bindings p m)) (model-bindings p m)) e)))
-        (λ e. ap (λ b. if b then with_end r.moment (bindings_on p m h) else bindings_on p m h) e
-        ∙ sym (ap (laid-on p m) (bindings-snoc p m h unbound-record ∙ twice (same_purse purse p) (same_name name m) (model.with_end r.moment (model-bindings p m)) (model-bindings p m) ∙ ap (λ b. cond b (model.with_end r.moment (model-bindings p m)) (model-bindings p m)) e)))))
-      where
-        itself : (m : ℕ) → nat_le m m ≡ true
-        itself m = grind arith
-
-        same-either : {A : Type 0} (b : Bool) (x : A) → cond b x x ≡ x
-        same-either true x = refl
-        same-either false x = refl
-
-        model-bindings : Purse → List ℕ → List (Value ℕ)
-        model-bindings p m = Rattle.s4_types.specs.Bindings.bindings p m h
-
-        laid-on : (p : Purse) (m : List ℕ) → List (Value ℕ) → List Version
-        laid-on p m values = laid_by (λ serial. 64 + length m) (λ v. Some (item.Bind (object_in p v.value))) values
+        holds waits (ap (map (λ e. e.end)) waiting ∙ map-append (λ e. e.end) (waiting_in table) (record { end = r.moment; purse = purse; name = name } ∷ [])) others own
+        (λ p. names p ∙ s.partitions.names p
+        ∙ ap (λ f. filter f (names_of p h)) (λ i m. sym (ap is_any (held p m) ∙ any-end r.moment (same_purse purse p && same_name name m) (bindings_in chains table p m)) i)
+        ∙ ap (filter (λ m. is_any (bindings_in new table' p m))) (sym (names_of-snoc p h unbound-record ∙ unmoved (same_purse purse p) (names_of p h))))
+        (λ p m. swept_as (held p m) (unbound-on p m) (swept_if (same_purse purse p && same_name name m) (swept_end (horizon_now window h) r.moment _ _ (s.partitions.bindings p m)) (s.partitions.bindings p m))) (made ∙ same-count (item_count chains) (counted made_by unbound-record) refl))
 
 -- THE ADMINISTRATOR'S RECORDS
 
-unmoved : {A : Type 0} (b : Bool) (x : A) → cond b x x ≡ x
-unmoved true x = refl
-unmoved false x = refl
-
-module _ {chains : Chains Version} {found : ObjectId → Option Kept} {serials : Purse → ℕ} {table : Table} {h : List Record} (s : StandsFor chains found serials table h) {base : Base} {r : Record} (n : IsNext base h r) (granted : is_refused r.reply ≡ false) where
+module _ {window freed : ℕ} {chains : Chains Version} {kept : Objects} {serials : Purse → ℕ} {table : Table} {h : List Record} (s : StandsFor window freed chains kept serials table h) {base : Base} {r : Record} (n : IsNext base h r) (granted : is_refused r.reply ≡ false) where
   abbrev done-of : Request → Record
   done-of request = record { moment = r.moment; caller = r.caller; request = request; reply = Done }
 
@@ -313,19 +354,19 @@ module _ {chains : Chains Version} {found : ObjectId → Option Kept} {serials :
   done-is request asked told' = λ i. record { moment = r.moment; caller = r.caller; request = asked i; reply = (told-asked n granted request asked ∙ told') i }
 
   -- a record that sets a budget changes nothing of objects and names
-  pub stands_budget : {purse : Purse} {budget : ℕ} → r.request ≡ SetBudget purse budget → IsSound (h ++ r ∷ []) → StandsFor chains found serials table (h ++ r ∷ [])
+  pub stands_budget : {purse : Purse} {budget : ℕ} → r.request ≡ SetBudget purse budget → IsSound (h ++ r ∷ []) → StandsFor window freed chains kept serials table (h ++ r ∷ [])
   stands_budget {purse} {budget} asked sound =
       let set : Record = done-of (SetBudget purse budget) in
       let is : r ≡ set = done-is (SetBudget purse budget) asked (budget-done base h r.moment r.caller purse budget (accepted-asked n granted (SetBudget purse budget) asked)) in
-      subst (λ x. StandsFor chains found serials table (h ++ x ∷ [])) (sym is)
+      subst (λ x. StandsFor window freed chains kept serials table (h ++ x ∷ [])) (sym is)
       (stands_still s set (subst (λ x. IsSound (h ++ x ∷ [])) is sound) (λ q. refl) refl (λ q. refl) (λ q. refl) (λ q old. refl) (λ q old. refl) (λ q old. refl)
-      (record { bindings = λ p m old. unmoved (concerns p set) old; names = λ p old. unmoved (concerns p set) old }))
+      (record { bindings = λ p m old. unmoved (concerns p set) old; names = λ p old. unmoved (concerns p set) old }) (record { made = refl; values = refl; bindings = refl }))
 
   -- nor does one that sets the window
-  pub stands_window : {ticks : ℕ} → r.request ≡ SetWindow ticks → IsSound (h ++ r ∷ []) → StandsFor chains found serials table (h ++ r ∷ [])
+  pub stands_window : {ticks : ℕ} → r.request ≡ SetWindow ticks → IsSound (h ++ r ∷ []) → StandsFor window freed chains kept serials table (h ++ r ∷ [])
   stands_window {ticks} asked sound =
       let set : Record = done-of (SetWindow ticks) in
       let is : r ≡ set = done-is (SetWindow ticks) asked (window-done base h r.moment r.caller ticks (accepted-asked n granted (SetWindow ticks) asked)) in
-      subst (λ x. StandsFor chains found serials table (h ++ x ∷ [])) (sym is)
+      subst (λ x. StandsFor window freed chains kept serials table (h ++ x ∷ [])) (sym is)
       (stands_still s set (subst (λ x. IsSound (h ++ x ∷ [])) is sound) (λ q. refl) refl (λ q. refl) (λ q. refl) (λ q old. refl) (λ q old. refl) (λ q old. refl)
-      (record { bindings = λ p m old. unmoved (concerns p set) old; names = λ p old. unmoved (concerns p set) old }))
+      (record { bindings = λ p m old. unmoved (concerns p set) old; names = λ p old. unmoved (concerns p set) old }) (record { made = refl; values = refl; bindings = refl }))

@@ -38,7 +38,7 @@ use Rattle.s4_objects.specs.declared.kept.Which.TheVariants as which
 use Rattle.s4_objects.specs.Chains.{same_which}
 use Rattle.s4_state.specs.Laid.{item_of, version_of, laid, versions_on}
 use Rattle.s4_state.specs.Sound.{IsSound, IsNext, IsTrack, TrackStands, DataFits, AttributesFit, AclFits, was_made, was_deleted}
-use Rattle.s4_state.specs.Stands.{MakesNone, RebindsNone, PutsOn, EndsAll}
+use Rattle.s4_state.specs.Stands.{MakesNone, RebindsNone, Counts, PutsOn, EndsAll}
 use Rattle.s4_state.proofs.Granting.{told, told-asked, accepted-asked, changed_by, changed-lives, changed-done, data-fit}
 use Rattle.s4_state.proofs.Living.{lives_at-now}
 use Rattle.s4_state.proofs.Reading.{data-in-force, attributes-in-force, acl-in-force}
@@ -174,20 +174,17 @@ module _ {base : Base} {h : List Record} {r : Record} (s : IsSound h) (n : IsNex
   accepted = accepted-asked n granted request asked
 
   -- the object lives
-  lives : lives_at r.moment o h ≡ true
-  lives = changed-lives base h r.moment r.caller request o accepted of_o
+  pub changed_lives : lives_at r.moment o h ≡ true
+  changed_lives = changed-lives base h r.moment r.caller request o accepted of_o
 
   alive : (was_made o h ≡ true) × (was_deleted o h ≡ false)
   alive =
-      let parts = both (was_made o h) (Rattle.std.proofs.Common.not (was_deleted o h)) (sym (lives_at-now r.moment (last_of h) o h n.later s.moments) ∙ lives) in
+      let parts = both (was_made o h) (Rattle.std.proofs.Common.not (was_deleted o h)) (sym (lives_at-now r.moment (last_of h) o h n.later s.moments) ∙ changed_lives) in
       (parts.0, turned (was_deleted o h) parts.1)
     where
       turned : (b : Bool) → Rattle.std.proofs.Common.not b ≡ true → b ≡ false
       turned true f = cc
       turned false f = refl
-
-  pub changed_made : was_made o h ≡ true
-  changed_made = alive.0
 
   plain : Record
   plain = record { moment = r.moment; caller = r.caller; request = request; reply = Done }
@@ -207,13 +204,13 @@ module _ {base : Base} {h : List Record} {r : Record} (s : IsSound h) (n : IsNex
   live-acl = let stands : TrackStands AclFits o h (versions acl_track o h) = s.tracks o which.Acl in live-track AclFits (was_made o h) (was_deleted o h) (last_of h) (versions acl_track o h) alive.0 alive.1 stands.shape
 
   pub current-data : live-data.newest.value ≡ data_of o r.moment h
-  current-data = data-in-force s o r.moment n.later lives live-data.newest live-data.past live-data.whole
+  current-data = data-in-force s o r.moment n.later changed_lives live-data.newest live-data.past live-data.whole
 
   pub current-attributes : live-attributes.newest.value ≡ attributes_of o r.moment h
-  current-attributes = attributes-in-force s o r.moment n.later lives live-attributes.newest live-attributes.past live-attributes.whole
+  current-attributes = attributes-in-force s o r.moment n.later changed_lives live-attributes.newest live-attributes.past live-attributes.whole
 
   pub current-acl : live-acl.newest.value ≡ acl_of o r.moment h
-  current-acl = acl-in-force s o r.moment n.later lives live-acl.newest live-acl.past live-acl.whole
+  current-acl = acl-in-force s o r.moment n.later changed_lives live-acl.newest live-acl.past live-acl.whole
 
 module _ (h : List Record) (t : ℕ) (caller : Caller) (o : ObjectId) where
   abbrev done : Request → Record
@@ -223,9 +220,9 @@ module _ (h : List Record) (t : ℕ) (caller : Caller) (o : ObjectId) where
       → ((p : Purse) → concerns p (done request) ≡ same_purse o.purse p) → is_create request ≡ false → ((q : ObjectId) → span_of q request ≡ None) → ((q : ObjectId) → is_deleted q request ≡ false)
       → ((q : ObjectId) (old : List ℕ) → model.data_effect q request old ≡ when (same_object o q) (f old))
       → ((q : ObjectId) (old : List ℕ) → model.attribute_effect q request old ≡ None) → ((q : ObjectId) (old : List AclEntry) → model.acl_effect q request old ≡ None)
-      → RebindsNone (done request)
+      → RebindsNone (done request) → Counts (done request) 1 1 0
       → PutsOn h (done request) o which.Data (item.Data (f live.newest.value))
-  puts-data request f live about kind plain undeleted does none keeps rebinds = record { makes = makes-none h (done request) o about (λ q. refl) kind; rebinds = rebinds; tracks = tracks }
+  puts-data request f live about kind plain undeleted does none keeps rebinds counts' = record { makes = makes-none h (done request) o about (λ q. refl) kind; rebinds = rebinds; counts = counts'; tracks = tracks }
     where
       tracks : (q : ObjectId) (u : Which) → versions_on u q (h ++ done request ∷ []) ≡ (if same_object o q && same_which which.Data u then with_put t (item.Data (f live.newest.value)) (versions_on u q h) else versions_on u q h)
       tracks q which.Data = then-both (same_object o q) _ _ _ (put-typed h (done request) o about (λ q. refl) kind plain data_track item.Data (λ x. refl) live f undeleted does q)
@@ -233,7 +230,7 @@ module _ (h : List Record) (t : ℕ) (caller : Caller) (o : ObjectId) where
       tracks q which.Acl = else-both (same_object o q) _ _ _ (ap (laid acl_track item.Acl) (idle h (done request) o about (λ q. refl) kind plain acl_track q (undeleted q) (keeps q)))
 
   puts-attributes : (bytes : List ℕ) (live : IsLive AttributesFit (versions attribute_track o h)) → PutsOn h (done (SetAttr o bytes)) o which.Attributes (item.Attr bytes)
-  puts-attributes bytes live = record { makes = makes-none h (done (SetAttr o bytes)) o (λ p. refl) (λ q. refl) refl; rebinds = rebinds-none (done (SetAttr o bytes)) (λ p n m old. refl) (λ p old. refl); tracks = tracks }
+  puts-attributes bytes live = record { makes = makes-none h (done (SetAttr o bytes)) o (λ p. refl) (λ q. refl) refl; rebinds = rebinds-none (done (SetAttr o bytes)) (λ p n m old. refl) (λ p old. refl); counts = record { made = refl; values = refl; bindings = refl }; tracks = tracks }
     where
       tracks : (q : ObjectId) (u : Which) → versions_on u q (h ++ done (SetAttr o bytes) ∷ []) ≡ (if same_object o q && same_which which.Attributes u then with_put t (item.Attr bytes) (versions_on u q h) else versions_on u q h)
       tracks q which.Attributes = then-both (same_object o q) _ _ _ (put-typed h (done (SetAttr o bytes)) o (λ p. refl) (λ q. refl) refl (λ q. refl) attribute_track item.Attr (λ x. refl) live (λ old. bytes) (λ q. refl) (λ q old. refl) q)
@@ -241,7 +238,7 @@ module _ (h : List Record) (t : ℕ) (caller : Caller) (o : ObjectId) where
       tracks q which.Acl = else-both (same_object o q) _ _ _ (ap (laid acl_track item.Acl) (idle h (done (SetAttr o bytes)) o (λ p. refl) (λ q. refl) refl (λ q. refl) acl_track q refl (λ old. refl)))
 
   puts-acl : (user rights : ℕ) (live : IsLive AclFits (versions acl_track o h)) → PutsOn h (done (SetAcl o user rights)) o which.Acl (item.Acl (acl_with user rights live.newest.value))
-  puts-acl user rights live = record { makes = makes-none h (done (SetAcl o user rights)) o (λ p. refl) (λ q. refl) refl; rebinds = rebinds-none (done (SetAcl o user rights)) (λ p n m old. refl) (λ p old. refl); tracks = tracks }
+  puts-acl user rights live = record { makes = makes-none h (done (SetAcl o user rights)) o (λ p. refl) (λ q. refl) refl; rebinds = rebinds-none (done (SetAcl o user rights)) (λ p n m old. refl) (λ p old. refl); counts = record { made = refl; values = refl; bindings = refl }; tracks = tracks }
     where
       tracks : (q : ObjectId) (u : Which) → versions_on u q (h ++ done (SetAcl o user rights) ∷ []) ≡ (if same_object o q && same_which which.Acl u then with_put t (item.Acl (acl_with user rights live.newest.value)) (versions_on u q h) else versions_on u q h)
       tracks q which.Acl = then-both (same_object o q) _ _ _ (put-typed h (done (SetAcl o user rights)) o (λ p. refl) (λ q. refl) refl (λ q. refl) acl_track item.Acl (λ x. refl) live (acl_with user rights) (λ q. refl) (λ q old. refl) q)
@@ -249,7 +246,7 @@ module _ (h : List Record) (t : ℕ) (caller : Caller) (o : ObjectId) where
       tracks q which.Attributes = else-both (same_object o q) _ _ _ (ap (laid attribute_track item.Attr) (idle h (done (SetAcl o user rights)) o (λ p. refl) (λ q. refl) refl (λ q. refl) attribute_track q refl (λ old. refl)))
 
   ends-all : IsLive DataFits (versions data_track o h) → IsLive AttributesFit (versions attribute_track o h) → IsLive AclFits (versions acl_track o h) → EndsAll h (done (Delete o)) o
-  ends-all a b c = record { makes = makes-none h (done (Delete o)) o (λ p. refl) (λ q. refl) refl; rebinds = rebinds-none (done (Delete o)) (λ p n m old. refl) (λ p old. refl); tracks = tracks }
+  ends-all a b c = record { makes = makes-none h (done (Delete o)) o (λ p. refl) (λ q. refl) refl; rebinds = rebinds-none (done (Delete o)) (λ p n m old. refl) (λ p old. refl); counts = record { made = refl; values = refl; bindings = refl }; tracks = tracks }
     where
       tracks : (q : ObjectId) (u : Which) → versions_on u q (h ++ done (Delete o) ∷ []) ≡ (if same_object o q then with_end t (versions_on u q h) else versions_on u q h)
       tracks q which.Data = end-typed h (done (Delete o)) o (λ p. refl) (λ q. refl) refl (λ q. refl) data_track item.Data (λ x. refl) a (λ q. refl) (λ q old. refl) q
@@ -263,7 +260,7 @@ module _ {base : Base} {h : List Record} {r : Record} (s : IsSound h) (n : IsNex
       subst (λ old. PutsOn h r o which.Data (item.Data (written offset bytes old))) (current-data s n granted o (Write o offset bytes) asked refl)
       (subst (λ p. PutsOn h p o which.Data (item.Data (written offset bytes live.newest.value))) (sym (is-plain s n granted o (Write o offset bytes) asked refl))
       (puts-data h r.moment r.caller o (Write o offset bytes) (written offset bytes) live (λ p. refl) refl (λ q. refl) (λ q. refl) (λ q old. refl) (λ q old. refl) (λ q old. refl)
-      (rebinds-none (done h r.moment r.caller o (Write o offset bytes)) (λ p n m old. refl) (λ p old. refl))))
+      (rebinds-none (done h r.moment r.caller o (Write o offset bytes)) (λ p n m old. refl) (λ p old. refl)) (record { made = refl; values = refl; bindings = refl })))
 
   -- and what it leaves fits
   pub write_fits : (offset : ℕ) (bytes : List ℕ) → r.request ≡ Write o offset bytes → DataFits (written offset bytes (data_of o r.moment h))
@@ -279,7 +276,7 @@ module _ {base : Base} {h : List Record} {r : Record} (s : IsSound h) (n : IsNex
       subst (λ old. PutsOn h r o which.Data (item.Data (old ++ bytes))) (current-data s n granted o (Append o bytes) asked refl)
       (subst (λ p. PutsOn h p o which.Data (item.Data (live.newest.value ++ bytes))) (sym (is-plain s n granted o (Append o bytes) asked refl))
       (puts-data h r.moment r.caller o (Append o bytes) (λ old. old ++ bytes) live (λ p. refl) refl (λ q. refl) (λ q. refl) (λ q old. refl) (λ q old. refl) (λ q old. refl)
-      (rebinds-none (done h r.moment r.caller o (Append o bytes)) (λ p n m old. refl) (λ p old. refl))))
+      (rebinds-none (done h r.moment r.caller o (Append o bytes)) (λ p n m old. refl) (λ p old. refl)) (record { made = refl; values = refl; bindings = refl })))
 
   pub truncate_puts : (length : ℕ) → r.request ≡ Truncate o length → PutsOn h r o which.Data (item.Data (of_length length (data_of o r.moment h)))
   truncate_puts length asked =
@@ -287,7 +284,7 @@ module _ {base : Base} {h : List Record} {r : Record} (s : IsSound h) (n : IsNex
       subst (λ old. PutsOn h r o which.Data (item.Data (of_length length old))) (current-data s n granted o (Truncate o length) asked refl)
       (subst (λ p. PutsOn h p o which.Data (item.Data (of_length length live.newest.value))) (sym (is-plain s n granted o (Truncate o length) asked refl))
       (puts-data h r.moment r.caller o (Truncate o length) (of_length length) live (λ p. refl) refl (λ q. refl) (λ q. refl) (λ q old. refl) (λ q old. refl) (λ q old. refl)
-      (rebinds-none (done h r.moment r.caller o (Truncate o length)) (λ p n m old. refl) (λ p old. refl))))
+      (rebinds-none (done h r.moment r.caller o (Truncate o length)) (λ p n m old. refl) (λ p old. refl)) (record { made = refl; values = refl; bindings = refl })))
 
   pub set_attributes_puts : (bytes : List ℕ) → r.request ≡ SetAttr o bytes → PutsOn h r o which.Attributes (item.Attr bytes)
   set_attributes_puts bytes asked =
@@ -349,6 +346,7 @@ module _ (h : List Record) (t : ℕ) (caller : Caller) (number : ℕ) where
     acl_here = made-here acl_track;
     elsewhere = elsewhere;
     rebinds = rebinds-none creation (λ p n m old. refl) (λ p old. refl);
+    counts = record { made = refl; values = refl; bindings = refl };
   }
     where
       elsewhere : (q : ObjectId) (w : Which) → same_object new_object q ≡ false → versions_on w q (h ++ creation ∷ []) ≡ versions_on w q h

@@ -1,6 +1,6 @@
 -- What is kept stands for a history with a flush more.
 use Rattle.std.proofs.Common.{◌≡◌, ℕ, Bool, true, false, Option, Some, None, List, [], ◌∷◌, ◌++◌, refl, sym, ◌∙◌, ap, subst}
-use Rattle.std.specs.Prelude.{◌||◌, ◌==◌, map, if◌then◌else◌}
+use Rattle.std.specs.Prelude.{◌||◌, map, if◌then◌else◌}
 use Rattle.std.proofs.lemmas.Bool.{eqb-true}
 use Rattle.s4_types.specs.declared.object.Purse.{Purse}
 use Rattle.s4_types.specs.declared.object.ObjectId.{ObjectId}
@@ -17,23 +17,27 @@ use Rattle.s4_types.specs.Kinds.{is_refused, concerns}
 use Rattle.s4_types.specs.Base.{Base}
 use Rattle.s4_types.specs.Versions.{when, Track, Value, Span, versions, flushed_by, data_track, attribute_track, acl_track}
 use Rattle.s4_types.specs.Versions as model
-use Rattle.s4_types.proofs.Booleans.{by_test, &&-false}
+use Rattle.s4_types.proofs.Booleans.{&&-false}
 use Rattle.s4_types.proofs.Erasing.{versions-flush, versions-flush-one}
 use Rattle.s4_store.specs.Chains.{Chains}
 use Rattle.s4_tracks.specs.Chain.{is_within, erased, flushed_one, flushed}
+use Rattle.s4_tracks.specs.Swept.{IsSwept}
+use Rattle.s4_tracks.proofs.Sweeping.{swept_flush}
 use Rattle.s4_parts.specs.declared.parts.Parts.{Parts as Table}
+use Rattle.s4_parts.specs.Waiting.{waiting_in}
 use Rattle.s4_objects.specs.declared.flushes.Refund.{Refund}
 use Rattle.s4_objects.specs.declared.kept.Which.{Which}
 use Rattle.s4_objects.specs.declared.kept.Which.TheVariants as which
-use Rattle.s4_objects.specs.declared.kept.Kept.{Kept}
-use Rattle.s4_objects.specs.Chains.{chain_of, Chained}
+use Rattle.s4_objects.specs.declared.objects.Objects.{Objects}
 use Rattle.s4_objects.specs.Flushes.{flushed_on, Flushes}
+use Rattle.s4_objects.specs.Table.{found_in, held_in, ends_in, Holds}
 use Rattle.s4_state.specs.Laid.{version_of, laid, versions_on}
 use Rattle.s4_state.specs.Sound.{IsSound, IsNext}
-use Rattle.s4_state.specs.Stands.{StandsFor, NamesStand, MakesNone, RebindsNone}
+use Rattle.s4_state.specs.Stands.{horizon_now, StandsFor, NamesStand, MakesNone, RebindsNone, Counts}
 use Rattle.s4_state.proofs.Granting.{told, told-asked, accepted-asked, flush-done, flush_one-done, flush-asker}
-use Rattle.s4_state.proofs.Naming.{names_with, names_over, last-up}
-use Rattle.s4_state.proofs.Standing.{stands_on}
+use Rattle.s4_state.proofs.Naming.{names_with, names_over}
+use Rattle.s4_state.proofs.Standing.{swept_as, swept_if, horizon_up, objects_next, none-made, stands_on}
+use Rattle.s4_state.proofs.Waiting.{no-more}
 
 -- VALUES AND VERSIONS
 
@@ -79,24 +83,29 @@ unmoved : {A : Type 0} (b : Bool) (x : A) → (if b then x else x) ≡ x
 unmoved true x = refl
 unmoved false x = refl
 
-module _ {chains : Chains Version} {found : ObjectId → Option Kept} {serials : Purse → ℕ} {table : Table} {h : List Record} (s : StandsFor chains found serials table h) {new : Chains Version} {asked : ObjectId → Bool} {from to : ℕ} {refunds : List Refund} (f : Flushes chains new found asked from to refunds) where
-  chained-flushed : Chained new found
-  chained-flushed = record { opened = λ o k w got. f.still (chain_of w k) (s.chained.opened o k w got); apart = s.chained.apart }
+-- what is held of a track is flushed as all of it is
+flushed-left : {hz : ℕ} (from to : ℕ) (w : Which) {held all : List Version} → IsSwept hz held all → IsSwept hz (flushed_on from to w held) (flushed_on from to w all)
+flushed-left {hz} from to which.Data s = swept_flush hz from to _ _ s
+flushed-left {hz} from to which.Attributes s = swept_flush hz from to _ _ s
+flushed-left from to which.Acl s = s
 
-  names-flushed : NamesStand new found table h
-  names-flushed = names_over s.partitions new found (record {
+module _ {window freed : ℕ} {chains : Chains Version} {kept : Objects} {serials : Purse → ℕ} {table : Table} {h : List Record} (s : StandsFor window freed chains kept serials table h) {new : Chains Version} {asked : ObjectId → Bool} {from to : ℕ} {refunds : List Refund} (f : Flushes chains new (found_in kept) asked from to refunds) where
+  names-flushed : NamesStand (horizon_now window h) new kept table h
+  names-flushed = names_over s.partitions new kept (record {
     opened = λ p n c got. f.still c (s.partitions.holds.opened p n c got);
-    items = λ p n c got. f.others c (λ o k w kept. by_test (c == chain_of w k)
-        (λ e. absurd (s.partitions.apart o k w kept p n (got ∙ ap (λ x. Some x) (eqb-true c (chain_of w k) e))))
-        (λ e. e));
+    items = λ p n c got. f.others c (λ o k w is. s.partitions.apart p n c got o k w is);
   }) s.partitions.apart
 
-  stands_flushed : (r : Record) → IsSound (h ++ r ∷ []) → MakesNone r → RebindsNone r
-      → ((o : ObjectId) (w : Which) → versions_on w o (h ++ r ∷ []) ≡ (if asked o then flushed_on from to w (versions_on w o h) else versions_on w o h))
-      → StandsFor new found serials table (h ++ r ∷ [])
-  stands_flushed r sound none rebinds tracks = stands_on s r sound none chained-flushed
-      (λ o w. f.tracks o w ∙ ap (λ vs. if asked o then flushed_on from to w vs else vs) (s.tracks o w) ∙ sym (tracks o w))
-      (names_with names-flushed r (last-up h r sound.moments) rebinds)
+  -- by what the flush leaves of all versions
+  module _ (r : Record) (tracks : (o : ObjectId) (w : Which) → versions_on w o (h ++ r ∷ []) ≡ (if asked o then flushed_on from to w (versions_on w o h) else versions_on w o h)) where
+    tracks-left : (o : ObjectId) (w : Which) → IsSwept (horizon_now window h) (held_in new kept o w) (versions_on w o (h ++ r ∷ []))
+    tracks-left o w = swept_as (f.tracks o w) (tracks o w) (swept_if (asked o) (flushed-left from to w (s.objects.tracks o w)) (s.objects.tracks o w))
+
+    stands_flushed : Holds new kept → IsSound (h ++ r ∷ []) → MakesNone r → RebindsNone r → Counts r 0 0 0 → StandsFor window freed new kept serials table (h ++ r ∷ [])
+    stands_flushed holds sound none rebinds counts = stands_on s r sound none
+        (objects_next s r sound holds (λ o. refl) none tracks-left (no-more (ends_in kept) r.moment counts.values))
+        (names_with names-flushed r (horizon_up s r sound) rebinds counts.bindings)
+        (f.used ∙ none-made s r sound counts.made) (no-more (ends_in kept) r.moment counts.values) (no-more (map (λ e. e.end) (waiting_in table)) r.moment counts.bindings)
 
 -- a flush that was carried out makes and binds nothing
 module _ (t : ℕ) (caller : Caller) where
@@ -127,24 +136,37 @@ flush_one-tracks h t caller p from to o which.Data = ap (laid data_track item.Da
 flush_one-tracks h t caller p from to o which.Attributes = ap (laid attribute_track item.Attr) (versions-flush-one attribute_track o h t 0 from to caller p (λ old. refl)) ∙ flushed-if attribute_track item.Attr from to (same_object p o) (versions attribute_track o h)
 flush_one-tracks h t caller p from to o which.Acl = ap (laid acl_track item.Acl) (versions-flush-one acl_track o h t 0 from to caller p (λ old. refl)) ∙ kept-if acl_track item.Acl from to (same_object p o) (versions acl_track o h)
 
-module _ {chains : Chains Version} {found : ObjectId → Option Kept} {serials : Purse → ℕ} {table : Table} {h : List Record} (s : StandsFor chains found serials table h) {base : Base} {r : Record} (n : IsNext base h r) (granted : is_refused r.reply ≡ false) (sound : IsSound (h ++ r ∷ [])) {new : Chains Version} {from to : ℕ} {refunds : List Refund} where
+module _ {window freed : ℕ} {chains : Chains Version} {kept : Objects} {serials : Purse → ℕ} {table : Table} {h : List Record} (s : StandsFor window freed chains kept serials table h) {base : Base} {r : Record} (n : IsNext base h r) (granted : is_refused r.reply ≡ false) {new : Chains Version} {from to : ℕ} {refunds : List Refund} where
   -- a flush of all objects
-  pub stands_flush : r.request ≡ Flush from to → Flushes chains new found (λ o. true) from to refunds → StandsFor new found serials table (h ++ r ∷ [])
-  stands_flush asked f =
-      let accepted : is_refused (told base h r.moment r.caller (Flush from to)) ≡ false = accepted-asked n granted (Flush from to) asked in
-      let told' : r.reply ≡ Done = told-asked n granted (Flush from to) asked ∙ flush-done base h r.moment r.caller from to accepted in
-      let asker : r.caller.who ≡ 0 = eqb-true r.caller.who 0 (flush-asker base h r.moment r.caller from to accepted) in
-      let admin : Caller = record { who = 0; client = r.caller.client } in
-      let is : r ≡ flush_of r.moment admin (Flush from to) = λ i. record { moment = r.moment; caller = record { who = asker i; client = r.caller.client }; request = asked i; reply = told' i } in
-      subst (λ x. StandsFor new found serials table (h ++ x ∷ [])) (sym is)
-      (stands_flushed s f (flush_of r.moment admin (Flush from to)) (subst (λ x. IsSound (h ++ x ∷ [])) is sound)
-      (flush-makes r.moment admin from to) (flush-rebinds r.moment admin from to) (flush-tracks h r.moment r.caller.client from to))
+  module _ (asked : r.request ≡ Flush from to) (f : Flushes chains new (found_in kept) (λ o. true) from to refunds) where
+    flush-is : r ≡ flush_of r.moment (record { who = 0; client = r.caller.client }) (Flush from to)
+    flush-is =
+        let accepted : is_refused (told base h r.moment r.caller (Flush from to)) ≡ false = accepted-asked n granted (Flush from to) asked in
+        let told' : r.reply ≡ Done = told-asked n granted (Flush from to) asked ∙ flush-done base h r.moment r.caller from to accepted in
+        let asker : r.caller.who ≡ 0 = eqb-true r.caller.who 0 (flush-asker base h r.moment r.caller from to accepted) in
+        λ i. record { moment = r.moment; caller = record { who = asker i; client = r.caller.client }; request = asked i; reply = told' i }
+
+    pub flush_left : (o : ObjectId) (w : Which) → IsSwept (horizon_now window h) (held_in new kept o w) (versions_on w o (h ++ r ∷ []))
+    flush_left o w = subst (λ x. IsSwept (horizon_now window h) (held_in new kept o w) (versions_on w o (h ++ x ∷ []))) (sym flush-is)
+        (tracks-left s f (flush_of r.moment (record { who = 0; client = r.caller.client }) (Flush from to)) (flush-tracks h r.moment r.caller.client from to) o w)
+
+    pub stands_flush : Holds new kept → IsSound (h ++ r ∷ []) → StandsFor window freed new kept serials table (h ++ r ∷ [])
+    stands_flush holds sound = subst (λ x. StandsFor window freed new kept serials table (h ++ x ∷ [])) (sym flush-is)
+        (stands_flushed s f (flush_of r.moment (record { who = 0; client = r.caller.client }) (Flush from to)) (flush-tracks h r.moment r.caller.client from to) holds (subst (λ x. IsSound (h ++ x ∷ [])) flush-is sound)
+        (flush-makes r.moment (record { who = 0; client = r.caller.client }) from to) (flush-rebinds r.moment (record { who = 0; client = r.caller.client }) from to) (record { made = refl; values = refl; bindings = refl }))
 
   -- a flush of one object
-  pub stands_flush_one : (o : ObjectId) → r.request ≡ FlushO o from to → Flushes chains new found (same_object o) from to refunds → StandsFor new found serials table (h ++ r ∷ [])
-  stands_flush_one o asked f =
-      let told' : r.reply ≡ Done = told-asked n granted (FlushO o from to) asked ∙ flush_one-done base h r.moment r.caller o from to (accepted-asked n granted (FlushO o from to) asked) in
-      let is : r ≡ flush_of r.moment r.caller (FlushO o from to) = λ i. record { moment = r.moment; caller = r.caller; request = asked i; reply = told' i } in
-      subst (λ x. StandsFor new found serials table (h ++ x ∷ [])) (sym is)
-      (stands_flushed s f (flush_of r.moment r.caller (FlushO o from to)) (subst (λ x. IsSound (h ++ x ∷ [])) is sound)
-      (flush_one-makes r.moment r.caller o from to) (flush_one-rebinds r.moment r.caller o from to) (flush_one-tracks h r.moment r.caller o from to))
+  module _ (o : ObjectId) (asked : r.request ≡ FlushO o from to) (f : Flushes chains new (found_in kept) (same_object o) from to refunds) where
+    flush_one-is : r ≡ flush_of r.moment r.caller (FlushO o from to)
+    flush_one-is =
+        let told' : r.reply ≡ Done = told-asked n granted (FlushO o from to) asked ∙ flush_one-done base h r.moment r.caller o from to (accepted-asked n granted (FlushO o from to) asked) in
+        λ i. record { moment = r.moment; caller = r.caller; request = asked i; reply = told' i }
+
+    pub flush_one_left : (q : ObjectId) (w : Which) → IsSwept (horizon_now window h) (held_in new kept q w) (versions_on w q (h ++ r ∷ []))
+    flush_one_left q w = subst (λ x. IsSwept (horizon_now window h) (held_in new kept q w) (versions_on w q (h ++ x ∷ []))) (sym flush_one-is)
+        (tracks-left s f (flush_of r.moment r.caller (FlushO o from to)) (flush_one-tracks h r.moment r.caller o from to) q w)
+
+    pub stands_flush_one : Holds new kept → IsSound (h ++ r ∷ []) → StandsFor window freed new kept serials table (h ++ r ∷ [])
+    stands_flush_one holds sound = subst (λ x. StandsFor window freed new kept serials table (h ++ x ∷ [])) (sym flush_one-is)
+        (stands_flushed s f (flush_of r.moment r.caller (FlushO o from to)) (flush_one-tracks h r.moment r.caller o from to) holds (subst (λ x. IsSound (h ++ x ∷ [])) flush_one-is sound)
+        (flush_one-makes r.moment r.caller o from to) (flush_one-rebinds r.moment r.caller o from to) (record { made = refl; values = refl; bindings = refl }))

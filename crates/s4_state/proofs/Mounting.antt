@@ -1,5 +1,5 @@
 -- The page of a drive's partitions is that of the definition.
-use Rattle.std.proofs.Common.{◌≡◌, ℕ, ◌≤◌, Option, Some, None, List, refl, ◌∙◌, ap, filter, filter_map, flat_map}
+use Rattle.std.proofs.Common.{◌≡◌, ℕ, ◌≤◌, false, Option, Some, None, List, [], ◌∷◌, refl, ◌∙◌, ap, filter, filter_map, flat_map}
 use Rattle.std.specs.Prelude.{Result, Ok, Err}
 use Rattle.std.specs.Option.{option_map}
 use Rattle.s4_types.specs.declared.principal.Caller.{Caller}
@@ -12,18 +12,20 @@ use Rattle.s4_types.specs.declared.request.After.{After}
 use Rattle.s4_types.specs.declared.record.Record.{Record}
 use Rattle.s4_types.specs.declared.version.Version.{Version}
 use Rattle.s4_types.specs.Names.{object_in}
-use Rattle.s4_types.specs.Bindings.{bound_at}
+use Rattle.s4_types.specs.Bindings.{bound_at, names_of}
 use Rattle.s4_types.specs.Judgement.{judge}
 use Rattle.s4_types.specs.Answer.{moment_of, is_after, line_where, line_of_bound, line_of, lines_in, purse_numbers}
 use Rattle.s4_types.specs.Play.{last_of}
 use Rattle.s4_store.specs.Chains.{Chains}
 use Rattle.s4_parts.specs.declared.parts.Parts.{Parts as Table}
-use Rattle.s4_parts.specs.Table.{names_in, bindings_in}
+use Rattle.s4_tracks.specs.Swept.{IsFrom}
+use Rattle.s4_parts.specs.Table.{bindings_in, is_any}
 use Rattle.s4_parts.specs.Page as page
-use Rattle.s4_objects.specs.declared.kept.Kept.{Kept}
+use Rattle.s4_objects.specs.declared.objects.Objects.{Objects}
 use Rattle.s4_state.specs.Shown.{granted, grant_of}
-use Rattle.s4_state.specs.Stands.{StandsFor}
+use Rattle.s4_state.specs.Stands.{horizon_now, StandsFor}
 use Rattle.s4_state.proofs.Binding.{bound-in}
+use Rattle.s4_state.proofs.Left.{lines-filter}
 
 line-granted : (name : List ℕ) (o : ObjectId) (r : Result Grant Refusal) → page.line_with name o (grant_of r) ≡ line_where name o r
 line-granted name o (Ok grant) = refl
@@ -34,16 +36,24 @@ line-bound : (h : List Record) (t : ℕ) (caller : Caller) (at : Option ℕ) (pu
 line-bound h t caller at purse name None = refl
 line-bound h t caller at purse name (Some serial) = line-granted name (object_in purse serial) (judge h t caller (object_in purse serial) right.Read at)
 
-module _ {chains : Chains Version} {found : ObjectId → Option Kept} {serials : Purse → ℕ} {table : Table} {h : List Record} (s : StandsFor chains found serials table h) (t : ℕ) (later : last_of h ≤ t) (caller : Caller) where
-  line-is : (at : Option ℕ) (purse : Purse) (name : List ℕ) → page.line_of (granted h t caller at) at name (bindings_in chains table purse name) ≡ line_of h t caller at purse name
-  line-is at purse name = ap (page.line_to (granted h t caller at) name) (bound-in s purse name t later at) ∙ line-bound h t caller at purse name (bound_at purse name (moment_of t at) h)
+module _ {window freed : ℕ} {chains : Chains Version} {kept : Objects} {serials : Purse → ℕ} {table : Table} {h : List Record} (s : StandsFor window freed chains kept serials table h) (t : ℕ) (later : last_of h ≤ t) (caller : Caller) where
+  line-is : (at : Option ℕ) → IsFrom (horizon_now window h) at → (purse : Purse) (name : List ℕ) → page.line_of (granted h t caller at) at name (bindings_in chains table purse name) ≡ line_of h t caller at purse name
+  line-is at from purse name = ap (page.line_to (granted h t caller at) name) (bound-in s purse name t later at from) ∙ line-bound h t caller at purse name (bound_at purse name (moment_of t at) h)
 
-  lines-are : (range : ℕ) (after : Option After) (at : Option ℕ) (number : ℕ) → page.lines_in chains table (granted h t caller at) range after at number ≡ lines_in h t caller range after at number
-  lines-are range after at number =
+  -- a name without bindings has no line
+  line-none : (at : Option ℕ) (name : List ℕ) (vs : List Version) → is_any vs ≡ false → page.line_of (granted h t caller at) at name vs ≡ None
+  line-none None name [] e = refl
+  line-none (Some m) name [] e = refl
+  line-none at name (v ∷ vs) e = cc
+
+  lines-are : (range : ℕ) (after : Option After) (at : Option ℕ) → IsFrom (horizon_now window h) at → (number : ℕ) → page.lines_in chains table (granted h t caller at) range after at number ≡ lines_in h t caller range after at number
+  lines-are range after at from number =
       let purse : Purse = record { creator = range; number = number } in
-      ap (λ f. filter_map f (filter (is_after after number) (names_in chains table purse))) (λ i name. line-is at purse name i)
-      ∙ ap (λ names. filter_map (line_of h t caller at purse) (filter (is_after after number) names)) (s.partitions.names purse)
+      ap (λ names. filter_map (λ name. page.line_of (granted h t caller at) at name (bindings_in chains table purse name)) (filter (is_after after number) names)) (s.partitions.names purse)
+      ∙ lines-filter (λ name. page.line_of (granted h t caller at) at name (bindings_in chains table purse name)) (is_after after number) (λ n. is_any (bindings_in chains table purse n)) (names_of purse h)
+      (λ name e. line-none at name (bindings_in chains table purse name) e)
+      ∙ ap (λ f. filter_map f (filter (is_after after number) (names_of purse h))) (λ i name. line-is at from purse name i)
 
   -- all lines that a page is cut from
-  pub all-lines : (range : ℕ) (after : Option After) (at : Option ℕ) → page.lines_of chains table (granted h t caller at) range after at ≡ flat_map (lines_in h t caller range after at) purse_numbers
-  all-lines range after at = ap (λ f. flat_map f purse_numbers) (λ i number. lines-are range after at number i)
+  pub all-lines : (range : ℕ) (after : Option After) (at : Option ℕ) → IsFrom (horizon_now window h) at → page.lines_of chains table (granted h t caller at) range after at ≡ flat_map (lines_in h t caller range after at) purse_numbers
+  all-lines range after at from = ap (λ f. flat_map f purse_numbers) (λ i number. lines-are range after at from number i)

@@ -19,17 +19,19 @@ use Rattle.s4_types.specs.Erased.{is_whole}
 use Rattle.s4_types.proofs.Booleans.{both}
 use Rattle.s4_types.proofs.Erasing.{acls-whole, unended-whole}
 use Rattle.s4_types.proofs.Snoc.{newest-snoc}
-use Rattle.s4_store.specs.Chains.{Chains, items_of}
+use Rattle.s4_store.specs.Chains.{Chains}
 use Rattle.s4_tracks.specs.Chain.{newer, latest, unended, in_force, endless, current_of, version_in}
+use Rattle.s4_tracks.specs.Swept.{IsFrom}
+use Rattle.s4_tracks.proofs.Sweeping.{swept_version_in}
 use Rattle.s4_objects.specs.declared.kept.Which.{Which}
 use Rattle.s4_objects.specs.declared.kept.Which.TheVariants as which
 use Rattle.s4_parts.specs.declared.parts.Parts.{Parts as Table}
-use Rattle.s4_objects.specs.declared.kept.Kept.{Kept}
-use Rattle.s4_state.specs.Held.{bytes_of_item, bytes_in, held_of_item, held_in}
-use Rattle.s4_objects.specs.Chains.{chain_of, held}
-use Rattle.s4_state.specs.Laid.{item_of, version_by, laid_by, version_of, laid, version_at}
+use Rattle.s4_objects.specs.declared.objects.Objects.{Objects}
+use Rattle.s4_state.specs.Held.{bytes_of_item, bytes_in, held_of_item, held_in as acl_in}
+use Rattle.s4_objects.specs.Table.{held_in}
+use Rattle.s4_state.specs.Laid.{item_of, version_by, laid_by, version_of, laid, versions_on, version_at}
 use Rattle.s4_state.specs.Sound.{IsSound, IsTrack, TrackStands, DataFits, AttributesFit, AclFits, was_made, was_deleted}
-use Rattle.s4_state.specs.Stands.{StandsFor}
+use Rattle.s4_state.specs.Stands.{horizon_now, StandsFor}
 
 -- FROM VALUES TO VERSIONS
 
@@ -111,39 +113,55 @@ attributes-in-force s o t later lives v past is = sym (ap value_or_empty (newest
 pub acl-in-force : {h : List Record} → IsSound h → (o : ObjectId) (t : ℕ) → last_of h ≤ t → lives_at t o h ≡ true → (v : Value (List AclEntry)) (past : List (Value (List AclEntry))) → versions acl_track o h ≡ v ∷ past → v.value ≡ acl_of o t h
 acl-in-force s o t later lives v past is = sym (ap value_or_empty (newest-in-force acl_track AclFits o (s.tracks o which.Acl) t later lives v past is))
 
--- FROM CHAINS
+-- FROM WHAT IS KEPT
 
-module _ {chains : Chains Version} {found : ObjectId → Option Kept} {serials : Purse → ℕ} {table : Table} {h : List Record} (s : StandsFor chains found serials table h) (o : ObjectId) where
+is_some-map : {A B : Type 0} (f : A → B) (x : Option A) → is_some (option_map f x) ≡ is_some x
+is_some-map f None = refl
+is_some-map f (Some x) = refl
+
+module _ {h : List Record} (s : IsSound h) (o : ObjectId) where
   -- at a moment
-  pub held-at : (m : ℕ) (w : Which) → in_force m (held chains (found o) w) ≡ version_at w o m h
-  held-at m which.Data = ap (in_force m) (s.tracks o which.Data) ∙ in_force-laid data_track.cost (item_of item.Data) m (versions data_track o h) ∙ ap (option_map (version_of data_track item.Data)) (sym (value_at-held data_track DataFits o h m (s.sound.tracks o which.Data)))
-  held-at m which.Attributes = ap (in_force m) (s.tracks o which.Attributes) ∙ in_force-laid attribute_track.cost (item_of item.Attr) m (versions attribute_track o h) ∙ ap (option_map (version_of attribute_track item.Attr)) (sym (value_at-held attribute_track AttributesFit o h m (s.sound.tracks o which.Attributes)))
-  held-at m which.Acl = ap (in_force m) (s.tracks o which.Acl) ∙ in_force-laid acl_track.cost (item_of item.Acl) m (versions acl_track o h) ∙ ap (option_map (version_of acl_track item.Acl)) (sym (value_at-held acl_track AclFits o h m (s.sound.tracks o which.Acl)))
+  all-at : (m : ℕ) (w : Which) → in_force m (versions_on w o h) ≡ version_at w o m h
+  all-at m which.Data = in_force-laid data_track.cost (item_of item.Data) m (versions data_track o h) ∙ ap (option_map (version_of data_track item.Data)) (sym (value_at-held data_track DataFits o h m (s.tracks o which.Data)))
+  all-at m which.Attributes = in_force-laid attribute_track.cost (item_of item.Attr) m (versions attribute_track o h) ∙ ap (option_map (version_of attribute_track item.Attr)) (sym (value_at-held attribute_track AttributesFit o h m (s.tracks o which.Attributes)))
+  all-at m which.Acl = in_force-laid acl_track.cost (item_of item.Acl) m (versions acl_track o h) ∙ ap (option_map (version_of acl_track item.Acl)) (sym (value_at-held acl_track AclFits o h m (s.tracks o which.Acl)))
 
   -- now
-  pub held-now : (t : ℕ) → last_of h ≤ t → (w : Which) → current_of (held chains (found o) w) ≡ version_at w o t h
-  held-now t l which.Data = ap current_of (s.tracks o which.Data)
-      ∙ current-laid data_track item.Data DataFits (was_made o h) (was_deleted o h) (last_of h) t (versions data_track o h) l (shape-of which.Data)
-      ∙ ap (option_map (version_of data_track item.Data)) (sym (value_at-held data_track DataFits o h t (s.sound.tracks o which.Data)))
-    where
-      shape-of : (w : Which) → IsTrack DataFits (was_made o h) (was_deleted o h) (last_of h) (versions data_track o h)
-      shape-of w = let stands : TrackStands DataFits o h (versions data_track o h) = s.sound.tracks o which.Data in stands.shape
-  held-now t l which.Attributes = ap current_of (s.tracks o which.Attributes)
-      ∙ current-laid attribute_track item.Attr AttributesFit (was_made o h) (was_deleted o h) (last_of h) t (versions attribute_track o h) l
-      (let stands : TrackStands AttributesFit o h (versions attribute_track o h) = s.sound.tracks o which.Attributes in stands.shape)
-      ∙ ap (option_map (version_of attribute_track item.Attr)) (sym (value_at-held attribute_track AttributesFit o h t (s.sound.tracks o which.Attributes)))
-  held-now t l which.Acl = ap current_of (s.tracks o which.Acl)
-      ∙ current-laid acl_track item.Acl AclFits (was_made o h) (was_deleted o h) (last_of h) t (versions acl_track o h) l
-      (let stands : TrackStands AclFits o h (versions acl_track o h) = s.sound.tracks o which.Acl in stands.shape)
-      ∙ ap (option_map (version_of acl_track item.Acl)) (sym (value_at-held acl_track AclFits o h t (s.sound.tracks o which.Acl)))
+  all-now : (t : ℕ) → last_of h ≤ t → (w : Which) → current_of (versions_on w o h) ≡ version_at w o t h
+  all-now t l which.Data =
+      let stands : TrackStands DataFits o h (versions data_track o h) = s.tracks o which.Data in
+      current-laid data_track item.Data DataFits (was_made o h) (was_deleted o h) (last_of h) t (versions data_track o h) l stands.shape
+      ∙ ap (option_map (version_of data_track item.Data)) (sym (value_at-held data_track DataFits o h t stands))
+  all-now t l which.Attributes =
+      let stands : TrackStands AttributesFit o h (versions attribute_track o h) = s.tracks o which.Attributes in
+      current-laid attribute_track item.Attr AttributesFit (was_made o h) (was_deleted o h) (last_of h) t (versions attribute_track o h) l stands.shape
+      ∙ ap (option_map (version_of attribute_track item.Attr)) (sym (value_at-held attribute_track AttributesFit o h t stands))
+  all-now t l which.Acl =
+      let stands : TrackStands AclFits o h (versions acl_track o h) = s.tracks o which.Acl in
+      current-laid acl_track item.Acl AclFits (was_made o h) (was_deleted o h) (last_of h) t (versions acl_track o h) l stands.shape
+      ∙ ap (option_map (version_of acl_track item.Acl)) (sym (value_at-held acl_track AclFits o h t stands))
 
-  -- the same, where the object is kept or isn't
-  pub kept-version : (t : ℕ) → last_of h ≤ t → (at : Option ℕ) (w : Which) (k : Kept) → found o ≡ Some k → version_in at (items_of chains (chain_of w k)) ≡ version_at w o (moment_of t at) h
-  kept-version t l None w k e = sym (ap (λ f. current_of (held chains f w)) e) ∙ held-now t l w
-  kept-version t l (Some m) w k e = sym (ap (λ f. in_force m (held chains f w)) e) ∙ held-at m w
+  all-told : (t : ℕ) → last_of h ≤ t → (at : Option ℕ) (w : Which) → version_in at (versions_on w o h) ≡ version_at w o (moment_of t at) h
+  all-told t l None w = all-now t l w
+  all-told t l (Some m) w = all-at m w
 
-  pub none-at : (m : ℕ) (w : Which) → found o ≡ None → None ≡ version_at w o m h
-  none-at m w e = sym (ap (λ f. in_force m (held chains f w)) e) ∙ held-at m w
+  -- an object that lives has a version on each track
+  lives-told : (m : ℕ) → lives_at m o h ≡ true → (w : Which) → is_some (version_at w o m h) ≡ true
+  lives-told m e which.Data = let stands : TrackStands DataFits o h (versions data_track o h) = s.tracks o which.Data in
+      is_some-map (version_of data_track item.Data) (value_at data_track o m h) ∙ ap is_some (value_at-held data_track DataFits o h m stands) ∙ sym (stands.lives m) ∙ e
+  lives-told m e which.Attributes = let stands : TrackStands AttributesFit o h (versions attribute_track o h) = s.tracks o which.Attributes in
+      is_some-map (version_of attribute_track item.Attr) (value_at attribute_track o m h) ∙ ap is_some (value_at-held attribute_track AttributesFit o h m stands) ∙ sym (stands.lives m) ∙ e
+  lives-told m e which.Acl = let stands : TrackStands AclFits o h (versions acl_track o h) = s.tracks o which.Acl in
+      is_some-map (version_of acl_track item.Acl) (value_at acl_track o m h) ∙ ap is_some (value_at-held acl_track AclFits o h m stands) ∙ sym (stands.lives m) ∙ e
+
+module _ {window freed : ℕ} {chains : Chains Version} {kept : Objects} {serials : Purse → ℕ} {table : Table} {h : List Record} (s : StandsFor window freed chains kept serials table h) (o : ObjectId) where
+  -- what is held tells what is in force, now or at a moment that isn't below the horizon
+  pub held-told : (t : ℕ) → last_of h ≤ t → (at : Option ℕ) → IsFrom (horizon_now window h) at → (w : Which) → version_in at (held_in chains kept o w) ≡ version_at w o (moment_of t at) h
+  held-told t l at from w = swept_version_in (horizon_now window h) at (held_in chains kept o w) (versions_on w o h) from (s.objects.tracks o w) ∙ all-told s.sound o t l at w
+
+  -- where the object lives each track has a current value
+  pub current-held : (t : ℕ) → last_of h ≤ t → lives_at t o h ≡ true → (w : Which) → is_some (current_of (held_in chains kept o w)) ≡ true
+  current-held t l lives w = ap is_some (held-told t l None tt w) ∙ lives-told s.sound o t lives w
 
 -- what a version holds is the definition's value
 module _ (wrap : List ℕ → Item) (bytes : (x : List ℕ) → bytes_of_item (Some (wrap x)) ≡ Some x) (track : Track (List ℕ)) where
@@ -175,10 +193,10 @@ acl-whole o m h = elim (lives_at m o h) as (λ b. is_gone (cond b (find (λ v. n
   | false ↦ refl
 ]
 
-pub held_in-acl : (o : ObjectId) (m : ℕ) (h : List Record) → held_in (version_at which.Acl o m h) ≡ option_map held_of (value_at acl_track o m h)
+pub held_in-acl : (o : ObjectId) (m : ℕ) (h : List Record) → acl_in (version_at which.Acl o m h) ≡ option_map held_of (value_at acl_track o m h)
 held_in-acl o m h = of (value_at acl_track o m h) (acl-whole o m h)
   where
-    of : (x : Option (Value (List AclEntry))) → is_gone x ≡ false → held_in (option_map (version_of acl_track item.Acl) x) ≡ option_map held_of x
+    of : (x : Option (Value (List AclEntry))) → is_gone x ≡ false → acl_in (option_map (version_of acl_track item.Acl) x) ≡ option_map held_of x
     of None e = refl
     of (Some v) e = ap (λ b. held_of_item v.begin (if b then None else Some (item.Acl v.value))) e
 

@@ -1,6 +1,7 @@
 -- What a record charges, and what a flush takes back of it.
 use Rattle.std.proofs.Common.{◌≡◌, ℕ, zero, ◌+◌, ◌≤◌, Bool, true, false, not, cond, Option, Some, None, List, [], ◌∷◌, ◌++◌, refl, sym, ◌∙◌, ap, subst, arith}
 use Rattle.std.specs.Prelude.{◌&&◌, ◌||◌, is_some, sum_by, if◌then◌else◌}
+use Rattle.std.specs.List.{list_all}
 use Rattle.std.proofs.lemmas.List.Sums.{sum_by-append, sum_by-cons}
 use Rattle.s4_types.specs.declared.object.Purse.{Purse}
 use Rattle.s4_types.specs.declared.object.ObjectId.{ObjectId}
@@ -10,30 +11,34 @@ use Rattle.s4_types.specs.declared.record.Record.{Record}
 use Rattle.s4_types.specs.declared.version.Version.{Version}
 use Rattle.s4_types.specs.declared.version.Item.{Item}
 use Rattle.s4_types.specs.declared.version.Item.TheVariants as item
-use Rattle.s4_types.specs.Names.{object_in}
+use Rattle.s4_types.specs.Names.{same_object, object_in}
 use Rattle.s4_types.specs.Kinds.{is_refused, is_create, only_reads, is_wide, is_about, concerns}
 use Rattle.s4_types.specs.Answer.{made_past}
 use Rattle.s4_types.specs.Base.{Base}
 use Rattle.s4_types.specs.Serials.{drawn}
 use Rattle.s4_types.specs.Spending.{sum_to}
-use Rattle.s4_types.specs.Versions.{Track, Value, span_of, versions, data_track, attribute_track, acl_track}
-use Rattle.s4_types.proofs.Booleans.{&&-false}
+use Rattle.s4_types.specs.Versions.{Track, Value, span_of, ends_by, versions, data_track, attribute_track, acl_track}
+use Rattle.s4_types.proofs.Booleans.{both, &&-false}
 use Rattle.s4_store.specs.Chains.{Chains}
+use Rattle.s4_tracks.specs.Chain.{is_expired}
+use Rattle.s4_tracks.specs.Swept.{IsSwept}
 use Rattle.s4_parts.specs.declared.parts.Parts.{Parts as Table}
+use Rattle.s4_objects.specs.declared.kept.Which.{Which}
 use Rattle.s4_objects.specs.declared.kept.Which.TheVariants as which
-use Rattle.s4_objects.specs.declared.kept.Kept.{Kept}
+use Rattle.s4_objects.specs.declared.objects.Objects.{Objects}
 use Rattle.s4_objects.specs.declared.flushes.Refund.{Refund}
-use Rattle.s4_objects.specs.Chains.{held}
 use Rattle.s4_objects.specs.Flushes.{Flushes, refunded, past_weight}
 use Rattle.s4_objects.specs.Flushes as chain
-use Rattle.s4_state.specs.Flushes.{is_flush, IsCharged}
-use Rattle.s4_state.specs.Laid.{version_of, laid}
+use Rattle.s4_objects.specs.Table.{found_in, held_in}
+use Rattle.s4_state.specs.Flushes.{is_flush, IsNothingBy, IsCharged}
+use Rattle.s4_state.specs.Laid.{version_of, laid, versions_on}
 use Rattle.s4_state.specs.Sound.{IsSound, IsNext}
-use Rattle.s4_state.specs.Stands.{StandsFor}
+use Rattle.s4_state.specs.Stands.{horizon_now, StandsFor}
 use Rattle.s4_state.specs.Weights.{weight_of, value_weight, track_weight, object_weight, unbinding_weight, binding_weight, freed_weight}
 use Rattle.s4_state.proofs.Standing.{drawn-same}
 use Rattle.s4_state.proofs.Weighing.{sum_to-cong}
 use Rattle.s4_state.proofs.Charging.{charges, plain-frees-none, idle-frees-none}
+use Rattle.s4_state.proofs.Flushing.{flush_left, flush_one_left}
 
 either : {A : Type 0} (b : Bool) (x : A) → cond b x x ≡ x
 either true x = refl
@@ -62,20 +67,45 @@ module _ {V : Type 0} (f : ℕ → ℕ → ℕ) (track : Track V) (wrap : V → 
       let all : track_weight f track (v ∷ past) ≡ value_weight f track v + track_weight f track past = sum_by-cons (value_weight f track) v past in
       omega (arith, rest, more, one, here, all)
 
-held-weight : (f : ℕ → ℕ → ℕ) {chains : Chains Version} {found : ObjectId → Option Kept} {serials : Purse → ℕ} {table : Table} {h : List Record} → StandsFor chains found serials table h → (o : ObjectId) → past_weight f chains (found o) ≡ object_weight f h o
-held-weight f {chains} {found} {serials} {table} {h} s o =
-    let a : chain.track_weight f (held chains (found o) which.Data) ≡ track_weight f data_track (versions data_track o h) = ap (chain.track_weight f) (s.tracks o which.Data) ∙ laid-weight f data_track item.Data (versions data_track o h) in
-    let b : chain.track_weight f (held chains (found o) which.Attributes) ≡ track_weight f attribute_track (versions attribute_track o h) = ap (chain.track_weight f) (s.tracks o which.Attributes) ∙ laid-weight f attribute_track item.Attr (versions attribute_track o h) in
-    let c : chain.track_weight f (held chains (found o) which.Acl) ≡ track_weight f acl_track (versions acl_track o h) = ap (chain.track_weight f) (s.tracks o which.Acl) ∙ laid-weight f acl_track item.Acl (versions acl_track o h) in
-    omega (arith, a, b, c)
+-- what is freed weighs nothing, by a weight of what ended above the horizon
+module _ (f : ℕ → ℕ → ℕ) {hz : ℕ} (nothing : IsNothingBy hz f) where
+  expired-weight : (v : Version) → is_expired hz v ≡ true → chain.weight_of f v ≡ 0
+  expired-weight v e = ap (λ n. cond (is_some v.item) n zero) (of v.end e) ∙ either (is_some v.item) zero
+    where
+      of : (end : Option ℕ) → ends_by hz end ≡ true → chain.weight_by f end v.cost ≡ 0
+      of None g = cc
+      of (Some end) g = nothing end v.cost (grind arith)
+
+  gone-weight : (vs : List Version) → list_all (is_expired hz) vs ≡ true → chain.track_weight f vs ≡ 0
+  gone-weight [] e = refl
+  gone-weight (v ∷ vs) e =
+      let parts = both (is_expired hz v) (list_all (is_expired hz) vs) e in
+      let all : chain.track_weight f (v ∷ vs) ≡ chain.weight_of f v + chain.track_weight f vs = sum_by-cons (chain.weight_of f) v vs in
+      let here : chain.weight_of f v ≡ 0 = expired-weight v parts.0 in
+      let rest : chain.track_weight f vs ≡ 0 = gone-weight vs parts.1 in
+      omega (arith, all, here, rest)
+
+  swept-weight : {held all : List Version} → IsSwept hz held all → chain.track_weight f held ≡ chain.track_weight f all
+  swept-weight {held} {all} s =
+      let whole : chain.track_weight f all ≡ chain.track_weight f s.gone + chain.track_weight f held = ap (chain.track_weight f) s.whole ∙ sum_by-append (chain.weight_of f) s.gone held in
+      let gone : chain.track_weight f s.gone ≡ 0 = gone-weight s.gone s.expired in
+      omega (arith, whole, gone)
+
+  held-weight : (chains : Chains Version) (kept : Objects) (h : List Record) (o : ObjectId) → ((w : Which) → IsSwept hz (held_in chains kept o w) (versions_on w o h)) → past_weight f chains (found_in kept o) ≡ object_weight f h o
+  held-weight chains kept h o s =
+      let a : chain.track_weight f (held_in chains kept o which.Data) ≡ track_weight f data_track (versions data_track o h) = swept-weight (s which.Data) ∙ laid-weight f data_track item.Data (versions data_track o h) in
+      let b : chain.track_weight f (held_in chains kept o which.Attributes) ≡ track_weight f attribute_track (versions attribute_track o h) = swept-weight (s which.Attributes) ∙ laid-weight f attribute_track item.Attr (versions attribute_track o h) in
+      let c : chain.track_weight f (held_in chains kept o which.Acl) ≡ track_weight f acl_track (versions acl_track o h) = swept-weight (s which.Acl) ∙ laid-weight f acl_track item.Acl (versions acl_track o h) in
+      omega (arith, a, b, c)
 
 -- A FLUSH
 
-module _ {chains new : Chains Version} {found : ObjectId → Option Kept} {serials : Purse → ℕ} {table table' : Table} {h : List Record} (s : StandsFor chains found serials table h) (r : Record) (after : StandsFor new found serials table' (h ++ r ∷ []))
-    {asked : ObjectId → Bool} {from to : ℕ} {refunds : List Refund} (flushes : Flushes chains new found asked from to refunds) (request : Request) (is : r.request ≡ request) (kind : is_create request ≡ false)
-    (unbinds : (f : ℕ → ℕ → ℕ) → unbinding_weight f r.moment request ≡ 0) (past : made_past h r.moment request ≡ []) (f : ℕ → ℕ → ℕ) (p : Purse) where
-  low : (o : ObjectId) → is_some (found o) ≡ true → o.purse ≡ p → o.serial ≤ drawn p h
-  low o e same = subst (λ x. o.serial ≤ drawn x h) same (s.sound.named o (sym (s.kept o) ∙ e))
+module _ {window freed : ℕ} {chains : Chains Version} {kept : Objects} {serials : Purse → ℕ} {table : Table} {h : List Record} (s : StandsFor window freed chains kept serials table h) (r : Record) {new : Chains Version}
+    (left : (o : ObjectId) (w : Which) → IsSwept (horizon_now window h) (held_in new kept o w) (versions_on w o (h ++ r ∷ []))) {asked : ObjectId → Bool} {from to : ℕ} {refunds : List Refund} (flushes : Flushes chains new (found_in kept) asked from to refunds)
+    (request : Request) (is : r.request ≡ request) (kind : is_create request ≡ false) (unbinds : (f : ℕ → ℕ → ℕ) → unbinding_weight f r.moment request ≡ 0) (past : made_past h r.moment request ≡ [])
+    (f : ℕ → ℕ → ℕ) (p : Purse) (nothing : IsNothingBy (horizon_now window h) f) where
+  low : (o : ObjectId) → is_some (found_in kept o) ≡ true → o.purse ≡ p → o.serial ≤ drawn p h
+  low o e same = subst (λ x. o.serial ≤ drawn x h) same (s.sound.named o (s.objects.made o e))
 
   refunds-charged : IsCharged f p h r refunds
   refunds-charged =
@@ -83,9 +113,9 @@ module _ {chains new : Chains Version} {found : ObjectId → Option Kept} {seria
       let old : ℕ → ℕ = λ serial. object_weight f h (object_in p serial) in
       let now : ℕ → ℕ = λ serial. object_weight f (h ++ r ∷ []) (object_in p serial) in
       let count : sum_to (drawn p (h ++ r ∷ [])) now ≡ sum_to n now = ap (λ k. sum_to k now) (drawn-same h r p (ap (λ q. concerns p r && is_create q) is ∙ ap (λ b. concerns p r && b) kind ∙ &&-false (concerns p r))) in
-      let before : sum_to n (λ serial. past_weight f chains (found (object_in p serial))) ≡ sum_to n old = sum_to-cong n _ _ (λ k l. held-weight f s (object_in p k)) in
-      let later : sum_to n (λ serial. past_weight f new (found (object_in p serial))) ≡ sum_to n now = sum_to-cong n _ _ (λ k l. held-weight f after (object_in p k)) in
-      let taken : sum_to n (λ serial. past_weight f new (found (object_in p serial))) + refunded f p refunds ≡ sum_to n (λ serial. past_weight f chains (found (object_in p serial))) = flushes.weights f p n low in
+      let before : sum_to n (λ serial. past_weight f chains (found_in kept (object_in p serial))) ≡ sum_to n old = sum_to-cong n _ _ (λ k l. held-weight f nothing chains kept h (object_in p k) (s.objects.tracks (object_in p k))) in
+      let later : sum_to n (λ serial. past_weight f new (found_in kept (object_in p serial))) ≡ sum_to n now = sum_to-cong n _ _ (λ k l. held-weight f nothing new kept (h ++ r ∷ []) (object_in p k) (left (object_in p k))) in
+      let taken : sum_to n (λ serial. past_weight f new (found_in kept (object_in p serial))) + refunded f p refunds ≡ sum_to n (λ serial. past_weight f chains (found_in kept (object_in p serial))) = flushes.weights f p n low in
       let names : sum_by (binding_weight f p) (h ++ r ∷ []) ≡ sum_by (binding_weight f p) h + sum_by (binding_weight f p) (r ∷ []) = sum_by-append (binding_weight f p) h (r ∷ []) in
       let one : sum_by (binding_weight f p) (r ∷ []) ≡ binding_weight f p r + 0 = sum_by-cons (binding_weight f p) r [] in
       let none : binding_weight f p r ≡ 0 = ap (λ q. cond (concerns p r) (unbinding_weight f r.moment q) zero) is ∙ ap (λ n. cond (concerns p r) n zero) (unbinds f) ∙ either (concerns p r) zero in
@@ -93,15 +123,14 @@ module _ {chains new : Chains Version} {found : ObjectId → Option Kept} {seria
       = ap (λ q. cond (concerns p r) (sum_by (f r.moment) (made_past h r.moment q)) zero) is ∙ ap (λ costs. cond (concerns p r) (sum_by (f r.moment) costs) zero) past ∙ either (concerns p r) zero in
       omega (arith, count, before, later, taken, names, one, none, charge)
 
--- a flush of all objects takes back what it erases
-pub flush_charged : {chains new : Chains Version} {found : ObjectId → Option Kept} {serials : Purse → ℕ} {table table' : Table} {h : List Record} → StandsFor chains found serials table h → (r : Record) → StandsFor new found serials table' (h ++ r ∷ [])
-    → {asked : ObjectId → Bool} {from to : ℕ} {refunds : List Refund} → Flushes chains new found asked from to refunds → r.request ≡ Flush from to → (f : ℕ → ℕ → ℕ) (p : Purse) → IsCharged f p h r refunds
-flush_charged s r after {asked} {from} {to} flushes is f p = refunds-charged s r after flushes (Flush from to) is refl (λ f. refl) refl f p
+module _ {window freed : ℕ} {chains : Chains Version} {kept : Objects} {serials : Purse → ℕ} {table : Table} {h : List Record} (s : StandsFor window freed chains kept serials table h) {base : Base} {r : Record} (n : IsNext base h r) (granted : is_refused r.reply ≡ false) {new : Chains Version} {from to : ℕ} {refunds : List Refund} where
+  -- a flush of all objects takes back what it erases
+  pub flush_charged : r.request ≡ Flush from to → Flushes chains new (found_in kept) (λ o. true) from to refunds → (f : ℕ → ℕ → ℕ) (p : Purse) → IsNothingBy (horizon_now window h) f → IsCharged f p h r refunds
+  flush_charged is flushes f p nothing = refunds-charged s r (flush_left s n granted is flushes) flushes (Flush from to) is refl (λ f. refl) refl f p nothing
 
--- and so does a flush of one
-pub flush_one_charged : {chains new : Chains Version} {found : ObjectId → Option Kept} {serials : Purse → ℕ} {table table' : Table} {h : List Record} → StandsFor chains found serials table h → (r : Record) → StandsFor new found serials table' (h ++ r ∷ [])
-    → {asked : ObjectId → Bool} {from to : ℕ} {refunds : List Refund} → Flushes chains new found asked from to refunds → {o : ObjectId} → r.request ≡ FlushO o from to → (f : ℕ → ℕ → ℕ) (p : Purse) → IsCharged f p h r refunds
-flush_one_charged s r after {asked} {from} {to} flushes {o} is f p = refunds-charged s r after flushes (FlushO o from to) is refl (λ f. refl) refl f p
+  -- and so does a flush of one
+  pub flush_one_charged : (o : ObjectId) → r.request ≡ FlushO o from to → Flushes chains new (found_in kept) (same_object o) from to refunds → (f : ℕ → ℕ → ℕ) (p : Purse) → IsNothingBy (horizon_now window h) f → IsCharged f p h r refunds
+  flush_one_charged o is flushes f p nothing = refunds-charged s r (flush_one_left s n granted o is flushes) flushes (FlushO o from to) is refl (λ f. refl) refl f p nothing
 
 -- NO FLUSH
 

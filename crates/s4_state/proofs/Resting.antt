@@ -1,18 +1,18 @@
 -- Records that leave all that is kept as it is.
 use Rattle.std.proofs.Common.{◌≡◌, ℕ, true, false, not, Option, List, [], ◌∷◌, ◌++◌, refl, ◌∙◌, ap}
-use Rattle.std.specs.Prelude.{◌&&◌, ◌||◌}
+use Rattle.std.specs.Prelude.{◌&&◌}
 use Rattle.s4_types.specs.declared.object.Purse.{Purse}
 use Rattle.s4_types.specs.declared.object.ObjectId.{ObjectId}
 use Rattle.s4_types.specs.declared.request.Request.{Request}
 use Rattle.s4_types.specs.declared.request.Request.TheVariants.{Create, Delete, Read, Write, Append, Truncate, GetAttr, SetAttr, GetAclByUser, GetAclByIndex, SetAcl, PCreate, PDelete, PList, PMount, Flush, FlushO, SetWindow, SetBudget, ReadAudit}
 use Rattle.s4_types.specs.declared.record.Record.{Record}
 use Rattle.s4_types.specs.declared.version.Version.{Version}
-use Rattle.s4_types.specs.Kinds.{is_refused, only_reads, is_wide, is_about}
+use Rattle.s4_types.specs.Kinds.{is_refused, only_reads}
 use Rattle.s4_types.specs.Base.{Base}
 use Rattle.s4_types.proofs.Booleans.{&&-false}
 use Rattle.s4_store.specs.Chains.{Chains}
 use Rattle.s4_parts.specs.declared.parts.Parts.{Parts as Table}
-use Rattle.s4_objects.specs.declared.kept.Kept.{Kept}
+use Rattle.s4_objects.specs.declared.objects.Objects.{Objects}
 use Rattle.s4_state.specs.Flushes.{is_flush}
 use Rattle.s4_state.specs.Sound.{IsSound, IsNext}
 use Rattle.s4_state.specs.Stands.{StandsFor}
@@ -54,19 +54,18 @@ pub record IsOther (q : Request) : Type 0 where
   pub bind : (name : List ℕ) (o : ObjectId) → q ≡ PCreate name o → ⊥
   pub unbind : (purse : Purse) (name : List ℕ) → q ≡ PDelete purse name → ⊥
 
-module _ {chains : Chains Version} {found : ObjectId → Option Kept} {serials : Purse → ℕ} {table : Table} {h : List Record} (s : StandsFor chains found serials table h) (r : Record) (sound : IsSound (h ++ r ∷ [])) where
+module _ {window freed : ℕ} {chains : Chains Version} {kept : Objects} {serials : Purse → ℕ} {table : Table} {h : List Record} (s : StandsFor window freed chains kept serials table h) (r : Record) (sound : IsSound (h ++ r ∷ [])) where
   -- a record that was refused
-  pub stands_refused : is_refused r.reply ≡ true → StandsFor chains found serials table (h ++ r ∷ [])
-  stands_refused refused = stands_idle s r sound (λ p. ap (λ b. (not b && not (only_reads r.request)) && (is_wide r.caller r.request || is_about p r.caller r.request)) refused)
+  pub stands_refused : is_refused r.reply ≡ true → StandsFor window freed chains kept serials table (h ++ r ∷ [])
+  stands_refused refused = stands_idle s r sound (ap (λ b. not b && not (only_reads r.request)) refused)
 
   -- a record that only reads
-  stands_read : only_reads r.request ≡ true → StandsFor chains found serials table (h ++ r ∷ [])
-  stands_read reads = stands_idle s r sound (λ p. ap (λ b. (not (is_refused r.reply) && not b) && (is_wide r.caller r.request || is_about p r.caller r.request)) reads
-      ∙ ap (λ b. b && (is_wide r.caller r.request || is_about p r.caller r.request)) (&&-false (not (is_refused r.reply))))
+  stands_read : only_reads r.request ≡ true → StandsFor window freed chains kept serials table (h ++ r ∷ [])
+  stands_read reads = stands_idle s r sound (ap (λ b. not (is_refused r.reply) && not b) reads ∙ &&-false (not (is_refused r.reply)))
 
   -- a record that does neither of these changes, and is no flush
   module _ {base : Base} (n : IsNext base h r) (granted : is_refused r.reply ≡ false) where
-    pub stands_rest : (q : Request) → r.request ≡ q → is_flush q ≡ false → IsOther q → StandsFor chains found serials table (h ++ r ∷ [])
+    pub stands_rest : (q : Request) → r.request ≡ q → is_flush q ≡ false → IsOther q → StandsFor window freed chains kept serials table (h ++ r ∷ [])
     stands_rest (Read o offset length at) asked f other = stands_read (ap only_reads asked)
     stands_rest (GetAttr o at) asked f other = stands_read (ap only_reads asked)
     stands_rest (GetAclByUser o user at) asked f other = stands_read (ap only_reads asked)

@@ -1,5 +1,5 @@
 -- What flushes are, and what a record takes back of a purse's charges.
-use Rattle.std.specs.Prelude.{◌≡◌, ℕ, ◌+◌, Bool, true, false, List, [], ◌∷◌, ◌++◌, sum_by, if◌then◌else◌}
+use Rattle.std.specs.Prelude.{◌≡◌, ℕ, ◌+◌, ◌≤◌, Bool, true, false, List, [], ◌∷◌, ◌++◌, sum_by, if◌then◌else◌}
 use Rattle.s4_types.specs.declared.object.Purse.{Purse}
 use Rattle.s4_types.specs.declared.request.Request.{Request}
 use Rattle.s4_types.specs.declared.request.Request.TheVariants.{Flush, FlushO}
@@ -15,6 +15,10 @@ abbrev pub is_flush : Request → Bool
 is_flush (Flush from to) = true
 is_flush (FlushO o from to) = true
 is_flush _ = false
+
+-- a weight by which what ended by the moment weighs nothing
+abbrev pub IsNothingBy : ℕ → (ℕ → ℕ → ℕ) → Type 0
+IsNothingBy m weight = (end cost : ℕ) → end ≤ m → weight end cost ≡ 0
 
 -- what the purse's past weighs more once the record stands, and what is refunded, is what the record makes past
 abbrev pub IsCharged : (ℕ → ℕ → ℕ) → Purse → List Record → Record → List Refund → Type 0

@@ -1,7 +1,7 @@
 pub mod Held
 pub mod Laid
 pub mod Sound
-pub mod Chains
+pub mod Counts
 pub mod Flushes
 pub mod Shown
 pub mod Log

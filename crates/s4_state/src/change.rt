@@ -1,9 +1,11 @@
 //! One value in the place of another.
 
 ghost use Rattle.std.specs.Prelude.{◌≡◌, true, OnOk, OnErr, ◌++◌, ◌∷◌, []};
+ghost use Rattle.s4_types.specs.Base.{opened};
+ghost use Rattle.s4_types.specs.Versions.{lives_at};
 ghost use Rattle.s4_tracks.specs.Chain.{IsSmall};
-ghost use Rattle.s4_state.specs.Sound.{IsSound, was_made};
-ghost use Rattle.s4_state.specs.Stands.{IsKept, Stands, PutsOn};
+ghost use Rattle.s4_state.specs.Sound.{IsSound, IsNext};
+ghost use Rattle.s4_state.specs.Stands.{freed_in, IsKept, Stands, PutsOn};
 
 use crate::parts::Parts;
 use s4_objects::Which;
@@ -19,17 +21,19 @@ pub fn put<S: Store<Version>>(
     item: Item,
 ) -> Result<(), NoMemory>
     requires kept { IsKept S.chains parts.old }
-    requires made { was_made object.now parts.old.history.records ≡ true }
+    requires next { IsNext (opened parts.old.window) parts.old.history.records added.now }
+    requires lives { lives_at added.now.moment object.now parts.old.history.records ≡ true }
     requires small { IsSmall item }
     requires puts { PutsOn parts.old.history.records added.now object.now which item }
     requires sound { IsSound (parts.old.history.records ++ added.now ∷ []) }
-    ensures ok { OnOk result (Stands S.chains parts.new (parts.old.history.records ++ added.now ∷ [])) }
-    ensures err { OnErr result (IsKept S.chains parts.new) }
+    ensures ok { OnOk result (Stands S.chains parts.new (freed_in S.chains parts.old) (parts.old.history.records ++ added.now ∷ [])) }
+    ensures err { OnErr result (Stands S.chains parts.new (freed_in S.chains parts.old) parts.old.history.records) }
     ensures history { parts.new.history ≡ parts.old.history }
     ensures window { parts.new.window ≡ parts.old.window }
 {
-    let kept = parts.kept(object).unwrap();
     parts.store.reserve(1)?;
-    kept.track(which).put(&mut parts.store, added.moment, item);
+    parts.objects.reserve(1)?;
+    let store = &mut parts.store;
+    parts.objects.put(store, added.moment, object, which, item);
     Ok(())
 }

@@ -5,10 +5,8 @@ ghost use Rattle.s4_types.specs.declared.request.Request.TheVariants as request;
 ghost use Rattle.s4_types.specs.Base.{opened};
 ghost use Rattle.s4_types.specs.Kinds.{is_refused};
 ghost use Rattle.s4_state.specs.Sound.{IsSound, IsNext};
-ghost use Rattle.s4_state.specs.Stands.{IsKept, Stands};
+ghost use Rattle.s4_state.specs.Stands.{freed_in, IsKept, Stands};
 
-use crate::begin::{begin, close, open};
-use crate::objects::keep;
 use crate::parts::Parts;
 use s4_store::Store;
 use s4_types::{NoMemory, Purse, PurseNo, Record, Version};
@@ -26,8 +24,8 @@ pub fn apply<S: Store<Version>>(
     requires next { IsNext (opened parts.old.window) parts.old.history.records added.now }
     requires granted { is_refused added.now.reply ≡ false }
     requires sound { IsSound (parts.old.history.records ++ added.now ∷ []) }
-    ensures ok { OnOk result (Stands S.chains parts.new (parts.old.history.records ++ added.now ∷ [])) }
-    ensures err { OnErr result (IsKept S.chains parts.new) }
+    ensures ok { OnOk result (Stands S.chains parts.new (freed_in S.chains parts.old) (parts.old.history.records ++ added.now ∷ [])) }
+    ensures err { OnErr result (Stands S.chains parts.new (freed_in S.chains parts.old) parts.old.history.records) }
     ensures history { parts.new.history ≡ parts.old.history }
     ensures window { parts.new.window ≡ parts.old.window }
 {
@@ -38,18 +36,9 @@ pub fn apply<S: Store<Version>>(
     let object = parts.next_object(&purse).unwrap();
     parts.names.reserve(&purse)?;
     parts.store.reserve(3)?;
-    let kept = open(&mut parts.store)?;
-    match keep(&mut parts.objects, &object, &kept) {
-        Ok(()) => {
-            let creator = object.purse.creator;
-            begin(alloc, &mut parts.store, &kept, added.moment, creator);
-            let drawn: Result<_, _> = parts.names.draw(&purse);
-            drawn.unwrap();
-            Ok(())
-        }
-        Err(refused) => {
-            close(&mut parts.store, &kept);
-            Err(refused)
-        }
-    }
+    let store = &mut parts.store;
+    parts.objects.create(alloc, store, added.moment, &object)?;
+    let drawn: Result<_, _> = parts.names.draw(&purse);
+    drawn.unwrap();
+    Ok(())
 }

@@ -5,12 +5,12 @@ ghost use Rattle.s4_types.specs.declared.request.Request.TheVariants as request;
 ghost use Rattle.s4_types.specs.declared.object.Purse.{Purse};
 ghost use Rattle.s4_types.specs.Base.{opened};
 ghost use Rattle.s4_types.specs.Kinds.{is_refused};
-ghost use Rattle.s4_state.specs.Flushes.{IsCharged};
+ghost use Rattle.s4_state.specs.Flushes.{IsNothingBy, IsCharged};
 ghost use Rattle.s4_state.specs.Sound.{IsSound, IsNext};
-ghost use Rattle.s4_state.specs.Stands.{IsKept, Stands};
+ghost use Rattle.s4_state.specs.Stands.{freed_in, horizon_now, IsKept, Stands};
 
 use crate::parts::Parts;
-use s4_objects::{Refund, flush, flush_object};
+use s4_objects::Refund;
 use s4_store::Store;
 use s4_types::{Moment, NoMemory, ObjectId, Record, Version};
 use std::alloc::Global;
@@ -28,13 +28,14 @@ pub fn apply<S: Store<Version>>(
     requires next { IsNext (opened parts.old.window) parts.old.history.records added.now }
     requires granted { is_refused added.now.reply ≡ false }
     requires sound { IsSound (parts.old.history.records ++ added.now ∷ []) }
-    ensures ok { OnOk result (Stands S.chains parts.new (parts.old.history.records ++ added.now ∷ [])) }
-    ensures charged { IfOk result (λ refunds. (weight : ℕ → ℕ → ℕ) (p : Purse) → IsCharged weight p parts.old.history.records added.now refunds.items) }
-    ensures err { OnErr result (IsKept S.chains parts.new) }
+    ensures ok { OnOk result (Stands S.chains parts.new (freed_in S.chains parts.old) (parts.old.history.records ++ added.now ∷ [])) }
+    ensures charged { IfOk result (λ refunds. (weight : ℕ → ℕ → ℕ) (p : Purse) → IsNothingBy (horizon_now parts.old.window parts.old.history.records) weight → IsCharged weight p parts.old.history.records added.now refunds.items) }
+    ensures err { OnErr result (Stands S.chains parts.new (freed_in S.chains parts.old) parts.old.history.records) }
     ensures history { parts.new.history ≡ parts.old.history }
     ensures window { parts.new.window ≡ parts.old.window }
 {
-    flush(alloc, &mut parts.store, &parts.objects, from, to)
+    let store = &mut parts.store;
+    parts.objects.flush(alloc, store, from, to)
 }
 
 /// Carries out the FlushO that the record tells of, and answers what it takes back of charges.
@@ -51,12 +52,12 @@ pub fn apply_to_one<S: Store<Version>>(
     requires next { IsNext (opened parts.old.window) parts.old.history.records added.now }
     requires granted { is_refused added.now.reply ≡ false }
     requires sound { IsSound (parts.old.history.records ++ added.now ∷ []) }
-    ensures ok { OnOk result (Stands S.chains parts.new (parts.old.history.records ++ added.now ∷ [])) }
-    ensures charged { IfOk result (λ refunds. (weight : ℕ → ℕ → ℕ) (p : Purse) → IsCharged weight p parts.old.history.records added.now refunds.items) }
-    ensures err { OnErr result (IsKept S.chains parts.new) }
+    ensures ok { OnOk result (Stands S.chains parts.new (freed_in S.chains parts.old) (parts.old.history.records ++ added.now ∷ [])) }
+    ensures charged { IfOk result (λ refunds. (weight : ℕ → ℕ → ℕ) (p : Purse) → IsNothingBy (horizon_now parts.old.window parts.old.history.records) weight → IsCharged weight p parts.old.history.records added.now refunds.items) }
+    ensures err { OnErr result (Stands S.chains parts.new (freed_in S.chains parts.old) parts.old.history.records) }
     ensures history { parts.new.history ≡ parts.old.history }
     ensures window { parts.new.window ≡ parts.old.window }
 {
-    let objects = &parts.objects;
-    flush_object(alloc, &mut parts.store, objects, object, from, to)
+    let store = &mut parts.store;
+    parts.objects.flush_object(alloc, store, object, from, to)
 }

@@ -4,9 +4,9 @@ ghost use Rattle.std.specs.Prelude.{◌≡◌, ℕ, true, false, IfOk, OnOk, OnE
 ghost use Rattle.s4_types.specs.declared.object.Purse.{Purse};
 ghost use Rattle.s4_types.specs.Base.{opened};
 ghost use Rattle.s4_types.specs.Kinds.{is_refused};
-ghost use Rattle.s4_state.specs.Flushes.{is_flush, IsCharged};
+ghost use Rattle.s4_state.specs.Flushes.{is_flush, IsNothingBy, IsCharged};
 ghost use Rattle.s4_state.specs.Sound.{IsSound, IsNext};
-ghost use Rattle.s4_state.specs.Stands.{IsKept, Stands};
+ghost use Rattle.s4_state.specs.Stands.{freed_in, horizon_now, IsKept, Stands};
 
 use crate::parts::Parts;
 use crate::{acl, append, attributes, create, delete, flush, partitions, truncate, write};
@@ -16,8 +16,7 @@ use s4_types::{NoMemory, Record, Request, Version};
 use std::alloc::Global;
 
 /// Brings what is kept of objects and names to where the record leaves it, and answers what a flush
-/// takes back of charges. Every growth comes before any change that a call tells; chains that were
-/// opened in vain are closed again.
+/// takes back of charges. Every growth comes before any change that a call tells.
 pub fn follow<S: Store<Version>>(
     alloc: Global,
     parts: &mut Parts<S>,
@@ -26,10 +25,10 @@ pub fn follow<S: Store<Version>>(
     requires kept { IsKept S.chains parts.old }
     requires next { IsNext (opened parts.old.window) parts.old.history.records added.now }
     requires sound { IsSound (parts.old.history.records ++ added.now ∷ []) }
-    ensures ok { OnOk result (Stands S.chains parts.new (parts.old.history.records ++ added.now ∷ [])) }
-    ensures charged { IfOk result (λ refunds. (weight : ℕ → ℕ → ℕ) (p : Purse) → IsCharged weight p parts.old.history.records added.now refunds.items) }
+    ensures ok { OnOk result (Stands S.chains parts.new (freed_in S.chains parts.old) (parts.old.history.records ++ added.now ∷ [])) }
+    ensures charged { IfOk result (λ refunds. (weight : ℕ → ℕ → ℕ) (p : Purse) → IsNothingBy (horizon_now parts.old.window parts.old.history.records) weight → IsCharged weight p parts.old.history.records added.now refunds.items) }
     ensures refused { IfOk result (λ refunds. is_refused added.now.reply ≡ true → refunds.items ≡ []) }
-    ensures err { OnErr result (IsKept S.chains parts.new) }
+    ensures err { OnErr result (Stands S.chains parts.new (freed_in S.chains parts.old) parts.old.history.records) }
     ensures history { parts.new.history ≡ parts.old.history }
     ensures window { parts.new.window ≡ parts.old.window }
 {
@@ -59,17 +58,14 @@ fn change<S: Store<Version>>(
     requires granted { is_refused added.now.reply ≡ false }
     requires plain { is_flush added.now.request ≡ false }
     requires sound { IsSound (parts.old.history.records ++ added.now ∷ []) }
-    ensures ok { OnOk result (Stands S.chains parts.new (parts.old.history.records ++ added.now ∷ [])) }
-    ensures err { OnErr result (IsKept S.chains parts.new) }
+    ensures ok { OnOk result (Stands S.chains parts.new (freed_in S.chains parts.old) (parts.old.history.records ++ added.now ∷ [])) }
+    ensures err { OnErr result (Stands S.chains parts.new (freed_in S.chains parts.old) parts.old.history.records) }
     ensures history { parts.new.history ≡ parts.old.history }
     ensures window { parts.new.window ≡ parts.old.window }
 {
     match &added.request {
         Request::Create { number } => create::apply(alloc, parts, added, *number),
-        Request::Delete { object } => {
-            delete::apply(parts, added, object);
-            Ok(())
-        }
+        Request::Delete { object } => delete::apply(parts, added, object),
         Request::Write {
             object,
             offset,

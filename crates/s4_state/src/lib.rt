@@ -4,16 +4,15 @@
 mod acl;
 mod append;
 mod attributes;
-mod begin;
 mod change;
 mod create;
 mod delete;
 mod flush;
 mod follow;
-mod objects;
 mod partitions;
 mod parts;
 mod state;
+mod sweep;
 mod truncate;
 mod values;
 mod write;

@@ -6,9 +6,10 @@ ghost use Rattle.s4_types.specs.Answer.{lines_in, purse_numbers};
 ghost use Rattle.s4_types.specs.Base.{opened};
 ghost use Rattle.s4_types.specs.Kinds.{is_refused};
 ghost use Rattle.s4_types.specs.Play.{last_of};
+ghost use Rattle.s4_tracks.specs.Swept.{IsFrom};
 ghost use Rattle.s4_state.specs.Shown.{granted};
 ghost use Rattle.s4_state.specs.Sound.{IsSound, IsNext};
-ghost use Rattle.s4_state.specs.Stands.{IsKept, Stands};
+ghost use Rattle.s4_state.specs.Stands.{freed_in, horizon_now, IsKept, Stands};
 
 use crate::parts::Parts;
 use s4_parts::{Page, Visible};
@@ -30,8 +31,8 @@ pub fn bind<S: Store<Version>>(
     requires next { IsNext (opened parts.old.window) parts.old.history.records added.now }
     requires granted { is_refused added.now.reply ≡ false }
     requires sound { IsSound (parts.old.history.records ++ added.now ∷ []) }
-    ensures ok { OnOk result (Stands S.chains parts.new (parts.old.history.records ++ added.now ∷ [])) }
-    ensures err { OnErr result (IsKept S.chains parts.new) }
+    ensures ok { OnOk result (Stands S.chains parts.new (freed_in S.chains parts.old) (parts.old.history.records ++ added.now ∷ [])) }
+    ensures err { OnErr result (Stands S.chains parts.new (freed_in S.chains parts.old) parts.old.history.records) }
     ensures history { parts.new.history ≡ parts.old.history }
     ensures window { parts.new.window ≡ parts.old.window }
 {
@@ -49,7 +50,7 @@ pub fn unbind<S: Store<Version>>(parts: &mut Parts<S>, added: &Record, purse: &P
     requires next { IsNext (opened parts.old.window) parts.old.history.records added.now }
     requires granted { is_refused added.now.reply ≡ false }
     requires sound { IsSound (parts.old.history.records ++ added.now ∷ []) }
-    ensures stands { Stands S.chains parts.new (parts.old.history.records ++ added.now ∷ []) }
+    ensures stands { Stands S.chains parts.new (freed_in S.chains parts.old) (parts.old.history.records ++ added.now ∷ []) }
     ensures history { parts.new.history ≡ parts.old.history }
     ensures window { parts.new.window ≡ parts.old.window }
 {
@@ -68,6 +69,7 @@ pub fn page<S: Store<Version>>(
 ) -> Result<Page, NoMemory>
     requires kept { IsKept S.chains parts.now }
     requires later { last_of parts.now.history.records ≤ moment }
+    requires told { IsFrom (horizon_now parts.now.window parts.now.history.records) at.now }
     ensures lines { IfOk result (λ page. page.lines ≡ take 64 (flat_map (lines_in parts.now.history.records moment caller range after.now at.now) purse_numbers)) }
     ensures more { IfOk result (λ page. page.more ≡ nat_lt 64 (length (flat_map (lines_in parts.now.history.records moment caller range after.now at.now) purse_numbers))) }
 {
@@ -93,7 +95,7 @@ struct Mountable<'a, S> {
 impl<S: Store<Version>> Visible for Mountable<'_, S> {
     ghost shown = { λ v o. granted v.parts.now.history.records v.moment v.caller v.at o };
 
-    ghost is_ready = { λ v. IsKept S.chains v.parts.now × (last_of v.parts.now.history.records ≤ v.moment) };
+    ghost is_ready = { λ v. IsKept S.chains v.parts.now × (last_of v.parts.now.history.records ≤ v.moment) × IsFrom (horizon_now v.parts.now.window v.parts.now.history.records) v.at };
 
     fn grant(&self, object: &ObjectId) -> Option<Grant> {
         self.parts

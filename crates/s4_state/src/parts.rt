@@ -2,7 +2,6 @@
 
 ghost use Rattle.std.specs.Prelude.{◌≡◌, ℕ, ◌≤◌, ◌+◌, IfSome, is_some, nat_le, not};
 ghost use Rattle.std.specs.Option.{option_copied, option_map};
-ghost use Rattle.std.specs.BTreeMap.{get};
 ghost use Rattle.s4_types.specs.Answer.{moment_of, is_gone, data_of, attributes_of, acl_of};
 ghost use Rattle.s4_types.specs.Versions.{when, value_at, data_track, attribute_track};
 ghost use Rattle.s4_types.specs.Serials.{drawn};
@@ -11,7 +10,7 @@ ghost use Rattle.s4_types.specs.Judgement.{held_at, judge as judge_of};
 ghost use Rattle.s4_types.specs.Names.{object_in};
 ghost use Rattle.s4_types.specs.Play.{last_of};
 ghost use Rattle.s4_judge.specs.Held.{shown_held};
-ghost use Rattle.s4_objects.specs.Keys.{object_cmp};
+ghost use Rattle.s4_tracks.specs.Swept.{IsFrom};
 ghost use Rattle.s4_state.specs.Laid.{version_at};
 ghost use Rattle.s4_state.specs.Weights.{cost_now};
 
@@ -19,37 +18,29 @@ use crate::values::{bytes_of, held_of};
 use s4_audit::Audit;
 use s4_judge::{Held, judge_now, judge_past};
 use s4_names::Names;
-use s4_objects::{Kept, Which};
+use s4_objects::{Objects, Which};
 use s4_store::Store;
 use s4_types::{
     Acl, Caller, Grant, Moment, Name, ObjectId, Purse, Refusal, Right, Serial, Version,
 };
-use std::collections::BTreeMap;
 
 /// What a value without bytes or entries costs once it is past.
 const LEAST_COST: u32 = 64;
 
-/// The window at the opening, the values, the objects by their names, the serials drawn, the
-/// partitions, and all records.
+/// The window at the opening, the values, the objects and the serials drawn, the partitions, and all
+/// records.
 #[derive(Drop)]
 pub struct Parts<S> {
     pub window: u64,
     pub store: S,
-    pub objects: BTreeMap<ObjectId, Kept>,
+    pub objects: Objects,
     pub names: Names,
     pub partitions: s4_parts::Parts,
     pub history: Audit,
 }
 
 impl<S: Store<Version>> Parts<S> {
-    ghost use Rattle.s4_state.specs.Stands.{IsKept};
-
-    /// What is kept of an object.
-    pub fn kept(&self, object: &ObjectId) -> Option<Kept>
-        ensures { result ≡ get object_cmp self.now.objects object.now }
-    {
-        self.objects.get(object).copied()
-    }
+    ghost use Rattle.s4_state.specs.Stands.{horizon_now, IsKept};
 
     /// The object that the next Create in the purse makes, if a serial is left.
     pub fn next_object(&self, purse: &Purse) -> Option<ObjectId>
@@ -70,7 +61,8 @@ impl<S: Store<Version>> Parts<S> {
 
     /// The object that a name in the purse is bound to, now or at a moment.
     pub fn bound(&self, purse: &Purse, name: &Name, at: Option<Moment>) -> Option<ObjectId>
-        requires { IsKept S.chains self.now }
+        requires kept { IsKept S.chains self.now }
+        requires told { IsFrom (horizon_now self.now.window self.now.history.records) at }
         ensures { (t : ℕ) → last_of self.now.history.records ≤ t → result ≡ option_map (object_in purse.now) (bound_at purse.now name.now (moment_of t at) self.now.history.records) }
     {
         self.partitions.mount(&self.store, purse, name, at)
@@ -94,13 +86,11 @@ impl<S: Store<Version>> Parts<S> {
 
     /// The version in force on one of an object's tracks, now or at a moment.
     pub fn version(&self, object: &ObjectId, which: Which, at: Option<Moment>) -> Option<&Version>
-        requires { IsKept S.chains self.now }
+        requires kept { IsKept S.chains self.now }
+        requires told { IsFrom (horizon_now self.now.window self.now.history.records) at }
         ensures { (t : ℕ) → last_of self.now.history.records ≤ t → option_copied result ≡ version_at which object.now (moment_of t at) self.now.history.records }
     {
-        match self.kept(object) {
-            Some(kept) => kept.track(which).version(&self.store, at),
-            None => None,
-        }
+        self.objects.version(&self.store, object, which, at)
     }
 
     /// What the current value of a track costs once it is past. Where the object doesn't live that is
@@ -125,7 +115,8 @@ impl<S: Store<Version>> Parts<S> {
 
     /// The data in force, nothing where the object doesn't live. None where a flush erased them.
     pub fn data(&self, object: &ObjectId, at: Option<Moment>) -> Option<&[u8]>
-        requires { IsKept S.chains self.now }
+        requires kept { IsKept S.chains self.now }
+        requires told { IsFrom (horizon_now self.now.window self.now.history.records) at }
         ensures { (t : ℕ) → last_of self.now.history.records ≤ t
             → option_copied result ≡ when (not (is_gone (value_at data_track object.now (moment_of t at) self.now.history.records))) (data_of object.now (moment_of t at) self.now.history.records) }
     {
@@ -134,7 +125,8 @@ impl<S: Store<Version>> Parts<S> {
 
     /// The attributes in force, nothing where the object doesn't live. None where a flush erased them.
     pub fn attributes(&self, object: &ObjectId, at: Option<Moment>) -> Option<&[u8]>
-        requires { IsKept S.chains self.now }
+        requires kept { IsKept S.chains self.now }
+        requires told { IsFrom (horizon_now self.now.window self.now.history.records) at }
         ensures { (t : ℕ) → last_of self.now.history.records ≤ t
             → option_copied result ≡ when (not (is_gone (value_at attribute_track object.now (moment_of t at) self.now.history.records))) (attributes_of object.now (moment_of t at) self.now.history.records) }
     {
@@ -143,7 +135,8 @@ impl<S: Store<Version>> Parts<S> {
 
     /// The ACL in force and since when, where the object lives.
     pub fn held(&self, object: &ObjectId, at: Option<Moment>) -> Option<Held<'_>>
-        requires { IsKept S.chains self.now }
+        requires kept { IsKept S.chains self.now }
+        requires told { IsFrom (horizon_now self.now.window self.now.history.records) at }
         ensures { (t : ℕ) → last_of self.now.history.records ≤ t → shown_held result ≡ held_at object.now (moment_of t at) self.now.history.records }
     {
         held_of(self.version(object, Which::Acl, at))
@@ -151,7 +144,8 @@ impl<S: Store<Version>> Parts<S> {
 
     /// The ACL in force, without entries where the object doesn't live.
     pub fn acl(&self, object: &ObjectId, at: Option<Moment>) -> Acl
-        requires { IsKept S.chains self.now }
+        requires kept { IsKept S.chains self.now }
+        requires told { IsFrom (horizon_now self.now.window self.now.history.records) at }
         ensures { (t : ℕ) → last_of self.now.history.records ≤ t → result ≡ acl_of object.now (moment_of t at) self.now.history.records }
     {
         match self.held(object, at) {
@@ -168,7 +162,8 @@ impl<S: Store<Version>> Parts<S> {
         right: Right,
         at: Option<Moment>,
     ) -> Result<Grant, Refusal>
-        requires { IsKept S.chains self.now }
+        requires kept { IsKept S.chains self.now }
+        requires told { IsFrom (horizon_now self.now.window self.now.history.records) at }
         ensures { (t : ℕ) → last_of self.now.history.records ≤ t → result ≡ judge_of self.now.history.records t caller object.now right at }
     {
         let names_a_moment = at.is_some();

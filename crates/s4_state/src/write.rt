@@ -6,7 +6,7 @@ ghost use Rattle.s4_types.specs.Versions.{written as written_of};
 ghost use Rattle.s4_types.specs.Base.{opened};
 ghost use Rattle.s4_types.specs.Kinds.{is_refused};
 ghost use Rattle.s4_state.specs.Sound.{IsSound, IsNext};
-ghost use Rattle.s4_state.specs.Stands.{IsKept, Stands};
+ghost use Rattle.s4_state.specs.Stands.{freed_in, IsKept, Stands};
 
 use crate::change::put;
 use crate::parts::Parts;
@@ -44,8 +44,8 @@ pub fn apply<S: Store<Version>>(
     requires next { IsNext (opened parts.old.window) parts.old.history.records added.now }
     requires granted { is_refused added.now.reply ≡ false }
     requires sound { IsSound (parts.old.history.records ++ added.now ∷ []) }
-    ensures ok { OnOk result (Stands S.chains parts.new (parts.old.history.records ++ added.now ∷ [])) }
-    ensures err { OnErr result (IsKept S.chains parts.new) }
+    ensures ok { OnOk result (Stands S.chains parts.new (freed_in S.chains parts.old) (parts.old.history.records ++ added.now ∷ [])) }
+    ensures err { OnErr result (Stands S.chains parts.new (freed_in S.chains parts.old) parts.old.history.records) }
     ensures history { parts.new.history ≡ parts.old.history }
     ensures window { parts.new.window ≡ parts.old.window }
 {

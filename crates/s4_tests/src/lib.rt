@@ -1,5 +1,5 @@
-//! Tests of the calls of the crates below the program, on small cases. What is proved stands in the
-//! crates; here stands what no clause says.
+//! Tests of the calls of the drive and of the crates below it, on small cases. What is proved stands
+//! in the crates; here stands what no clause says.
 #![tactic(auto)]
 
 #[cfg(test)]
@@ -9,10 +9,6 @@ mod audit;
 #[cfg(test)]
 mod audit_lines;
 #[cfg(test)]
-mod codec_replies;
-#[cfg(test)]
-mod codec_requests;
-#[cfg(test)]
 mod drive;
 #[cfg(test)]
 mod judge;
@@ -21,9 +17,9 @@ mod ledger;
 #[cfg(test)]
 mod names;
 #[cfg(test)]
-mod parts;
+mod objects;
 #[cfg(test)]
-mod script;
+mod parts;
 #[cfg(test)]
 mod state;
 #[cfg(test)]

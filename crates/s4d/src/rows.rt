@@ -42,7 +42,7 @@ pub const ROWS_OF_NAMES: [Row; 4] = [
 ];
 
 /// Of windows, budgets, audits and flushes, and campaigns of a stranger.
-pub const ROWS_OF_THE_PAST: [Row; 16] = [
+pub const ROWS_OF_THE_PAST: [Row; 19] = [
     LARGER_WINDOW_BRINGS_NOTHING_BACK,
     SMALLER_WINDOW_ACTS_AT_ONCE,
     BUDGET_AND_HORIZON,
@@ -57,6 +57,9 @@ pub const ROWS_OF_THE_PAST: [Row; 16] = [
     CAMPAIGN_PROBING_NAMES,
     CAMPAIGN_PROBING_NAMES_STRUCK,
     WORKED_CASE_OF_TWO_CELLS,
+    BUDGET_AND_HORIZON_SWEEP_0,
+    BUDGET_AND_HORIZON_SWEEP_1000000,
+    BUDGET_AND_HORIZON_USED,
     FLUSH,
     FLUSH_GIVES_BUDGET_BACK,
 ];
@@ -1201,6 +1204,70 @@ const WORKED_CASE_OF_TWO_CELLS: Row = Row {
     error: "",
 };
 
+/// Sweeps of nothing between the lines change no reply.
+const BUDGET_AND_HORIZON_SWEEP_0: Row = Row {
+    name: "budget_and_horizon_sweep_0",
+    script: "window 50\n\
+             0 0 setbudget 7.0 200\n\
+             sweep 0\n\
+             10 7 create 0\n\
+             sweep 0\n\
+             20 7 write 7.0.1 0 61616161616161616161616161616161616161616161616161616161616161616161616161616161616161616161616161616161616161616161616161616161616161616161616161616161616161616161616161616161616161616161616161616161\n\
+             sweep 0\n\
+             69 7 write 7.0.1 0 62\n\
+             sweep 0\n\
+             70 7 write 7.0.1 0 62\n\
+             sweep 0\n",
+    output: "done\n\
+             made 7.0.1\n\
+             done\n\
+             over-budget 64 164 200\n\
+             done\n",
+    error: "",
+};
+
+/// Nor do sweeps of all that is expired.
+const BUDGET_AND_HORIZON_SWEEP_1000000: Row = Row {
+    name: "budget_and_horizon_sweep_1000000",
+    script: "window 50\n\
+             0 0 setbudget 7.0 200\n\
+             sweep 1000000\n\
+             10 7 create 0\n\
+             sweep 1000000\n\
+             20 7 write 7.0.1 0 61616161616161616161616161616161616161616161616161616161616161616161616161616161616161616161616161616161616161616161616161616161616161616161616161616161616161616161616161616161616161616161616161616161\n\
+             sweep 1000000\n\
+             69 7 write 7.0.1 0 62\n\
+             sweep 1000000\n\
+             70 7 write 7.0.1 0 62\n\
+             sweep 1000000\n",
+    output: "done\n\
+             made 7.0.1\n\
+             done\n\
+             over-budget 64 164 200\n\
+             done\n",
+    error: "",
+};
+
+/// A sweep frees all that is expired, and what isn't stays.
+const BUDGET_AND_HORIZON_USED: Row = Row {
+    name: "budget_and_horizon_used",
+    script: "window 50\n\
+             0 0 setbudget 7.0 200\n\
+             10 7 create 0\n\
+             20 7 write 7.0.1 0 61616161616161616161616161616161616161616161616161616161616161616161616161616161616161616161616161616161616161616161616161616161616161616161616161616161616161616161616161616161616161616161616161616161\n\
+             69 7 write 7.0.1 0 62\n\
+             70 7 write 7.0.1 0 62\n\
+             sweep 1000000\n\
+             used\n",
+    output: "done\n\
+             made 7.0.1\n\
+             done\n\
+             over-budget 64 164 200\n\
+             done\n\
+             used 4\n",
+    error: "",
+};
+
 /// A flush erases what began and ended between its moments, and nothing in force.
 const FLUSH: Row = Row {
     name: "flush",
@@ -1297,5 +1364,25 @@ pub fn serials_spent(alloc: Global) -> Result<(String, String), Fail> {
     }
     script.push_str("1 7 create 0\n1 7 create 1\n")?;
     output.push_str("names-spent\nmade 7.1.1\n")?;
+    Ok((script, output))
+}
+
+/// A script that writes at a thousand moments, with these lines behind each write and those at its
+/// end, and what running it writes where the last lines are told so.
+pub fn thousand_writes(
+    alloc: Global,
+    between: &str,
+    end: &str,
+    told: &str,
+) -> Result<(String, String), Fail> {
+    let mut script = String::from_str(alloc, "window 10\n10 7 create 0\n")?;
+    let mut output = String::from_str(alloc, "made 7.0.1\n")?;
+    for moment in 11..=1010 {
+        writeln!(script, "{moment} 7 write 7.0.1 0 61")?;
+        script.push_str(between)?;
+        output.push_str("done\n")?;
+    }
+    script.push_str(end)?;
+    output.push_str(told)?;
     Ok((script, output))
 }

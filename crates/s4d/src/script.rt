@@ -7,9 +7,9 @@ ghost use Rattle.s4_drive.specs.Step.{Steps};
 use crate::fault::Fault;
 use crate::text;
 use s4_drive::Drive;
-use s4_script::{Line, ReplyText, parse_line, parse_window};
+use s4_script::{Line, ReplyText, UsedText, parse_line, parse_window};
 use s4_store::PlainStore;
-use s4_types::{Moment, Reply, Version};
+use s4_types::{Caller, Moment, Reply, Request, Step, Version};
 use std::alloc::Global;
 use std::io::{Read, Write};
 
@@ -40,12 +40,33 @@ fn run_lines<W: Write>(alloc: Global, text: &[u8], writer: &mut W) -> Result<(),
             }
             Some(run) => {
                 let line = parse_line(alloc, line).map_err(|why| Fault::parsing(why, number))?;
-                let reply = run.reply(&line).ok_or(Fault::MomentGoesBack(number))?;
-                writeln!(writer, "{}", ReplyText(&reply)).map_err(Fault::writing)?;
+                obey(run, &line, number, writer)?;
             }
         }
     }
     Ok(())
+}
+
+/// Does what the line of that number says, and writes what it is told.
+fn obey<W: Write>(run: &mut Run, line: &Line, number: usize, writer: &mut W) -> Result<(), Fault> {
+    match line {
+        Line::Step(
+            Step::Request {
+                moment,
+                caller,
+                request,
+            },
+        ) => {
+            let reply = run.reply(*moment, *caller, request);
+            let reply = reply.ok_or(Fault::MomentGoesBack(number))?;
+            writeln!(writer, "{}", ReplyText(&reply)).map_err(Fault::writing)
+        }
+        Line::Step(Step::Sweep { n }) => {
+            run.drive.sweep(*n);
+            Ok(())
+        }
+        Line::Used => writeln!(writer, "{}", UsedText(run.drive.used())).map_err(Fault::writing),
+    }
 }
 
 /// A script that is being run. A request that met want of memory leaves no record, so the newest
@@ -60,7 +81,7 @@ struct Run {
 
 impl Run {
     fn open(alloc: Global, window: u64) -> Run
-        ensures drive { result.drive ≡ record { window = window; history = [] } }
+        ensures drive { result.drive ≡ record { window = window; history = []; freed = 0 } }
         ensures moment { result.moment ≡ 0 }
     {
         Run {
@@ -69,17 +90,17 @@ impl Run {
         }
     }
 
-    /// The reply to a line, or none where its moment goes back.
-    fn reply(&mut self, line: &Line) -> Option<Reply>
-        ensures back { IsNone result ↔ (line.now.moment < self.old.moment) }
+    /// The reply to a request of a line, or none where its moment goes back.
+    fn reply(&mut self, moment: Moment, caller: Caller, request: &Request) -> Option<Reply>
+        ensures back { IsNone result ↔ (moment < self.old.moment) }
         ensures unchanged { IsNone result → self.new ≡ self.old }
-        ensures reply { IfSome result (Steps self.old.drive self.new.drive line.now.moment line.now.caller line.now.request) }
-        ensures moment { IfSome result (λ reply. self.new.moment ≡ line.now.moment) }
+        ensures reply { IfSome result (Steps self.old.drive self.new.drive moment caller request.now) }
+        ensures moment { IfSome result (λ reply. self.new.moment ≡ moment) }
     {
-        if line.moment < self.moment {
+        if moment < self.moment {
             return None;
         }
-        self.moment = line.moment;
-        Some(self.drive.step(line.moment, line.caller, &line.request))
+        self.moment = moment;
+        Some(self.drive.step(moment, caller, request))
     }
 }

@@ -2,12 +2,12 @@ use crate::command;
 use crate::fault::{Fault, FaultText};
 use crate::rows::{
     FAULT_BAD_LINE, FIRST_REQUESTS, ROWS_OF_NAMES, ROWS_OF_OBJECTS, ROWS_OF_THE_PAST, Row,
-    serials_spent,
+    serials_spent, thousand_writes,
 };
 use crate::script::run_script;
 use crate::text::read_up_to;
 use s4_drive::{Drive, never_down};
-use s4_script::{ReplyText, parse_line, parse_window};
+use s4_script::{Line, ReplyText, parse_line, parse_window};
 use s4_store::PlainStore;
 use s4_types::{Step, Version};
 use std::alloc::Global;
@@ -32,12 +32,10 @@ fn parsed(alloc: Global, script: &str) -> Result<(Drive<PlainStore<Version>>, Ve
     let window = parse_window(alloc, first.as_bytes())?;
     let mut steps = Vec::new(alloc);
     for text in lines {
-        let line = parse_line(alloc, text.as_bytes())?;
-        steps.push(Step::Request {
-            moment: line.moment,
-            caller: line.caller,
-            request: line.request,
-        })?;
+        match parse_line(alloc, text.as_bytes())? {
+            Line::Step(step) => steps.push(step)?,
+            Line::Used => {}
+        }
     }
     Ok((Drive::new(alloc, PlainStore::new(alloc), window), steps))
 }
@@ -48,7 +46,7 @@ fn replies_to<A: Abort>(rt: &A, alloc: Global, script: &str) -> Result<String, F
     let (mut drive, steps) = parsed(alloc, script)?;
     assert!(rt; never_down(drive.last(), &steps));
     let replies = drive.run(&steps)?;
-    assert_eq!(rt; drive.history().len(), steps.len());
+    assert_eq!(rt; drive.history().len(), replies.len());
     let mut texts = String::new(alloc);
     for reply in &replies {
         writeln!(texts, "{}", ReplyText(reply))?;
@@ -56,12 +54,13 @@ fn replies_to<A: Abort>(rt: &A, alloc: Global, script: &str) -> Result<String, F
     Ok(texts)
 }
 
-/// Runs a row as a script, and where no line of it is at fault its requests all at once.
+/// Runs a row as a script, and where no line of it is at fault or asks what is held, its steps all at
+/// once.
 fn check_row<A: Abort>(rt: &A, alloc: Global, row: &Row) -> Result<(), Fail> {
     let (output, error) = written(alloc, row.script.as_bytes())?;
     assert_eq!(rt; output.as_slice(), row.output.as_bytes(), "{}", row.name);
     assert_eq!(rt; error.as_str(), row.error, "{}", row.name);
-    if row.error.is_empty() && !row.script.is_empty() {
+    if row.error.is_empty() && !row.script.is_empty() && !row.script.contains("used") {
         let texts = replies_to(rt, alloc, row.script)?;
         assert_eq!(rt; texts.as_str(), row.output, "{}", row.name);
     }
@@ -103,6 +102,29 @@ fn row_of_serials_spent(rt: HostRuntime) -> Result<(), Fail> {
     assert!(rt; output.as_slice() == wanted.as_bytes());
     assert_eq!(rt; error.as_str(), "");
     assert!(rt; replies_to(&rt, alloc, &script)? == wanted);
+    Ok(())
+}
+
+/// What stands behind each of a thousand writes and at the end, and what the end is told: all that is
+/// expired is freed, write by write or at once, and thirteen values stay.
+const THOUSAND_WRITES: [(&str, &str, &str); 2] = [
+    ("sweep 1000\n", "used\n", "used 13\n"),
+    (
+        "",
+        "used\nsweep 2000\nused\nsweep 2000\nused\n",
+        "used 1003\nused 13\nused 13\n",
+    ),
+];
+
+#[test]
+fn rows_of_a_thousand_writes(rt: HostRuntime) -> Result<(), Fail> {
+    let alloc = rt.alloc();
+    for (between, end, told) in THOUSAND_WRITES {
+        let (script, wanted) = thousand_writes(alloc, between, end, told)?;
+        let (output, error) = written(alloc, script.as_bytes())?;
+        assert!(rt; output.as_slice() == wanted.as_bytes());
+        assert_eq!(rt; error.as_str(), "");
+    }
     Ok(())
 }
 

@@ -36,4 +36,4 @@ returns-clause-ok g c =
     let is : c.flush_kept.new.refunds.items ≡ refunds_of c.args.object.now.purse c.args.from c.args.to (items_of m c.in-Some.kept.now.data.chain) ++ refunds_of c.args.object.now.purse c.args.from c.args.to (items_of m c.in-Some.kept.now.attributes.chain) =
     c.flush_kept.ensures.refunds ∙ ap (λ rs. rs ++ (refunds_of c.args.object.now.purse c.args.from c.args.to (items_of m c.in-Some.kept.now.data.chain) ++ refunds_of c.args.object.now.purse c.args.from c.args.to (items_of m c.in-Some.kept.now.attributes.chain))) c.in_ok-refunds.ensures.items in
     subst (λ rs. Flushes m new found (same_object c.args.object.now) c.args.from c.args.to rs) (sym is)
-    (flushes_one c.args.from c.args.to c.requires c.args.object.now c.in-Some.kept.now (sym c.in-Some.ensures.value) c.flush_kept.ensures.data c.flush_kept.ensures.attributes c.flush_kept.ensures.others c.flush_kept.ensures.still)
+    (flushes_one c.args.from c.args.to c.requires c.args.object.now c.in-Some.kept.now (sym c.in-Some.ensures.value) c.flush_kept.ensures.data c.flush_kept.ensures.attributes c.flush_kept.ensures.others c.flush_kept.ensures.still c.flush_kept.ensures.used)

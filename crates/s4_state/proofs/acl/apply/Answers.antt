@@ -9,7 +9,7 @@ use Rattle.s4_types.specs.Outcome.{◌>>◌}
 use Rattle.s4_acl.specs.Set.{acl_once_set}
 use Rattle.s4_objects.specs.declared.kept.Which.TheVariants as which
 use Rattle.s4_state.specs.Stands.{PutsOn}
-use Rattle.s4_state.proofs.Effects.{set_acl_puts, set_acl_settable, changed_made}
+use Rattle.s4_state.proofs.Effects.{set_acl_puts, set_acl_settable, changed_lives}
 use Rattle.s4_state.proofs.acl.apply.Goals as goal
 
 passes : (test : Result (Unit {0}) Refusal) (acl : List AclEntry) → is_ok test ≡ true → (test >> Ok acl) ≡ Ok acl
@@ -29,8 +29,8 @@ unwrap-acl-requires g c =
     ∙ passes (settable user rights acl) (acl_with user rights acl)
     (set_acl_settable c.requires.kept.sound c.requires.next c.requires.granted c.args.object.now user rights c.requires.asked))) refl
 
-pub put-requires-clause-made : goal.put-requires-clause-made
-put-requires-clause-made g c = changed_made c.requires.kept.sound c.requires.next c.requires.granted c.args.object.now _ c.requires.asked refl
+pub put-requires-clause-lives : goal.put-requires-clause-lives
+put-requires-clause-lives g c = changed_lives c.requires.kept.sound c.requires.next c.requires.granted c.args.object.now _ c.requires.asked refl
 
 pub put-requires-clause-puts : goal.put-requires-clause-puts
 put-requires-clause-puts g c =

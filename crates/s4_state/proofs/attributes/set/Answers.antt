@@ -2,11 +2,11 @@ use Rattle.std.proofs.Common.{sym, subst, refl}
 use Rattle.s4_types.specs.declared.version.Item.TheVariants as item
 use Rattle.s4_objects.specs.declared.kept.Which.TheVariants as which
 use Rattle.s4_state.specs.Stands.{PutsOn}
-use Rattle.s4_state.proofs.Effects.{set_attributes_puts, changed_made}
+use Rattle.s4_state.proofs.Effects.{set_attributes_puts, changed_lives}
 use Rattle.s4_state.proofs.attributes.set.Goals as goal
 
-pub put-requires-clause-made : goal.put-requires-clause-made
-put-requires-clause-made g c = changed_made c.requires.kept.sound c.requires.next c.requires.granted c.args.object.now _ c.requires.asked refl
+pub put-requires-clause-lives : goal.put-requires-clause-lives
+put-requires-clause-lives g c = changed_lives c.requires.kept.sound c.requires.next c.requires.granted c.args.object.now _ c.requires.asked refl
 
 pub put-requires-clause-puts : goal.put-requires-clause-puts
 put-requires-clause-puts g c =

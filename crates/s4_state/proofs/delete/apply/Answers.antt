@@ -1,27 +1,27 @@
-use Rattle.std.proofs.Common.{◌≡◌, true, sym, ap, refl, ◌∙◌}
-use Rattle.std.specs.Prelude.{is_some}
-use Rattle.s4_objects.specs.declared.kept.Which.TheVariants as which
-use Rattle.s4_state.proofs.Standing.{stands_end}
-use Rattle.s4_state.proofs.Effects.{delete_ends, changed_made}
+use Rattle.std.proofs.Common.{refl}
+use Rattle.s4_names.specs.Drawn.{drawn_in}
+use Rattle.s4_state.specs.Stands.{freed_in, StandsFor}
+use Rattle.s4_state.proofs.Reading.{current-held}
+use Rattle.s4_state.proofs.Standing.{ends_then, stands_room, stands_end}
+use Rattle.s4_state.proofs.Effects.{delete_ends, changed_lives}
+use Rattle.s4_state.proofs.delete.apply.Given.{Over}
 use Rattle.s4_state.proofs.delete.apply.Goals as goal
+use Rattle.s4_state.proofs.delete.apply.Goals.{In_ok-reserve}
 
-pub unwrap-kept-requires : goal.unwrap-kept-requires
-unwrap-kept-requires g c =
-    let made = changed_made c.requires.kept.sound c.requires.next c.requires.granted c.args.object.now _ c.requires.asked refl in
-    let some : is_some c.kept.result ≡ true = ap is_some c.kept.ensures ∙ c.requires.kept.kept c.args.object.now ∙ made in
-    some
+-- what is kept stands once there is room for the ends
+ready : (g : Over) (c : In_ok-reserve g) → StandsFor c.args.parts.now.window (freed_in g.S.Store.chains c.args.parts.now) (g.S.Store.chains c.args.parts.now.store) c.reserve.new.self (drawn_in c.args.parts.now.names) c.args.parts.now.partitions c.args.parts.now.history.records
+ready g c = stands_room c.requires.kept c.reserve.ensures.kept c.reserve.ensures.ends (c.reserve.ensures.holds (g.S.Store.chains c.args.parts.now.store) c.requires.kept.objects.holds)
 
-pub end-requires : goal.end-requires
-end-requires g c = c.requires.kept.chained.opened _ _ which.Data (sym c.kept.ensures ∙ c.unwrap-kept.ensures)
+pub end_all-requires-clause-current : goal.end_all-requires-clause-current
+end_all-requires-clause-current g c w =
+    current-held (ready g (goal.at.end_all-requires-clause-current g c).In_ok-reserve) c.args.object.now c.args.added.now.moment c.requires.next.later
+    (changed_lives c.requires.kept.sound c.requires.next c.requires.granted c.args.object.now _ c.requires.asked refl) w
 
-pub end-requires-2 : goal.end-requires-2
-end-requires-2 g c = c.end.ensures.still _ (c.requires.kept.chained.opened _ _ which.Attributes (sym c.kept.ensures ∙ c.unwrap-kept.ensures))
+pub end_all-requires-clause-later : goal.end_all-requires-clause-later
+end_all-requires-clause-later g c = ends_then (ready g (goal.at.end_all-requires-clause-later g c).In_ok-reserve) c.args.added.now.moment c.requires.next.later
 
-pub end-requires-3 : goal.end-requires-3
-end-requires-3 g c = c.end-2.ensures.still _ (c.end.ensures.still _ (c.requires.kept.chained.opened _ _ which.Acl (sym c.kept.ensures ∙ c.unwrap-kept.ensures)))
-
-pub returns-clause-stands : goal.returns-clause-stands
-returns-clause-stands g c =
-    stands_end c.requires.kept c.args.added.now c.requires.sound _ _ _ c.args.object.now c.unwrap-kept.result (sym c.kept.ensures ∙ c.unwrap-kept.ensures)
-    (delete_ends c.requires.kept.sound c.requires.next c.requires.granted c.args.object.now c.requires.asked)
-    c.end.ensures.chains c.end-2.ensures.chains c.end-3.ensures.chains
+pub returns-clause-ok : goal.returns-clause-ok
+returns-clause-ok g c =
+    let e = c.end_all.ensures in
+    stands_end (ready g (goal.at.returns-clause-ok g c).In_ok-reserve) c.args.added.now c.requires.sound c.args.object.now
+    (delete_ends c.requires.kept.sound c.requires.next c.requires.granted c.args.object.now c.requires.asked) e.holds e.kept e.held e.ends e.others e.used

@@ -5,8 +5,8 @@ use Rattle.s4_state.proofs.flush.apply_to_one.Goals as goal
 
 pub returns-clause-ok : goal.returns-clause-ok
 returns-clause-ok g c =
-    IfOk-weaker c.flush_object.result _ _ (λ refunds flushed. stands_flush_one c.requires.kept c.requires.next c.requires.granted c.requires.sound c.args.object.now c.requires.asked flushed) c.flush_object.ensures.ok
+    IfOk-weaker c.flush_object.result _ _ (λ refunds flushed. stands_flush_one c.requires.kept c.requires.next c.requires.granted c.args.object.now c.requires.asked flushed c.flush_object.ensures.holds c.requires.sound) c.flush_object.ensures.ok
 
 pub returns-clause-charged : goal.returns-clause-charged
 returns-clause-charged g c =
-    IfOk-weaker c.flush_object.result _ _ (λ refunds flushed weight p. flush_one_charged c.requires.kept c.args.added.now (stands_flush_one c.requires.kept c.requires.next c.requires.granted c.requires.sound c.args.object.now c.requires.asked flushed) flushed c.requires.asked weight p) c.flush_object.ensures.ok
+    IfOk-weaker c.flush_object.result _ _ (λ refunds flushed weight p nothing. flush_one_charged c.requires.kept c.requires.next c.requires.granted c.args.object.now c.requires.asked flushed weight p nothing) c.flush_object.ensures.ok

@@ -17,13 +17,13 @@ change-requires g c = record {
 }
 
 pub returns-then-is_refused-clause-charged : goal.returns-then-is_refused-clause-charged
-returns-then-is_refused-clause-charged g c weight p =
+returns-then-is_refused-clause-charged g c weight p nothing =
     refused_charged c.requires.kept.sound c.requires.next weight p c.new.ensures.items (sym c.is_refused.ensures ∙ c.if-is_refused.true)
 
 pub returns-in_ok-change-in_default : goal.returns-in_ok-change-in_default
 returns-in_ok-change-in_default g c = record {
   ok = c.in_ok-change-in_default.ensures.ok;
-  charged = λ weight p. plain_charged c.requires.kept.sound c.requires.next weight p c.new-in_default.ensures.items (no_flush c.args.added.now.request c.in_default.not-Flush c.in_default.not-FlushO);
+  charged = λ weight p nothing. plain_charged c.requires.kept.sound c.requires.next weight p c.new-in_default.ensures.items (no_flush c.args.added.now.request c.in_default.not-Flush c.in_default.not-FlushO);
   refused = λ e. c.new-in_default.ensures.items;
   err = _;
   history = c.in_ok-change-in_default.ensures.history;

@@ -4,7 +4,8 @@ use Rattle.std.specs.Option.{option_copied_mut, option_map}
 use Rattle.std.specs.FinMap as finmap
 use Rattle.s4_types.specs.declared.version.Version.{Version}
 use Rattle.s4_types.specs.declared.version.Item.TheVariants.{Bind}
-use Rattle.s4_store.specs.Chains.{items_of}
+use Rattle.s4_store.specs.Chains.{items_of, item_count}
+use Rattle.s4_store.specs.Counts.{item_count-more}
 use Rattle.s4_parts.specs.declared.parts.Parts.{Parts}
 use Rattle.s4_parts.specs.declared.shelf.Shelf.{Shelf}
 use Rattle.s4_parts.specs.Table.{shelf_of, chain_on, items_on, object_of, binding}
@@ -81,3 +82,9 @@ returns-clause-waits g c =
     let is : bound_in after ≡ bound_on (set_value test c.args.self.now.shelves.entries w) = ap bound_on (c.get_mut.follows.holds w).0 in
     waits-bound c.requires.waits (g.S.Store.chains c.push.new.self) after c.args.object.now.purse c.args.name.now (binding c.args.moment c.args.name.now c.args.object.now)
     (record { endless = refl; object = refl }) c.requires.unbound (returns-clause-bindings g c) c.await_one.ensures.ended (omega arith) c.await_one.ensures.awaited
+
+pub returns-clause-used : goal.returns-clause-used
+returns-clause-used g c =
+    let m = g.S.Store.chains c.args.store.now in
+    let d = c.unwrap-track.result.chain in
+    ap item_count c.push.ensures.chains ∙ item_count-more m d 1 _ (length-append (items_of m d) _)

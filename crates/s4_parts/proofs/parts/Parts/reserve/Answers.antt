@@ -3,7 +3,7 @@ use Rattle.std.specs.Prelude.{is_some, OnOk, Result, Ok, Err}
 use Rattle.std.specs.Option.{option_copied_mut}
 use Rattle.s4_parts.specs.declared.parts.Parts.{Parts}
 use Rattle.s4_parts.specs.Table.{shelf_of, chain_on}
-use Rattle.s4_parts.proofs.Reserving.{reserved-holds, reserved-names, reserved-bindings, reserved-items, reserved-still, reserved-own, reserved-room}
+use Rattle.s4_parts.proofs.Reserving.{reserved-holds, reserved-names, reserved-bindings, reserved-items, reserved-still, reserved-own, reserved-room, reserved-used}
 use Rattle.std.specs.BTreeMap.{is_at}
 use Rattle.std.specs.Map.{set_value}
 use Rattle.s4_types.specs.Names.{purse_cmp}
@@ -83,3 +83,6 @@ returns-clause-waits g c =
     let mid : bound_in c.shelve.new.self ≡ bound_in c.args.self.now = c.in_ok-shelve.ensures.bound in
     waits-kept c.requires.waits (g.S.Store.chains c.reserve.new.store) after (returns-clause-bindings g c)
     (ap (λ e. e.ended) c.in_ok-shelve.ensures.ends ∙ c.in_ok-make_room.ensures.ended) (omega arith) (ap (λ e. e.awaited) c.in_ok-shelve.ensures.ends ∙ c.in_ok-make_room.ensures.awaited)
+
+pub returns-clause-used : goal.returns-clause-used
+returns-clause-used g c = reserved-used c.reserve.ensures.grows

@@ -8,7 +8,7 @@ use Rattle.s4_tracks.specs.Chain.{with_end}
 use Rattle.s4_parts.specs.declared.parts.Parts.{Parts}
 use Rattle.s4_parts.specs.declared.shelf.Shelf.{Shelf}
 use Rattle.s4_parts.specs.Table.{shelf_of, chain_on, serials_on, items_on, serial_now}
-use Rattle.s4_parts.proofs.Rebinding.{own, rebound-bindings, rebound-same, rebound-holds, rebound-others, unbound-counted, ended-any, known-now}
+use Rattle.s4_parts.proofs.Rebinding.{own, rebound-bindings, rebound-same, rebound-holds, rebound-others, unbound-counted, unbound-used, ended-any, known-now}
 use Rattle.std.specs.BTreeMap.{is_at}
 use Rattle.std.specs.Map.{set_value}
 use Rattle.s4_types.specs.Names.{purse_cmp}
@@ -106,3 +106,6 @@ returns-clause-waits g c =
     let new : c.new.result ≡ named = same-ended c.new.result named c.new.ensures.end c.new.ensures.purse c.new.ensures.name in
     waits-unbound c.requires.waits (g.S.Store.chains c.end.new.store) after c.args.purse.now c.args.name.now c.args.moment c.requires.bound c.requires.later (returns-clause-bindings g c)
     (c.put.ensures.ended ∙ ap (λ e. waiting_in c.args.self.now ++ e ∷ []) new) (fewer g (goal.at.returns-clause-waits g c).After-new) c.put.ensures.awaited
+
+pub returns-clause-used : goal.returns-clause-used
+returns-clause-used g c = unbound-used (g.S.Store.chains c.args.store.now) c.unwrap-track.result.chain c.args.moment c.end.ensures.chains

@@ -11,9 +11,9 @@ pub invariant_of-self : goal.invariant_of-self
 invariant_of-self c =
     let old = c.args.self.now.drive in
     let new = c.step.new.self in
-    let t = c.args.line.now.moment in
-    let caller = c.args.line.now.caller in
-    let request = c.args.line.now.request in
+    let t = c.args.moment in
+    let caller = c.args.caller in
+    let request = c.args.request.now in
     let ordered : c.args.self.now.moment ≤ t = grind (arith, c.lt.ensures, c.if-lt.false) in
     let early : last_of old.history ≤ t = omega (arith, ordered) in
     record {

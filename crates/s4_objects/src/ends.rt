@@ -1,0 +1,41 @@
+//! The ends of past values, in the order in which they came.
+
+ghost use Rattle.std.specs.Prelude.{◌≡◌, ◌∷◌, IfSome, IfNone, true, false, take};
+ghost use Rattle.std.specs.List.{list_any};
+ghost use Rattle.s4_objects.specs.Ends.{is_gone, all_ends};
+
+use crate::kept::Which;
+use s4_types::{Moment, ObjectId};
+use std::collections::VecDeque;
+
+/// The end of a past value that is held: when it ended, and on which track.
+#[derive(Clone, Copy, Debug, PartialEq, Eq)]
+pub struct Ended {
+    pub end: Moment,
+    pub object: ObjectId,
+    pub which: Which,
+}
+
+/// Takes the first end, where it is at most the horizon.
+pub fn take_gone(ends: &mut VecDeque<Ended>, horizon: Moment) -> Option<Ended>
+    ensures taken { IfSome result (λ e. ends.old.items ≡ e ∷ ends.new.items) }
+    ensures gone { IfSome result (λ e. is_gone horizon e.end ≡ true) }
+    ensures none { IfNone result (list_any (is_gone horizon) (take 1 (all_ends ends.old.items)) ≡ false) }
+    ensures same { IfNone result (ends.new.items ≡ ends.old.items) }
+{
+    if begins_gone(ends, horizon) {
+        ends.pop_front()
+    } else {
+        None
+    }
+}
+
+// Whether the first end is at most the horizon.
+fn begins_gone(ends: &VecDeque<Ended>, horizon: Moment) -> bool
+    ensures { result ≡ list_any (is_gone horizon) (take 1 (all_ends ends.now.items)) }
+{
+    match ends.front() {
+        Some(ended) => ended.end.tick() <= horizon.tick(),
+        None => false,
+    }
+}

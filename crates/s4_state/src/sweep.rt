@@ -1,0 +1,26 @@
+//! Sweeps: values and bindings that have expired are freed.
+
+ghost use Rattle.std.specs.Prelude.{◌≡◌, ◌+◌, ◌-◌, min};
+ghost use Rattle.s4_state.specs.Counts.{ended_count};
+ghost use Rattle.s4_state.specs.Stands.{freed_in, horizon_now, IsKept, Stands};
+
+use crate::parts::Parts;
+use s4_store::Store;
+use s4_types::{Moment, Version};
+
+/// Frees at most so many values and bindings that have ended by the horizon, the values of objects
+/// first, and tells how many. Takes no memory.
+pub fn sweep<S: Store<Version>>(parts: &mut Parts<S>, horizon: Moment, most: u64) -> u64
+    requires kept { IsKept S.chains parts.old }
+    requires now { horizon ≡ horizon_now parts.old.window parts.old.history.records }
+    ensures freed { result ≡ min most (ended_count horizon parts.old.history.records - freed_in S.chains parts.old) }
+    ensures stands { Stands S.chains parts.new (freed_in S.chains parts.old + result) parts.old.history.records }
+    ensures history { parts.new.history ≡ parts.old.history }
+    ensures window { parts.new.window ≡ parts.old.window }
+{
+    let store = &mut parts.store;
+    let values = parts.objects.expire(store, horizon, most);
+    let left = most - values;
+    let bindings = parts.partitions.expire(store, horizon, left);
+    values + bindings
+}

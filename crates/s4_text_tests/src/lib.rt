@@ -1,0 +1,9 @@
+//! Tests of what requests and replies are written as: as bytes, and as the lines of scripts.
+#![tactic(auto)]
+
+#[cfg(test)]
+mod codec_replies;
+#[cfg(test)]
+mod codec_requests;
+#[cfg(test)]
+mod script;
