@@ -17,8 +17,6 @@ mod ledger;
 #[cfg(test)]
 mod names;
 #[cfg(test)]
-mod objects;
-#[cfg(test)]
 mod parts;
 #[cfg(test)]
 mod state;
