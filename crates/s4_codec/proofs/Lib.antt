@@ -7,3 +7,4 @@ pub mod Lists
 pub mod Added
 pub mod FrameLaws
 pub mod Examples
+pub mod FrontLaws

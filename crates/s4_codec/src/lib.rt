@@ -16,10 +16,12 @@ mod write_requests;
 
 pub use error::{ReadError, WriteError};
 pub use frames::{FRAME_LIMIT, Front, read_frame};
+pub use input::Input;
 pub use laws::{
     framed_bodies_are_read_back, no_spelling_begins_another, read_values_are_spelled,
     spelled_values_are_read_back,
 };
+pub use read_parts::{read_block, read_byte, read_principal, read_u32};
 pub use read_replies::read_reply;
 pub use read_requests::read_request;
 pub use write_replies::write_reply;
