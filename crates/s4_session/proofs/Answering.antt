@@ -1,0 +1,160 @@
+-- Answering events in turn.
+use Rattle.std.proofs.Common.{◌≡◌, ℕ, ◌+◌, ◌≤◌, Bool, true, false, not, cond, List, [], ◌∷◌, ◌++◌, length, refl, sym, ap, subst, ◌∙◌, append_assoc, arith}
+use Rattle.std.specs.Prelude.{if◌then◌else◌, MatchBool}
+use Rattle.std.proofs.lemmas.List.{append-nil, length-append}
+use Rattle.std.proofs.lemmas.List.Elements.{filter-append}
+use Rattle.s4_types.specs.declared.principal.Caller.{Caller}
+use Rattle.s4_types.specs.declared.request.Request as asked
+use Rattle.s4_types.specs.declared.reply.Reply.{Reply}
+use Rattle.s4_types.specs.declared.record.Record.{Record}
+use Rattle.s4_types.specs.declared.record.Step.{Step}
+use Rattle.s4_types.specs.declared.record.Step.TheVariants as steps
+use Rattle.s4_types.specs.Base.{Base, opened}
+use Rattle.s4_types.specs.Play.{play_on, after_step, record_of, replies as replies_in, last_of, is_no_memory, request_count, carried_out, without_no_memory}
+use Rattle.s4_types.proofs.Booleans.{by_test}
+use Rattle.s4_types.proofs.Snoc.{last_of-snoc, replies-snoc}
+use Rattle.s4_state.specs.Log.{Log}
+use Rattle.s4_drive.specs.Step.{Steps, Answers}
+use Rattle.s4_session.specs.declared.event.Event.{Event}
+use Rattle.s4_session.specs.declared.event.Event.TheVariants.{Welcome, Request, Fault}
+use Rattle.s4_session.specs.declared.event.Fault as kinds
+use Rattle.s4_session.specs.Sent.{sent_for, welcome, fault_frame, reply_frame}
+use Rattle.s4_session.specs.Answered.{steps_by, Answered}
+
+-- ---- lists that are joined
+
+pub play_on-append : (base : Base) (h : List Record) (xs ys : List Step) → play_on base h (xs ++ ys) ≡ play_on base (play_on base h xs) ys
+play_on-append base h [] ys = refl
+play_on-append base h (x ∷ xs) ys = play_on-append base (after_step base h x) xs ys
+
+pub request_count-append : (xs ys : List Step) → request_count (xs ++ ys) ≡ request_count xs + request_count ys
+request_count-append [] ys = omega arith
+request_count-append (steps.Sweep n ∷ xs) ys = request_count-append xs ys
+request_count-append (steps.Request t caller r ∷ xs) ys = omega (arith, request_count-append xs ys)
+
+chosen-append : (b : Bool) (q : Step) (xs ys : List Step) → cond b (xs ++ ys) (q ∷ (xs ++ ys)) ≡ cond b xs (q ∷ xs) ++ ys
+chosen-append true q xs ys = refl
+chosen-append false q xs ys = refl
+
+pub carried_out-append : (xs ys : List Step) (told more : List Reply) → length told ≡ request_count xs → carried_out (xs ++ ys) (told ++ more) ≡ carried_out xs told ++ carried_out ys more
+carried_out-append [] ys [] more e = refl
+carried_out-append [] ys (x ∷ told) more e = absurd (omega (arith, e))
+carried_out-append (steps.Sweep n ∷ xs) ys told more e = ap (λ (w : List Step). steps.Sweep n ∷ w) (carried_out-append xs ys told more e)
+carried_out-append (steps.Request t caller r ∷ xs) ys [] more e = absurd (omega (arith, e))
+carried_out-append (steps.Request t caller r ∷ xs) ys (x ∷ told) more e =
+    let q : Step = steps.Request t caller r in
+    ap (λ (w : List Step). cond (is_no_memory x) w (q ∷ w)) (carried_out-append xs ys told more (omega (arith, e)))
+    ∙ chosen-append (is_no_memory x) q (carried_out xs told) (carried_out ys more)
+
+pub without-append : (xs ys : List Reply) → without_no_memory (xs ++ ys) ≡ without_no_memory xs ++ without_no_memory ys
+without-append xs ys = filter-append (λ r. not (is_no_memory r)) xs ys
+
+pub steps_by-append : (t : ℕ) (xs ys : List Event) → steps_by t (xs ++ ys) ≡ steps_by t xs ++ steps_by t ys
+steps_by-append t [] ys = refl
+steps_by-append t (Welcome caller ∷ xs) ys = steps_by-append t xs ys
+steps_by-append t (Request caller r ∷ xs) ys = ap (λ (w : List Step). steps.Request t caller r ∷ w) (steps_by-append t xs ys)
+steps_by-append t (Fault f ∷ xs) ys = steps_by-append t xs ys
+
+pub sent_for-append : (t : ℕ) (xs ys : List Event) (told more : List Reply) → length told ≡ request_count (steps_by t xs) → sent_for (xs ++ ys) (told ++ more) ≡ sent_for xs told ++ sent_for ys more
+sent_for-append t [] ys [] more e = refl
+sent_for-append t [] ys (x ∷ told) more e = absurd (omega (arith, e))
+sent_for-append t (Welcome caller ∷ xs) ys told more e =
+    ap (λ (w : List ℕ). welcome ++ w) (sent_for-append t xs ys told more e) ∙ sym (append_assoc welcome (sent_for xs told) (sent_for ys more))
+sent_for-append t (Request caller r ∷ xs) ys [] more e = absurd (omega (arith, e))
+sent_for-append t (Request caller r ∷ xs) ys (x ∷ told) more e =
+    ap (λ (w : List ℕ). reply_frame x ++ w) (sent_for-append t xs ys told more (omega (arith, e))) ∙ sym (append_assoc (reply_frame x) (sent_for xs told) (sent_for ys more))
+sent_for-append t (Fault f ∷ xs) ys told more e =
+    ap (λ (w : List ℕ). fault_frame f ++ w) (sent_for-append t xs ys told more e) ∙ sym (append_assoc (fault_frame f) (sent_for xs told) (sent_for ys more))
+
+-- ---- answers one after the other
+
+pub answered_none : (t : ℕ) (log : Log) (bytes after : List ℕ) → after ≡ bytes → Answered t [] log log bytes after
+answered_none t log bytes after e = record {
+  replies = [];
+  each = refl;
+  window = refl;
+  history = refl;
+  told = sym (append-nil (replies_in log.history));
+  sent = e ∙ sym (append-nil bytes);
+}
+
+pub answered_then : (t : ℕ) (xs ys : List Event) (a b c : Log) (p q r : List ℕ) → Answered t xs a b p q → Answered t ys b c q r → Answered t (xs ++ ys) a c p r
+answered_then t xs ys a b c p q r one two =
+    let first : List Step = steps_by t xs in
+    let second : List Step = steps_by t ys in
+    record {
+      replies = one.replies ++ two.replies;
+      each = rw (steps_by-append t xs ys) (omega (arith, length-append one.replies two.replies, request_count-append first second, one.each, two.each));
+      window = two.window ∙ one.window;
+      history = two.history
+          ∙ ap (λ (w : ℕ). play_on (opened w) b.history (carried_out second two.replies)) one.window
+          ∙ ap (λ (h : List Record). play_on (opened a.window) h (carried_out second two.replies)) one.history
+          ∙ sym (play_on-append (opened a.window) a.history (carried_out first one.replies) (carried_out second two.replies))
+          ∙ ap (play_on (opened a.window) a.history) (sym (carried_out-append first second one.replies two.replies one.each))
+          ∙ ap (λ (w : List Step). play_on (opened a.window) a.history (carried_out w (one.replies ++ two.replies))) (sym (steps_by-append t xs ys));
+      told = two.told ∙ ap (λ (w : List Reply). w ++ without_no_memory two.replies) one.told
+          ∙ append_assoc (replies_in a.history) (without_no_memory one.replies) (without_no_memory two.replies)
+          ∙ ap (λ (w : List Reply). replies_in a.history ++ w) (sym (without-append one.replies two.replies));
+      sent = two.sent ∙ ap (λ (w : List ℕ). w ++ sent_for ys two.replies) one.sent
+          ∙ append_assoc p (sent_for xs one.replies) (sent_for ys two.replies)
+          ∙ ap (λ (w : List ℕ). p ++ w) (sym (sent_for-append t xs ys one.replies two.replies one.each));
+    }
+
+-- ---- one event
+
+pub answered_welcome : (t : ℕ) (caller : Caller) (log : Log) (p q : List ℕ) → q ≡ p ++ welcome → Answered t (Welcome caller ∷ []) log log p q
+answered_welcome t caller log p q e = record {
+  replies = [];
+  each = refl;
+  window = refl;
+  history = refl;
+  told = sym (append-nil (replies_in log.history));
+  sent = e ∙ ap (λ (w : List ℕ). p ++ w) (sym (append-nil welcome));
+}
+
+pub answered_fault : (t : ℕ) (f : kinds.Fault) (log : Log) (p q : List ℕ) → q ≡ p ++ fault_frame f → Answered t (Fault f ∷ []) log log p q
+answered_fault t f log p q e = record {
+  replies = [];
+  each = refl;
+  window = refl;
+  history = refl;
+  told = sym (append-nil (replies_in log.history));
+  sent = e ∙ ap (λ (w : List ℕ). p ++ w) (sym (append-nil (fault_frame f)));
+}
+
+module _ (t : ℕ) (caller : Caller) (r : asked.Request) (old new : Log) (reply : Reply) where
+  -- the moment of the newest record
+  pub step_last : last_of old.history ≤ t → Steps old new t caller r reply → last_of new.history ≤ t
+  step_last before s = by_test (is_no_memory reply)
+      (λ e. let same : new ≡ old = subst (λ b. MatchBool b (new ≡ old) (Answers old new t caller r reply)) e s in
+      subst (λ (l : Log). last_of l.history ≤ t) (sym same) before)
+      (λ e. let a : Answers old new t caller r reply = subst (λ b. MatchBool b (new ≡ old) (Answers old new t caller r reply)) e s in
+      let is : last_of new.history ≡ t = ap (λ (l : Log). last_of l.history) a.grows ∙ last_of-snoc old.history (record_of (opened old.window) old.history t caller r) in
+      omega (arith, is))
+
+  module _ (p q : List ℕ) (sent : q ≡ p ++ reply_frame reply) where
+    refused : is_no_memory reply ≡ true → new ≡ old → Answered t (Request caller r ∷ []) old new p q
+    refused e same = record {
+      replies = reply ∷ [];
+      each = refl;
+      window = ap (λ (l : Log). l.window) same;
+      history = ap (λ (l : Log). l.history) same ∙ ap (λ b. play_on (opened old.window) old.history (cond b [] (steps.Request t caller r ∷ []))) (sym e);
+      told = ap (λ (l : Log). replies_in l.history) same ∙ sym (append-nil (replies_in old.history)) ∙ ap (λ b. replies_in old.history ++ (if not b then reply ∷ [] else [])) (sym e);
+      sent = sent ∙ ap (λ (w : List ℕ). p ++ w) (sym (append-nil (reply_frame reply)));
+    }
+
+    carried : is_no_memory reply ≡ false → Answers old new t caller r reply → Answered t (Request caller r ∷ []) old new p q
+    carried e a = record {
+      replies = reply ∷ [];
+      each = refl;
+      window = ap (λ (l : Log). l.window) a.grows;
+      history = ap (λ (l : Log). l.history) a.grows ∙ ap (λ b. play_on (opened old.window) old.history (cond b [] (steps.Request t caller r ∷ []))) (sym e);
+      told = ap (λ (l : Log). replies_in l.history) a.grows ∙ replies-snoc old.history (record_of (opened old.window) old.history t caller r)
+          ∙ ap (λ x. replies_in old.history ++ x ∷ []) (sym a.answer_is) ∙ ap (λ b. replies_in old.history ++ (if not b then reply ∷ [] else [])) (sym e);
+      sent = sent ∙ ap (λ (w : List ℕ). p ++ w) (sym (append-nil (reply_frame reply)));
+    }
+
+    pub answered_request : Steps old new t caller r reply → Answered t (Request caller r ∷ []) old new p q
+    answered_request s = by_test (is_no_memory reply)
+        (λ e. refused e (subst (λ b. MatchBool b (new ≡ old) (Answers old new t caller r reply)) e s))
+        (λ e. carried e (subst (λ b. MatchBool b (new ≡ old) (Answers old new t caller r reply)) e s))

@@ -1,0 +1,351 @@
+-- What one more arrival changes.
+use Rattle.std.proofs.Common.{◌≡◌, ℕ, ◌+◌, ◌||◌, Bool, true, false, cond, eqb, Option, Some, None, List, [], ◌∷◌, ◌++◌, length, drop, map, refl, sym, ap, subst, ◌∙◌, append_assoc, arith}
+use Rattle.std.specs.Prelude.{filter_map, unwrap_or, if◌then◌else◌}
+use Rattle.std.proofs.lemmas.Bool.{eqb-true, eq-eqb}
+use Rattle.std.proofs.lemmas.List.{append-nil, length-append, map-append, drop_at}
+use Rattle.std.proofs.lemmas.List.Concat.{flat_map-append, flat_map-cons}
+use Rattle.std.proofs.lemmas.List.Folds.{list_any-append}
+use Rattle.s4_types.specs.declared.reply.Reply.{Reply}
+use Rattle.s4_types.specs.declared.record.Record.{Record}
+use Rattle.s4_types.specs.declared.record.Step.{Step}
+use Rattle.s4_types.specs.declared.record.Step.TheVariants as steps
+use Rattle.s4_types.specs.Base.{opened}
+use Rattle.s4_types.specs.Play.{play, play_on, request_count, carried_out, without_no_memory}
+use Rattle.s4_types.proofs.Booleans.{by_test, ||-false, ||-true}
+use Rattle.s4_session.specs.declared.event.Event.{Event}
+use Rattle.s4_session.specs.declared.event.Event.TheVariants.{Welcome, Request, Fault}
+use Rattle.s4_session.specs.declared.event.Stand.TheVariants.{Greeting}
+use Rattle.s4_session.specs.declared.hall_step.HallStep.{HallStep}
+use Rattle.s4_session.specs.declared.hall_step.HallStep.TheVariants.{Arrive, Sweep}
+use Rattle.s4_session.specs.Logins.{Logins}
+use Rattle.s4_session.specs.Stream.{Heard, hear, events_of}
+use Rattle.s4_session.specs.Feeding.{Listening, after_events, left_by}
+use Rattle.s4_session.specs.Arrivals.{piece_on, stream_of, is_on, occurs, Asked, Asks, Sweeps, step_of, asked_by_event, events_by, asked_by_step, asked_after, asked_in, requests_of}
+use Rattle.s4_session.specs.Sent.{sent_for, replies_on, sent_by}
+use Rattle.s4_session.specs.Answered.{steps_by, Answered}
+use Rattle.s4_session.specs.Halls.{Hall, fresh, session_of, session_after, heard_on, Takes, StandsAfter, Adds}
+use Rattle.s4_session.proofs.Cuts.{hear_cut}
+use Rattle.s4_session.proofs.Answering.{play_on-append, request_count-append, carried_out-append, without-append, sent_for-append}
+
+same_number : (c : ℕ) → eqb c c ≡ true
+same_number c = eq-eqb c c refl
+
+neither : (a b : Bool) → (a || b) ≡ false → (a ≡ false) × (b ≡ false)
+neither true b e = absurd cc
+neither false b e = (refl, e)
+
+counted : (b : Bool) (all n m : ℕ) → all ≡ n + m → cond b (all + 1) all ≡ cond b (n + 1) n + m
+counted true all n m e = omega (arith, e)
+counted false all n m e = e
+
+-- ---- streams
+
+pub stream_more : (d : ℕ) (arrivals : List HallStep) (x : HallStep) → stream_of d (arrivals ++ x ∷ []) ≡ stream_of d arrivals ++ piece_on d x
+stream_more d arrivals x =
+    flat_map-append (piece_on d) arrivals (x ∷ []) ∙ ap (λ (w : List ℕ). stream_of d arrivals ++ w) (flat_map-cons (piece_on d) x [] ∙ append-nil (piece_on d x))
+
+pub occurs_more : (d : ℕ) (arrivals : List HallStep) (x : HallStep) → occurs d (arrivals ++ x ∷ []) ≡ (occurs d arrivals || is_on d x)
+occurs_more d arrivals x = list_any-append (is_on d) arrivals (x ∷ []) ∙ ap (λ (b : Bool). occurs d arrivals || b) (||-false (is_on d x))
+
+-- on a connection that doesn't occur nothing came
+pub no_stream : (d : ℕ) (arrivals : List HallStep) → occurs d arrivals ≡ false → stream_of d arrivals ≡ []
+no_stream d [] e = refl
+no_stream d (Sweep n ∷ arrivals) e = flat_map-cons (piece_on d) (Sweep n) arrivals ∙ no_stream d arrivals e
+no_stream d (Arrive c t piece ∷ arrivals) e =
+    let parts = neither (eqb c d) (occurs d arrivals) e in
+    flat_map-cons (piece_on d) (Arrive c t piece) arrivals ∙ ap (λ (b : Bool). (if b then piece else []) ++ stream_of d arrivals) parts.0 ∙ no_stream d arrivals parts.1
+
+module _ (c t : ℕ) (piece : List ℕ) (arrivals : List HallStep) where
+  stream_here : stream_of c (arrivals ++ Arrive c t piece ∷ []) ≡ stream_of c arrivals ++ piece
+  stream_here = stream_more c arrivals (Arrive c t piece) ∙ ap (λ (b : Bool). stream_of c arrivals ++ (if b then piece else [])) (same_number c)
+
+  stream_there : (d : ℕ) → eqb c d ≡ false → stream_of d (arrivals ++ Arrive c t piece ∷ []) ≡ stream_of d arrivals
+  stream_there d e = stream_more d arrivals (Arrive c t piece) ∙ ap (λ (b : Bool). stream_of d arrivals ++ (if b then piece else [])) e ∙ append-nil (stream_of d arrivals)
+
+-- ---- events
+
+-- how many events are requests
+abbrev requests_in : List Event → ℕ
+requests_in [] = 0
+requests_in (Welcome caller ∷ events) = requests_in events
+requests_in (Request caller r ∷ events) = requests_in events + 1
+requests_in (Fault f ∷ events) = requests_in events
+
+count_steps : (t : ℕ) (events : List Event) → request_count (steps_by t events) ≡ requests_in events
+count_steps t [] = refl
+count_steps t (Welcome caller ∷ events) = count_steps t events
+count_steps t (Request caller r ∷ events) = ap (λ (n : ℕ). n + 1) (count_steps t events)
+count_steps t (Fault f ∷ events) = count_steps t events
+
+requests_in-append : (xs ys : List Event) → requests_in (xs ++ ys) ≡ requests_in xs + requests_in ys
+requests_in-append [] ys = omega arith
+requests_in-append (Welcome caller ∷ xs) ys = requests_in-append xs ys
+requests_in-append (Request caller r ∷ xs) ys = omega (arith, requests_in-append xs ys)
+requests_in-append (Fault f ∷ xs) ys = requests_in-append xs ys
+
+-- what the events ask on the connection
+abbrev pub asked_of : ℕ → ℕ → List Event → List Asked
+asked_of c t events = filter_map (asked_by_event c t) events
+
+asked_steps : (c t : ℕ) (events : List Event) → map step_of (asked_of c t events) ≡ steps_by t events
+asked_steps c t [] = refl
+asked_steps c t (Welcome caller ∷ events) = asked_steps c t events
+asked_steps c t (Request caller r ∷ events) = ap (λ (w : List Step). steps.Request t caller r ∷ w) (asked_steps c t events)
+asked_steps c t (Fault f ∷ events) = asked_steps c t events
+
+-- what is heard where the piece comes after the arrivals
+abbrev pub heard_then : Logins → List HallStep → ℕ → List ℕ → Heard
+heard_then logins past c piece = hear logins (session_after c logins past).stand ((session_after c logins past).held ++ piece)
+
+heard_more : (logins : Logins) (past : List HallStep) (c : ℕ) (piece : List ℕ)
+    → hear logins Greeting (stream_of c past ++ piece) ≡ after_events (events_of logins (stream_of c past)) (heard_then logins past c piece)
+heard_more logins past c piece = hear_cut logins Greeting (stream_of c past) piece
+
+pub events_more : (logins : Logins) (past : List HallStep) (c : ℕ) (piece : List ℕ)
+    → events_of logins (stream_of c past ++ piece) ≡ events_of logins (stream_of c past) ++ (heard_then logins past c piece).events
+events_more logins past c piece = ap (λ (h : Heard). h.events) (heard_more logins past c piece)
+
+pub events_by_is : (logins : Logins) (past : List HallStep) (c : ℕ) (piece : List ℕ) → events_by logins past c piece ≡ (heard_then logins past c piece).events
+events_by_is logins past c piece =
+    let old : List Event = events_of logins (stream_of c past) in
+    ap (drop (length old)) (events_more logins past c piece) ∙ drop_at old (heard_then logins past c piece).events (length old) refl
+
+-- ---- what is asked
+
+asked_after_more : (logins : Logins) (past arrivals : List HallStep) (x : HallStep)
+    → asked_after logins past (arrivals ++ x ∷ []) ≡ asked_after logins past arrivals ++ asked_by_step logins (past ++ arrivals) x
+asked_after_more logins past [] x = append-nil (asked_by_step logins past x) ∙ ap (λ (w : List HallStep). asked_by_step logins w x) (sym (append-nil past))
+asked_after_more logins past (y ∷ arrivals) x =
+    ap (λ (w : List Asked). asked_by_step logins past y ++ w)
+    (asked_after_more logins (past ++ y ∷ []) arrivals x ∙ ap (λ (w : List HallStep). asked_after logins (past ++ y ∷ []) arrivals ++ asked_by_step logins w x) (append_assoc past (y ∷ []) arrivals))
+    ∙ sym (append_assoc (asked_by_step logins past y) (asked_after logins (past ++ y ∷ []) arrivals) (asked_by_step logins (past ++ y ∷ arrivals) x))
+
+pub asked_more : (logins : Logins) (arrivals : List HallStep) (x : HallStep) → asked_in logins (arrivals ++ x ∷ []) ≡ asked_in logins arrivals ++ asked_by_step logins arrivals x
+asked_more logins arrivals x = asked_after_more logins [] arrivals x
+
+asked_arrival : (logins : Logins) (arrivals : List HallStep) (c t : ℕ) (piece : List ℕ)
+    → asked_in logins (arrivals ++ Arrive c t piece ∷ []) ≡ asked_in logins arrivals ++ asked_of c t (heard_then logins arrivals c piece).events
+asked_arrival logins arrivals c t piece =
+    asked_more logins arrivals (Arrive c t piece) ∙ ap (λ (w : List Event). asked_in logins arrivals ++ asked_of c t w) (events_by_is logins arrivals c piece)
+
+pub requests_more : (logins : Logins) (arrivals : List HallStep) (c t : ℕ) (piece : List ℕ)
+    → requests_of logins (arrivals ++ Arrive c t piece ∷ []) ≡ requests_of logins arrivals ++ steps_by t (heard_then logins arrivals c piece).events
+requests_more logins arrivals c t piece =
+    let events : List Event = (heard_then logins arrivals c piece).events in
+    ap (map step_of) (asked_arrival logins arrivals c t piece) ∙ map-append step_of (asked_in logins arrivals) (asked_of c t events)
+    ∙ ap (λ (w : List Step). requests_of logins arrivals ++ w) (asked_steps c t events)
+
+-- ---- whose replies
+
+-- how many requests are asked on the connection
+abbrev asked_on : ℕ → List Asked → ℕ
+asked_on d [] = 0
+asked_on d (Sweeps n ∷ asked) = asked_on d asked
+asked_on d (Asks c t caller r ∷ asked) = cond (eqb c d) (asked_on d asked + 1) (asked_on d asked)
+
+chosen_length : (b : Bool) (x : Reply) (xs : List Reply) (n : ℕ) → length xs ≡ n → length (cond b (x ∷ xs) xs) ≡ cond b (n + 1) n
+chosen_length true x xs n e = omega (arith, e)
+chosen_length false x xs n e = e
+
+replies_length : (d : ℕ) (asked : List Asked) (told : List Reply) → length told ≡ request_count (map step_of asked) → length (replies_on d asked told) ≡ asked_on d asked
+replies_length d [] told e = refl
+replies_length d (Sweeps n ∷ asked) told e = replies_length d asked told e
+replies_length d (Asks c t caller r ∷ asked) [] e = absurd (omega (arith, e))
+replies_length d (Asks c t caller r ∷ asked) (x ∷ told) e = chosen_length (eqb c d) x (replies_on d asked told) (asked_on d asked) (replies_length d asked told (omega (arith, e)))
+
+chosen_reply : (b : Bool) (x : Reply) (xs ys : List Reply) → cond b (x ∷ (xs ++ ys)) (xs ++ ys) ≡ cond b (x ∷ xs) xs ++ ys
+chosen_reply true x xs ys = refl
+chosen_reply false x xs ys = refl
+
+pub replies_more : (d : ℕ) (xs ys : List Asked) (told more : List Reply) → length told ≡ request_count (map step_of xs) → replies_on d (xs ++ ys) (told ++ more) ≡ replies_on d xs told ++ replies_on d ys more
+replies_more d [] ys [] more e = refl
+replies_more d [] ys (x ∷ told) more e = absurd (omega (arith, e))
+replies_more d (Sweeps n ∷ xs) ys told more e = replies_more d xs ys told more e
+replies_more d (Asks c t caller r ∷ xs) ys [] more e = absurd (omega (arith, e))
+replies_more d (Asks c t caller r ∷ xs) ys (x ∷ told) more e =
+    ap (λ (w : List Reply). cond (eqb c d) (x ∷ w) w) (replies_more d xs ys told more (omega (arith, e)))
+    ∙ chosen_reply (eqb c d) x (replies_on d xs told) (replies_on d ys more)
+
+-- all replies are those of the connection
+replies_here : (c t : ℕ) (events : List Event) (told : List Reply) → length told ≡ requests_in events → replies_on c (asked_of c t events) told ≡ told
+replies_here c t [] [] e = refl
+replies_here c t [] (x ∷ told) e = absurd (omega (arith, e))
+replies_here c t (Welcome caller ∷ events) told e = replies_here c t events told e
+replies_here c t (Fault f ∷ events) told e = replies_here c t events told e
+replies_here c t (Request caller r ∷ events) [] e = absurd (omega (arith, e))
+replies_here c t (Request caller r ∷ events) (x ∷ told) e =
+    let rest : List Reply = replies_on c (asked_of c t events) told in
+    ap (λ (b : Bool). cond b (x ∷ rest) rest) (same_number c) ∙ ap (λ (w : List Reply). x ∷ w) (replies_here c t events told (omega (arith, e)))
+
+-- none is
+replies_there : (c d t : ℕ) (events : List Event) (told : List Reply) → eqb c d ≡ false → replies_on d (asked_of c t events) told ≡ []
+replies_there c d t [] told e = refl
+replies_there c d t (Welcome caller ∷ events) told e = replies_there c d t events told e
+replies_there c d t (Fault f ∷ events) told e = replies_there c d t events told e
+replies_there c d t (Request caller r ∷ events) [] e = refl
+replies_there c d t (Request caller r ∷ events) (x ∷ told) e =
+    let rest : List Reply = replies_on d (asked_of c t events) told in
+    ap (λ (b : Bool). cond b (x ∷ rest) rest) e ∙ replies_there c d t events told e
+
+asked_on-append : (d : ℕ) (xs ys : List Asked) → asked_on d (xs ++ ys) ≡ asked_on d xs + asked_on d ys
+asked_on-append d [] ys = omega arith
+asked_on-append d (Sweeps n ∷ xs) ys = asked_on-append d xs ys
+asked_on-append d (Asks c t caller r ∷ xs) ys = counted (eqb c d) (asked_on d (xs ++ ys)) (asked_on d xs) (asked_on d ys) (asked_on-append d xs ys)
+
+asked_here : (c t : ℕ) (events : List Event) → asked_on c (asked_of c t events) ≡ requests_in events
+asked_here c t [] = refl
+asked_here c t (Welcome caller ∷ events) = asked_here c t events
+asked_here c t (Fault f ∷ events) = asked_here c t events
+asked_here c t (Request caller r ∷ events) =
+    let n : ℕ = asked_on c (asked_of c t events) in
+    ap (λ (b : Bool). cond b (n + 1) n) (same_number c) ∙ ap (λ (k : ℕ). k + 1) (asked_here c t events)
+
+asked_there : (c d t : ℕ) (events : List Event) → eqb c d ≡ false → asked_on d (asked_of c t events) ≡ 0
+asked_there c d t [] e = refl
+asked_there c d t (Welcome caller ∷ events) e = asked_there c d t events e
+asked_there c d t (Fault f ∷ events) e = asked_there c d t events e
+asked_there c d t (Request caller r ∷ events) e =
+    let n : ℕ = asked_on d (asked_of c t events) in
+    ap (λ (b : Bool). cond b (n + 1) n) e ∙ asked_there c d t events e
+
+-- ---- as many requests are asked on a connection as its stream says
+
+abbrev heard_count : ℕ → Logins → List HallStep → ℕ
+heard_count d logins past = requests_in (events_of logins (stream_of d past))
+
+count_arrival : (d : ℕ) (logins : Logins) (past : List HallStep) (c t : ℕ) (piece : List ℕ)
+    → asked_on d (asked_by_step logins past (Arrive c t piece)) + heard_count d logins past ≡ heard_count d logins (past ++ Arrive c t piece ∷ [])
+count_arrival d logins past c t piece =
+    let events : List Event = (heard_then logins past c piece).events in
+    let asked-is : asked_on d (asked_by_step logins past (Arrive c t piece)) ≡ asked_on d (asked_of c t events) = ap (λ (w : List Event). asked_on d (asked_of c t w)) (events_by_is logins past c piece) in
+    by_test (eqb c d)
+    (λ e. let same : c ≡ d = eqb-true c d e in
+    let more : heard_count c logins (past ++ Arrive c t piece ∷ []) ≡ heard_count c logins past + requests_in events
+    = ap (λ (w : List ℕ). requests_in (events_of logins w)) (stream_here c t piece past) ∙ ap requests_in (events_more logins past c piece) ∙ requests_in-append (events_of logins (stream_of c past)) events in
+    let here : asked_on c (asked_of c t events) ≡ requests_in events = asked_here c t events in
+    let start : asked_on c (asked_by_step logins past (Arrive c t piece)) ≡ asked_on c (asked_of c t events) = ap (λ (w : List Event). asked_on c (asked_of c t w)) (events_by_is logins past c piece) in
+    let there : asked_on c (asked_by_step logins past (Arrive c t piece)) + heard_count c logins past ≡ heard_count c logins (past ++ Arrive c t piece ∷ []) = omega (arith, more, here, start) in
+    subst (λ (k : ℕ). asked_on k (asked_by_step logins past (Arrive c t piece)) + heard_count k logins past ≡ heard_count k logins (past ++ Arrive c t piece ∷ [])) same there)
+    (λ e. let more : heard_count d logins (past ++ Arrive c t piece ∷ []) ≡ heard_count d logins past = ap (λ (w : List ℕ). requests_in (events_of logins w)) (stream_there c t piece past d e) in
+    let none : asked_on d (asked_of c t events) ≡ 0 = asked_there c d t events e in
+    omega (arith, more, none, asked-is))
+
+count_after : (d : ℕ) (logins : Logins) (past arrivals : List HallStep) → asked_on d (asked_after logins past arrivals) + heard_count d logins past ≡ heard_count d logins (past ++ arrivals)
+count_after d logins past [] =
+    let same : heard_count d logins past ≡ heard_count d logins (past ++ []) = ap (heard_count d logins) (sym (append-nil past)) in
+    omega (arith, same)
+count_after d logins past (Arrive c t piece ∷ arrivals) =
+    let one = count_arrival d logins past c t piece in
+    let rest = count_after d logins (past ++ Arrive c t piece ∷ []) arrivals in
+    let all : heard_count d logins ((past ++ Arrive c t piece ∷ []) ++ arrivals) ≡ heard_count d logins (past ++ Arrive c t piece ∷ arrivals) = ap (heard_count d logins) (append_assoc past (Arrive c t piece ∷ []) arrivals) in
+    omega (arith, one, rest, all, asked_on-append d (asked_by_step logins past (Arrive c t piece)) (asked_after logins (past ++ Arrive c t piece ∷ []) arrivals))
+count_after d logins past (Sweep n ∷ arrivals) =
+    let same : heard_count d logins (past ++ Sweep n ∷ []) ≡ heard_count d logins past = ap (λ (w : List ℕ). requests_in (events_of logins w)) (stream_more d past (Sweep n) ∙ append-nil (stream_of d past)) in
+    let rest = count_after d logins (past ++ Sweep n ∷ []) arrivals in
+    let all : heard_count d logins ((past ++ Sweep n ∷ []) ++ arrivals) ≡ heard_count d logins (past ++ Sweep n ∷ arrivals) = ap (heard_count d logins) (append_assoc past (Sweep n ∷ []) arrivals) in
+    omega (arith, same, rest, all)
+
+pub count_in : (d : ℕ) (logins : Logins) (arrivals : List HallStep) → asked_on d (asked_in logins arrivals) ≡ requests_in (events_of logins (stream_of d arrivals))
+count_in d logins arrivals =
+    let all = count_after d logins [] arrivals in
+    let none : heard_count d logins [] ≡ 0 = refl in
+    omega (arith, all, none)
+
+-- ---- an arrival
+
+module _ (window : ℕ) (logins : Logins) (arrivals : List HallStep) (told : List Reply) (hall new : Hall) (c t : ℕ) (piece sent : List ℕ)
+    (st : StandsAfter window logins arrivals told hall) (tk : Takes c t piece hall new sent) where
+  now : List HallStep
+  now = arrivals ++ Arrive c t piece ∷ []
+
+  heard : Heard
+  heard = heard_then logins arrivals c piece
+
+  -- the session before
+  listening : unwrap_or (session_of c hall.sessions) fresh ≡ session_after c logins arrivals
+  listening = by_test (occurs c arrivals)
+      (λ e. ap (λ (o : Option Listening). unwrap_or o fresh) (st.sessions c) ∙ ap (λ (b : Bool). unwrap_or (cond b (Some (session_after c logins arrivals)) None) fresh) e)
+      (λ e. ap (λ (o : Option Listening). unwrap_or o fresh) (st.sessions c) ∙ ap (λ (b : Bool). unwrap_or (cond b (Some (session_after c logins arrivals)) None) fresh) e
+      ∙ ap (λ (w : List ℕ). left_by (hear logins Greeting w)) (sym (no_stream c arrivals e)))
+
+  heard_is : heard_on hall.logins c hall.sessions piece ≡ heard
+  unfolding heard
+  heard_is = ap (λ (l : Logins). heard_on l c hall.sessions piece) st.logins_are ∙ ap (λ (s : Listening). hear logins s.stand (s.held ++ piece)) listening
+
+  answered : Answered t heard.events hall.log new.log [] sent
+  answered = subst (λ (h : Heard). Answered t h.events hall.log new.log [] sent) heard_is tk.answered
+
+  sessions_now : (d : ℕ) → session_of d new.sessions ≡ cond (occurs d now) (Some (session_after d logins now)) None
+  unfolding now heard
+  sessions_now d = by_test (eqb c d)
+      (λ e. let same : c ≡ d = eqb-true c d e in
+      let found : occurs d now ≡ true = occurs_more d arrivals (Arrive c t piece) ∙ ap (λ (b : Bool). occurs d arrivals || b) e ∙ ||-true (occurs d arrivals) in
+      let after : left_by heard ≡ session_after d logins now
+      = ap left_by (sym (heard_more logins arrivals c piece)) ∙ ap (λ (w : List ℕ). left_by (hear logins Greeting w)) (sym (stream_here c t piece arrivals)) ∙ ap (λ (k : ℕ). session_after k logins now) same in
+      tk.sessions d ∙ ap (λ (b : Bool). cond b (Some (left_by (heard_on hall.logins c hall.sessions piece))) (session_of d hall.sessions)) e
+      ∙ ap (λ (h : Heard). Some (left_by h)) heard_is ∙ ap (λ (s : Listening). Some s) after
+      ∙ ap (λ (b : Bool). cond b (Some (session_after d logins now)) None) (sym found))
+      (λ e. let found : occurs d now ≡ occurs d arrivals = occurs_more d arrivals (Arrive c t piece) ∙ ap (λ (b : Bool). occurs d arrivals || b) e ∙ ||-false (occurs d arrivals) in
+      let same : session_after d logins arrivals ≡ session_after d logins now = ap (λ (w : List ℕ). left_by (hear logins Greeting w)) (sym (stream_there c t piece arrivals d e)) in
+      tk.sessions d ∙ ap (λ (b : Bool). cond b (Some (left_by (heard_on hall.logins c hall.sessions piece))) (session_of d hall.sessions)) e
+      ∙ st.sessions d ∙ ap (λ (b : Bool). cond b (Some (session_after d logins arrivals)) None) (sym found)
+      ∙ ap (λ (s : Listening). cond (occurs d now) (Some s) None) same)
+
+  requests_now : requests_of logins now ≡ requests_of logins arrivals ++ steps_by t heard.events
+  unfolding now heard
+  requests_now = requests_more logins arrivals c t piece
+
+  more : List Reply
+  more = answered.replies
+
+  stands_now : StandsAfter window logins now (told ++ more) new
+  unfolding more
+  stands_now = record {
+    logins_are = tk.logins ∙ st.logins_are;
+    window_is = answered.window ∙ st.window_is;
+    sessions = sessions_now;
+    each = rw requests_now (omega (arith, length-append told more, request_count-append (requests_of logins arrivals) (steps_by t heard.events), st.each, answered.each));
+    history = answered.history
+        ∙ ap (λ (w : ℕ). play_on (opened w) hall.log.history (carried_out (steps_by t heard.events) more)) st.window_is
+        ∙ ap (λ (h : List Record). play_on (opened window) h (carried_out (steps_by t heard.events) more)) st.history
+        ∙ sym (play_on-append (opened window) [] (carried_out (requests_of logins arrivals) told) (carried_out (steps_by t heard.events) more))
+        ∙ ap (play (opened window)) (sym (carried_out-append (requests_of logins arrivals) (steps_by t heard.events) told more st.each))
+        ∙ ap (λ (w : List Step). play (opened window) (carried_out w (told ++ more))) (sym requests_now);
+    told = answered.told ∙ ap (λ (w : List Reply). w ++ without_no_memory more) st.told ∙ sym (without-append told more);
+  }
+
+  asked_now : (d : ℕ) → replies_on d (asked_in logins now) (told ++ more) ≡ replies_on d (asked_in logins arrivals) told ++ replies_on d (asked_of c t heard.events) more
+  unfolding now heard
+  asked_now d = ap (λ (w : List Asked). replies_on d w (told ++ more)) (asked_arrival logins arrivals c t piece)
+      ∙ replies_more d (asked_in logins arrivals) (asked_of c t heard.events) told more st.each
+
+  bytes_here : sent_by c logins now (told ++ more) ≡ sent_by c logins arrivals told ++ sent
+  unfolding now heard more
+  bytes_here =
+      let old : List Event = events_of logins (stream_of c arrivals) in
+      let mine : List Reply = replies_on c (asked_in logins arrivals) told in
+      let count : length mine ≡ request_count (steps_by t old) = replies_length c (asked_in logins arrivals) told st.each ∙ count_in c logins arrivals ∙ sym (count_steps t old) in
+      ap (λ (w : List ℕ). sent_for (events_of logins w) (replies_on c (asked_in logins now) (told ++ more))) (stream_here c t piece arrivals)
+      ∙ ap (λ (w : List Event). sent_for w (replies_on c (asked_in logins now) (told ++ more))) (events_more logins arrivals c piece)
+      ∙ ap (sent_for (old ++ heard.events)) (asked_now c ∙ ap (λ (w : List Reply). mine ++ w) (replies_here c t heard.events more (answered.each ∙ count_steps t heard.events)))
+      ∙ sent_for-append t old heard.events mine more count
+      ∙ ap (λ (w : List ℕ). sent_for old mine ++ w) (sym answered.sent)
+
+  bytes_there : (d : ℕ) → eqb c d ≡ false → sent_by d logins now (told ++ more) ≡ sent_by d logins arrivals told
+  unfolding now heard more
+  bytes_there d e =
+      let mine : List Reply = replies_on d (asked_in logins arrivals) told in
+      ap (λ (w : List ℕ). sent_for (events_of logins w) (replies_on d (asked_in logins now) (told ++ more))) (stream_there c t piece arrivals d e)
+      ∙ ap (sent_for (events_of logins (stream_of d arrivals))) (asked_now d ∙ ap (λ (w : List Reply). mine ++ w) (replies_there c d t heard.events more e) ∙ append-nil mine)
+
+  pub adds : Adds window logins arrivals told c t piece new sent
+  unfolding now more
+  adds = record {
+    more = more;
+    stands = stands_now;
+    bytes = λ d. by_test (eqb c d)
+        (λ e. let same : c ≡ d = eqb-true c d e in
+        subst (λ (k : ℕ). sent_by k logins now (told ++ more) ≡ sent_by k logins arrivals told ++ sent) same bytes_here
+        ∙ ap (λ (b : Bool). sent_by d logins arrivals told ++ cond b sent []) (sym e))
+        (λ e. bytes_there d e ∙ sym (append-nil (sent_by d logins arrivals told)) ∙ ap (λ (b : Bool). sent_by d logins arrivals told ++ cond b sent []) (sym e));
+  }

@@ -1,0 +1,15 @@
+pub mod Frames
+pub mod Cuts
+pub mod Closing
+pub mod Answering
+pub mod Arriving
+pub mod Isolating
+pub mod Numbers
+pub mod Feeding
+pub mod Outboxes
+pub mod Sending
+pub mod Talking
+pub mod Hellos
+pub mod LoginLines
+pub mod LoginExamples
+pub mod Examples

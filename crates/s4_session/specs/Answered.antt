@@ -1,0 +1,30 @@
+-- What answering events makes of a drive, and what is sent.
+use Rattle.std.specs.Prelude.{◌≡◌, ℕ, Option, Some, None, List, ◌++◌, length, filter_map}
+use Rattle.s4_types.specs.declared.reply.Reply.{Reply}
+use Rattle.s4_types.specs.declared.record.Step.{Step}
+use Rattle.s4_types.specs.declared.record.Step.TheVariants as steps
+use Rattle.s4_types.specs.Base.{opened}
+use Rattle.s4_types.specs.Play.{play_on, replies as replies_in, carried_out, without_no_memory, request_count}
+use Rattle.s4_state.specs.Log.{Log}
+use Rattle.s4_session.specs.declared.event.Event.{Event}
+use Rattle.s4_session.specs.declared.event.Event.TheVariants.{Welcome, Request, Fault}
+use Rattle.s4_session.specs.Sent.{sent_for}
+
+-- the step of the drive that an event asks for at a moment
+abbrev pub step_by_event : ℕ → Event → Option Step
+step_by_event t (Request caller r) = Some (steps.Request t caller r)
+step_by_event t (Welcome caller) = None
+step_by_event t (Fault f) = None
+
+-- the steps of the drive that events ask for at a moment
+abbrev pub steps_by : ℕ → List Event → List Step
+steps_by t events = filter_map (step_by_event t) events
+
+-- The events are answered: their requests by the drive, one reply each, and what is sent for them is added to the bytes.
+pub record Answered (t : ℕ) (events : List Event) (old new : Log) (before after : List ℕ) : Type 0 where
+  pub replies : List Reply
+  pub each : length replies ≡ request_count (steps_by t events)
+  pub window : new.window ≡ old.window
+  pub history : new.history ≡ play_on (opened old.window) old.history (carried_out (steps_by t events) replies)
+  pub told : replies_in new.history ≡ replies_in old.history ++ without_no_memory replies
+  pub sent : after ≡ before ++ sent_for events replies

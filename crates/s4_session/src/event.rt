@@ -1,0 +1,36 @@
+//! What a connection's bytes say.
+
+use s4_types::{Caller, Request};
+
+/// Why a connection ends.
+#[derive(Clone, Copy, Debug, PartialEq, Eq)]
+pub enum Fault {
+    /// A body is no spelling of what may stand there.
+    Malformed,
+    /// A Hello's principal may not log in, or its secret is another one.
+    BadLogin,
+    /// A frame has no body, or one above the limit.
+    FrameLength,
+}
+
+/// What a whole frame says.
+#[derive(Debug, PartialEq, Drop)]
+pub enum Event {
+    /// A good Hello.
+    Welcome(Caller),
+    /// A request of the caller whom the Hello named.
+    Request(Caller, Request),
+    /// What ends the connection.
+    Fault(Fault),
+}
+
+/// Where a connection stands.
+#[derive(Clone, Copy, Debug, PartialEq, Eq)]
+pub enum Stand {
+    /// Its Hello is still to come.
+    Greeting,
+    /// Its requests come from this caller.
+    Open(Caller),
+    /// A fault ended it.
+    Closed,
+}
