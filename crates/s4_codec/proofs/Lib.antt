@@ -5,6 +5,7 @@ pub mod ReplyLaws
 pub mod BodyLaws
 pub mod Lists
 pub mod Added
+pub mod Short
 pub mod FrameLaws
 pub mod Examples
 pub mod FrontLaws

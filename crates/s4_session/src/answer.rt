@@ -1,13 +1,14 @@
 //! What is sent for what a connection's bytes say.
 
-ghost use Rattle.std.specs.Prelude.{◌≡◌, ◌≤◌, ◌++◌, ◌∷◌, [], IfOk, OnOk};
+ghost use Rattle.std.specs.Prelude.{◌≡◌, ◌≤◌, ◌++◌, ◌∷◌, [], IfOk, IsTrue, OnOk};
+ghost use Rattle.s4_types.specs.Limits.{is_within_limits};
 ghost use Rattle.s4_types.specs.Play.{last_of};
 ghost use Rattle.s4_session.specs.Answered.{Answered};
 ghost use Rattle.s4_session.specs.Sent.{reply_frame, fault_number};
 
 use crate::event::{Event, Fault};
 use crate::hello::VERSION;
-use s4_codec::{write_frame, write_reply};
+use s4_codec::{WriteError, write_frame, write_reply};
 use s4_drive::Drive;
 use s4_store::PlainStore;
 use s4_types::{Moment, NoMemory, Reply, Version};
@@ -58,13 +59,15 @@ fn answer(
     }
 }
 
-/// Adds the frame of a reply.
+/// Adds the frame of a reply of the drive, which is never too big for one.
 fn send_reply(alloc: Global, reply: &Reply, out: &mut Vec<u8>) -> Result<(), NoMemory>
+    requires { IsTrue (is_within_limits reply.now) }
     ensures { OnOk result (out.new.items ≡ out.old.items ++ reply_frame reply.now) }
 {
     match write_reply(alloc, reply) {
         Ok(body) => write_frame(out, body.as_slice()),
-        Err(_) => Err(AllocError),
+        Err(WriteError::NoMemory) => Err(AllocError),
+        Err(WriteError::TooBig) => unreachable!(),
     }
 }
 

@@ -17,6 +17,7 @@ use Rattle.s4_state.specs.Laid.{version_of, version_at}
 use Rattle.s4_state.specs.Sound.{IsSound, TrackStands, DataFits, AttributesFit, AclFits, was_made, was_deleted}
 use Rattle.s4_state.specs.Weights.{cost_now}
 use Rattle.s4_state.proofs.Living.{lives_at-now}
+use Rattle.s4_state.proofs.Fitting.{acl-entries}
 use Rattle.s4_state.proofs.Reading.{data-in-force, attributes-in-force, acl-in-force}
 use Rattle.s4_state.proofs.Effects.{live-track}
 
@@ -70,5 +71,5 @@ module _ {h : List Record} (s : IsSound h) (o : ObjectId) (t : ℕ) (later : las
   acl-short = by_test (lives_at t o h)
       (λ e. let stands : TrackStands AclFits o h (versions acl_track o h) = s.tracks o which.Acl in
       let live = live-track AclFits (was_made o h) (was_deleted o h) (last_of h) (versions acl_track o h) (alive e).0 (alive e).1 stands.shape in
-      subst AclFits (acl-in-force s o t later e live.newest live.past live.whole) live.fits)
+      (acl-entries (acl_of o t h) (subst AclFits (acl-in-force s o t later e live.newest live.past live.whole) live.fits)).0)
       (λ e. let none : length (acl_of o t h) ≡ 0 = ap length (absent acl_track o t h e) in omega (arith, none))

@@ -29,7 +29,7 @@ use Rattle.s4_types.specs.Serials.{drawn}
 use Rattle.s4_types.specs.Bindings.{bound_at, bound_count, has_name}
 use Rattle.s4_types.proofs.SameNames.{object_is}
 use Rattle.s4_types.proofs.Outcomes.{passes_test, passes_judgement, answer-by-kind}
-use Rattle.s4_types.proofs.Entries.{length-without, length-replaced}
+use Rattle.s4_acl.proofs.Acls.{is_acl-without, is_acl-replaced, is_acl-more}
 use Rattle.s4_types.specs.Base.{Base}
 use Rattle.s4_state.specs.Sound.{IsNext, DataFits, AttributesFit, AclFits}
 
@@ -414,18 +414,23 @@ attributes-fit base h t caller (ReadAudit range skip) o e old new f = cc
 
 -- the entries that a SetAcl leaves, where it may be carried out
 entries-fit : (user rights : ℕ) (acl : List AclEntry) → is_ok (settable user rights acl) ≡ true → AclFits acl → AclFits (acl_with user rights acl)
-entries-fit user rights acl e fits = of (rights == 0) (names user acl) (nat_le 16 (length acl)) refl e
+entries-fit user rights acl e fits = of (rights == 0) (names user acl) (nat_le 16 (length acl)) refl refl refl e
   where
-    of : (a b c : Bool) → nat_le 16 (length acl) ≡ c → is_ok (cond b (Ok tt) (cond a (Err NoEntry) (refuse_if c AclFull))) ≡ true
-        → length (cond a (without_entry user acl) (cond b (replaced (record { who = user; rights = rights }) acl) (acl ++ record { who = user; rights = rights } ∷ []))) ≤ 16
-    of true true c room g = let shorter : length (without_entry user acl) ≤ length acl = length-without (λ entry. not (entry.who == user)) acl in omega arith
-    of true false c room g = cc
-    of false true c room g = let same : length (replaced (record { who = user; rights = rights }) acl) ≡ length acl = length-replaced (record { who = user; rights = rights }) acl in omega arith
-    of false false true room g = cc
-    of false false false room g =
-        let more : length (acl ++ record { who = user; rights = rights } ∷ []) ≡ length acl + 1 = length-append acl (record { who = user; rights = rights } ∷ []) in
+    new : AclEntry
+    new = record { who = user; rights = rights }
+
+    given : (rights == 0) ≡ false → 0 < rights
+    given f = grind arith
+
+    of : (a b c : Bool) → (rights == 0) ≡ a → names user acl ≡ b → nat_le 16 (length acl) ≡ c → is_ok (cond b (Ok tt) (cond a (Err NoEntry) (refuse_if c AclFull))) ≡ true
+        → AclFits (cond a (without_entry user acl) (cond b (replaced new acl) (acl ++ new ∷ [])))
+    of true true c none named room g = is_acl-without user acl fits
+    of true false c none named room g = cc
+    of false true c some named room g = is_acl-replaced new acl (given some) fits
+    of false false true some named room g = cc
+    of false false false some named room g =
         let low : length acl < 16 = grind arith in
-        omega arith
+        is_acl-more new acl (given some) named low fits
 
 pub acl-fit : (base : Base) (h : List Record) (t : ℕ) (caller : Caller) (request : Request) (o : ObjectId) → is_refused (told base h t caller request) ≡ false
     → (old new : List AclEntry) → acl_effect o request old ≡ Some new → old ≡ acl_of o t h → AclFits old → AclFits new

@@ -2,6 +2,8 @@ pub mod Living
 pub mod Naming
 pub mod Left
 pub mod Following
+pub mod Fitting
+pub mod Limits
 pub mod Granting
 pub mod Reading
 pub mod Sounding

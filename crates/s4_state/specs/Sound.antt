@@ -1,16 +1,17 @@
 -- What holds of every history whose records were answered in turn.
-use Rattle.std.specs.Prelude.{◌≡◌, ℕ, ◌≤◌, Bool, true, false, nat_le, is_some, Option, Some, None, List, [], ◌∷◌, length}
+use Rattle.std.specs.Prelude.{◌≡◌, ℕ, ◌≤◌, Bool, true, false, not, nat_le, is_some, Option, Some, None, List, [], ◌∷◌, length}
 use Rattle.std.specs.List.{list_all, list_any}
 use Rattle.s4_types.specs.declared.object.Purse.{Purse}
 use Rattle.s4_types.specs.declared.object.ObjectId.{ObjectId}
 use Rattle.s4_types.specs.declared.acl.AclEntry.{AclEntry}
 use Rattle.s4_types.specs.declared.record.Record.{Record}
+use Rattle.s4_types.specs.Acl.{IsAcl}
 use Rattle.s4_types.specs.Versions.{Value, versions, in_force_by, makes, deletes, lives_at, data_track, attribute_track, acl_track}
 use Rattle.s4_types.specs.Bindings.{bindings}
 use Rattle.s4_types.specs.Base.{Base}
 use Rattle.s4_types.specs.Answer.{answer}
 use Rattle.s4_types.specs.Serials.{drawn}
-use Rattle.s4_types.specs.Play.{last_of}
+use Rattle.s4_types.specs.Play.{last_of, is_no_memory}
 use Rattle.s4_objects.specs.declared.kept.Which.{Which}
 use Rattle.s4_objects.specs.declared.kept.Which.TheVariants as which
 
@@ -29,7 +30,7 @@ abbrev pub AttributesFit : List ℕ → Type 0
 AttributesFit bytes = length bytes ≤ 256
 
 abbrev pub AclFits : List AclEntry → Type 0
-AclFits acl = length acl ≤ 16
+AclFits acl = IsAcl acl
 
 -- the newest value is current, and began by the moment
 pub record IsCurrent {V : Type 0} (Fits : V → Type 0) (last : ℕ) (v : Value V) : Type 0 where
@@ -62,6 +63,17 @@ StandsOn which.Data o h = TrackStands DataFits o h (versions data_track o h)
 StandsOn which.Attributes o h = TrackStands AttributesFit o h (versions attribute_track o h)
 StandsOn which.Acl o h = TrackStands AclFits o h (versions acl_track o h)
 
+-- each of the values fits
+abbrev pub AllFit : {V : Type 0} → (V → Type 0) → List (Value V) → Type 0
+AllFit Fits [] = Unit {0}
+AllFit Fits (v ∷ past) = Fits v.value × AllFit Fits past
+
+-- each value that the track ever had fits
+abbrev pub FitsOn : Which → ObjectId → List Record → Type 0
+FitsOn which.Data o h = AllFit DataFits (versions data_track o h)
+FitsOn which.Attributes o h = AllFit AttributesFit (versions attribute_track o h)
+FitsOn which.Acl o h = AllFit AclFits (versions acl_track o h)
+
 -- the end, if there is one, is at most the moment
 abbrev pub EndsBy : ℕ → Option ℕ → Type 0
 EndsBy last None = Unit {0}
@@ -80,8 +92,11 @@ pub record IsSound (h : List Record) : Type 0 where
   -- an object that was deleted was made
   pub made_first : (o : ObjectId) → was_deleted o h ≡ true → was_made o h ≡ true
   pub tracks : (o : ObjectId) (w : Which) → StandsOn w o h
+  pub values : (o : ObjectId) (w : Which) → FitsOn w o h
   -- no binding begins or ends later than the last record
   pub bindings : (p : Purse) (name : List ℕ) → BindingsStand (last_of h) (bindings p name h)
+  -- want of memory leaves no record
+  pub told : list_all (λ r. not (is_no_memory r.reply)) h ≡ true
 
 -- the record is the next one of the history
 pub record IsNext (base : Base) (h : List Record) (r : Record) : Type 0 where

@@ -14,6 +14,7 @@ pub mod Serials
 pub mod Spending
 pub mod Audit
 pub mod Answer
+pub mod Limits
 pub mod Play
 pub mod Applied
 pub mod Erased

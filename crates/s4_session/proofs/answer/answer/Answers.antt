@@ -22,8 +22,8 @@ on_ok (Err x) t event caller r old new reply p q is made sent = tt
 pub returns-in-Request-clause-answered : goal.returns-in-Request-clause-answered
 returns-in-Request-clause-answered c =
     on_ok c.send_reply.result c.args.moment c.args.event.now c.in-Request.caller c.in-Request.request c.args.drive.now c.step-reply.new.self c.step-reply.result c.args.out.now.items c.send_reply.new.out.items
-    c.in-Request.is c.step-reply.ensures c.send_reply.ensures
+    c.in-Request.is c.step-reply.ensures.steps c.send_reply.ensures
 
 pub returns-in-Request-clause-last : goal.returns-in-Request-clause-last
 returns-in-Request-clause-last c =
-    step_last c.args.moment c.in-Request.caller c.in-Request.request c.args.drive.now c.step-reply.new.self c.step-reply.result c.requires c.step-reply.ensures
+    step_last c.args.moment c.in-Request.caller c.in-Request.request c.args.drive.now c.step-reply.new.self c.step-reply.result c.requires c.step-reply.ensures.steps

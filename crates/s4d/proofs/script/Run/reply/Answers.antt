@@ -18,11 +18,11 @@ invariant_of-self c =
     let early : last_of old.history ≤ t = omega (arith, ordered) in
     record {
       in_order = by_test (is_no_memory c.step.result)
-          (λ e. let stays : new ≡ old = subst (λ b. MatchBool b (new ≡ old) (Answers old new t caller request c.step.result)) e c.step.ensures in
+          (λ e. let stays : new ≡ old = subst (λ b. MatchBool b (new ≡ old) (Answers old new t caller request c.step.result)) e c.step.ensures.steps in
           let same : new.history ≡ old.history = λ i. (stays i).history in
           let last : last_of new.history ≡ last_of old.history = ap last_of same in
           omega (arith, early, last))
-          (λ e. let answers : Answers old new t caller request c.step.result = subst (λ b. MatchBool b (new ≡ old) (Answers old new t caller request c.step.result)) e c.step.ensures in
+          (λ e. let answers : Answers old new t caller request c.step.result = subst (λ b. MatchBool b (new ≡ old) (Answers old new t caller request c.step.result)) e c.step.ensures.steps in
           let grown : new.history ≡ old.history ++ record_of (opened old.window) old.history t caller request ∷ [] = λ i. (answers.grows i).history in
           let last : last_of new.history ≡ t = ap last_of grown ∙ last_of-snoc old.history (record_of (opened old.window) old.history t caller request) in
           omega (arith, last));

@@ -1,0 +1,201 @@
+-- How long spellings are at most, and that a reply within the drive's limits has one within a frame.
+use Rattle.std.proofs.Common.{◌≡◌, ℕ, ◌+◌, ◌*◌, ◌≤◌, ◌<◌, Bool, true, false, ◌&&◌, Option, Some, None, List, [], ◌∷◌, ◌++◌, length, refl, arith}
+use Rattle.std.specs.Prelude.{◌==◌, nat_le, nat_lt}
+use Rattle.std.specs.List.{flat_map, list_all}
+use Rattle.std.proofs.lemmas.Bool.{leb-true}
+use Rattle.std.proofs.lemmas.List.{length-append}
+use Rattle.byteorder.specs.Endian.{big_bytes}
+use Rattle.s4_types.specs.declared.reply.Grant.{Grant}
+use Rattle.s4_types.specs.declared.reply.Refusal.{Refusal}
+use Rattle.s4_types.specs.declared.reply.Refusal.TheVariants.{Denied, NoObject, NoPartition, Future, TooOld, Flushed, TooLong, AclFull, NoEntry, Exists, PartsFull, Named, NamesSpent, OverBudget, BadRange, NoMemory}
+use Rattle.s4_types.specs.declared.reply.Reply.{Reply}
+use Rattle.s4_types.specs.declared.reply.Reply.TheVariants.{Done, Made, Data, Attr, Entry, Mounted, Names, Audit, Refused}
+use Rattle.s4_types.specs.Rights.{number_of}
+use Rattle.s4_types.specs.Name.{is_name, is_name_byte}
+use Rattle.s4_types.specs.Limits.{is_shown_grant, is_within_limits}
+use Rattle.s4_codec.specs.Format.{Format, nothing, ◌&◌, byte, number, only, made, fits_part, spell_part, optional, list_up_to}
+use Rattle.s4_codec.specs.Parts.{moment, principal, purse_number, index, serial, pad, object, name, byte_string, rights_given, grant, flag, flag_of, number_of_flag, right_needed, right_of, is_right}
+use Rattle.s4_codec.specs.Replies.{name_line, code, reply_code, audit_line, refusal, reply}
+use Rattle.s4_codec.proofs.Lawful.{IsWide, wide2, wide4, wide8, both_true}
+
+-- no spelling has more bytes
+record IsShort {A : Type 0} (n : ℕ) (f : Format A) : Type 0 where
+  most : (x : A) → f.fits x ≡ true → length (f.spell x) ≤ n
+
+byte_short : IsShort 1 byte
+byte_short = record { most = λ x e. omega arith }
+
+number_short : (n : ℕ) → IsWide n → IsShort n (number n)
+number_short n wide = record { most = λ x e. let len = wide.len x in omega (arith, len) }
+
+pair_short : {A B : Type 0} (m n : ℕ) (f : Format A) (g : Format B) → IsShort m f → IsShort n g → IsShort (m + n) (f & g)
+pair_short m n f g F G = record {
+  most = λ x e.
+      let parts = both_true (f.fits x.0) (g.fits x.1) e in
+      let sum = length-append (f.spell x.0) (g.spell x.1) in
+      let one = F.most x.0 parts.0 in
+      let two = G.most x.1 parts.1 in
+      omega (arith, sum, one, two);
+}
+
+only_short : {A : Type 0} (n : ℕ) (test : A → Bool) (f : Format A) → IsShort n f → IsShort n (only test f)
+only_short n test f F = record { most = λ x e. F.most x (both_true (f.fits x) (test x) e).0 }
+
+made_short : {A B : Type 0} (n : ℕ) (f : Format A) (make : A → B) (part : B → Option A) → IsShort n f → IsShort n (made f make part)
+made_short {A} n f make part F = record { most = λ y e. of (part y) e }
+  where
+    of : (x : Option A) → fits_part f x ≡ true → length (spell_part f x) ≤ n
+    of None e = absurd cc
+    of (Some x) e = F.most x e
+
+optional_short : {A : Type 0} (n : ℕ) (f : Format A) → IsShort n f → IsShort (1 + n) (optional f)
+optional_short {A} n f F = record { most = of }
+  where
+    of : (x : Option A) → (optional f).fits x ≡ true → length ((optional f).spell x) ≤ 1 + n
+    of None e = omega arith
+    of (Some x) e = let some = F.most x e in omega (arith, some)
+
+many_short : {A : Type 0} (n : ℕ) (f : Format A) → IsShort n f → (xs : List A) → list_all f.fits xs ≡ true → length (flat_map f.spell xs) ≤ length xs * n
+many_short n f F [] e = omega arith
+many_short n f F (x ∷ xs) e =
+    let parts = both_true (f.fits x) (list_all f.fits xs) e in
+    let sum = length-append (f.spell x) (flat_map f.spell xs) in
+    let one = F.most x parts.0 in
+    let others = many_short n f F xs parts.1 in
+    grind (arith, sum, one, others)
+
+-- PARTS
+
+moment_short : IsShort 8 moment
+moment_short = number_short 8 wide8
+
+principal_short : IsShort 4 principal
+principal_short = only_short 4 _ (number 4) (number_short 4 wide4)
+
+pad_short : IsShort 1 pad
+pad_short = only_short 1 (λ n. n == 0) byte byte_short
+
+object_short : IsShort 8 object
+object_short = made_short 8 (principal & (pad & (purse_number & serial)))
+    (λ x. record { purse = record { creator = x.0; number = x.1.1.0 }; serial = x.1.1.1 }) (λ o. Some (o.purse.creator, (0, (o.purse.number, o.serial))))
+    (pair_short 4 4 principal (pad & (purse_number & serial)) principal_short
+    (pair_short 1 3 pad (purse_number & serial) pad_short
+    (pair_short 1 2 purse_number serial (only_short 1 _ byte byte_short) (only_short 2 _ (number 2) (number_short 2 wide2)))))
+
+name_short : IsShort 33 name
+name_short = record {
+  most = λ x e.
+      let is = (both_true (byte.fits (length x)) (is_name x) e).1 in
+      let sizes = (both_true (nat_le 1 (length x) && nat_le (length x) 32) (list_all is_name_byte x) is).0 in
+      let low = leb-true (length x) 32 (both_true (nat_le 1 (length x)) (nat_le (length x) 32) sizes).1 in
+      omega (arith, low);
+}
+
+grant_short : IsShort 10 grant
+grant_short = made_short 10 (optional (index & moment)) _ _
+    (optional_short 9 (index & moment) (pair_short 1 8 index moment (only_short 1 _ byte byte_short) moment_short))
+
+flag_short : IsShort 1 flag
+flag_short = made_short 1 (only (λ n. nat_lt n 2) byte) flag_of (λ b. Some (number_of_flag b)) (only_short 1 (λ n. nat_lt n 2) byte byte_short)
+
+-- LINES
+
+name_line_short : IsShort 51 name_line
+name_line_short = made_short 51 (name & (object & grant)) (λ x. record { name = x.0; object = x.1.0; grant = x.1.1 }) (λ l. Some (l.name, (l.object, l.grant)))
+    (pair_short 33 18 name (object & grant) name_short (pair_short 8 10 object grant object_short grant_short))
+
+audit_line_short : IsShort 19 audit_line
+audit_line_short = made_short 19 (moment & (principal & (number 4 & (code & (flag & reply_code)))))
+    (λ x. record { moment = x.0; who = x.1.0; client = x.1.1.0; code = x.1.1.1.0; is_wide = x.1.1.1.1.0; reply = x.1.1.1.1.1 })
+    (λ l. Some (l.moment, (l.who, (l.client, (l.code, (l.is_wide, l.reply))))))
+    (pair_short 8 11 moment (principal & (number 4 & (code & (flag & reply_code)))) moment_short
+    (pair_short 4 7 principal (number 4 & (code & (flag & reply_code))) principal_short
+    (pair_short 4 3 (number 4) (code & (flag & reply_code)) (number_short 4 wide4)
+    (pair_short 1 2 code (flag & reply_code) (only_short 1 _ byte byte_short)
+    (pair_short 1 1 flag reply_code flag_short (only_short 1 _ byte byte_short))))))
+
+lines_short : {A : Type 0} (most n : ℕ) (f : Format A) → IsShort n f → IsShort (1 + most * n) (list_up_to most f)
+lines_short most n f F = record {
+  most = λ xs e.
+      let parts = both_true (nat_le (length xs) most) (list_all f.fits xs) e in
+      let few = leb-true (length xs) most parts.0 in
+      let all = many_short n f F xs parts.1 in
+      grind (arith, few, all);
+}
+
+-- REFUSALS
+
+right_short : IsShort 1 right_needed
+right_short = made_short 1 (only is_right byte) right_of (λ r. Some (number_of r)) (only_short 1 is_right byte byte_short)
+
+budget_short : IsShort 12 (number 4 & (number 4 & number 4))
+budget_short = pair_short 4 8 (number 4) (number 4 & number 4) (number_short 4 wide4) (pair_short 4 4 (number 4) (number 4) (number_short 4 wide4) (number_short 4 wide4))
+
+refusal_short : (r : Refusal) → refusal.fits r ≡ true → length (refusal.spell r) ≤ 13
+refusal_short (Denied right) e = let own = right_short.most right e in omega (arith, own)
+refusal_short (TooOld horizon) e = let own = moment_short.most horizon e in omega (arith, own)
+refusal_short (OverBudget spent charge budget) e = let own = budget_short.most (spent, (charge, budget)) e in omega (arith, own)
+refusal_short NoObject e = omega arith
+refusal_short NoPartition e = omega arith
+refusal_short Future e = omega arith
+refusal_short Flushed e = omega arith
+refusal_short TooLong e = omega arith
+refusal_short AclFull e = omega arith
+refusal_short NoEntry e = omega arith
+refusal_short Exists e = omega arith
+refusal_short PartsFull e = omega arith
+refusal_short Named e = omega arith
+refusal_short NamesSpent e = omega arith
+refusal_short BadRange e = omega arith
+refusal_short NoMemory e = omega arith
+
+-- BODIES
+
+entry_short : IsShort 16 (grant & (index & (principal & rights_given)))
+entry_short = pair_short 10 6 grant (index & (principal & rights_given)) grant_short
+    (pair_short 1 5 index (principal & rights_given) (only_short 1 _ byte byte_short) (pair_short 4 1 principal rights_given principal_short (only_short 1 _ byte byte_short)))
+
+mounted_short : IsShort 18 (grant & object)
+mounted_short = pair_short 10 8 grant object grant_short object_short
+
+names_short : IsShort 3266 (list_up_to 64 name_line & flag)
+names_short = pair_short 3265 1 (list_up_to 64 name_line) flag (lines_short 64 51 name_line name_line_short) flag_short
+
+audit_short : IsShort 610 (list_up_to 32 audit_line & flag)
+audit_short = pair_short 609 1 (list_up_to 32 audit_line) flag (lines_short 32 19 audit_line audit_line_short) flag_short
+
+read_short : (g : Grant) (bytes : List ℕ) → (grant & byte_string).fits (g, bytes) ≡ true → length bytes ≤ 4096 → length ((grant & byte_string).spell (g, bytes)) ≤ 4108
+read_short g bytes e few =
+    let own = grant_short.most g (both_true (grant.fits g) (byte_string.fits bytes) e).0 in
+    let size = wide2.len (length bytes) in
+    let sum = length-append (grant.spell g) (byte_string.spell bytes) in
+    let parts = length-append (big_bytes 2 (length bytes)) bytes in
+    omega (arith, own, size, sum, parts, few)
+
+few_bytes : (a : Bool) (n most : ℕ) → (a && nat_le n most) ≡ true → n ≤ most
+few_bytes a n most e = leb-true n most (both_true a (nat_le n most) e).1
+
+-- a kind of reply, and its fields
+with_kind : (kind most : ℕ) (fields : List ℕ) → length fields ≤ most → most ≤ 8191 → length (kind ∷ fields) ≤ 8192
+with_kind kind most fields few small = omega (arith, few, small)
+
+pub spelled_short : (r : Reply) → reply.fits r ≡ true → is_within_limits r ≡ true → length (reply.spell r) ≤ 8192
+spelled_short Done e w = with_kind 0 0 [] (omega arith) (omega arith)
+spelled_short (Made o) e w = with_kind 1 8 (object.spell o) (object_short.most o e) (omega arith)
+spelled_short (Data g bytes) e w = with_kind 2 4108 ((grant & byte_string).spell (g, bytes)) (read_short g bytes e (few_bytes (is_shown_grant g) (length bytes) 4096 w)) (omega arith)
+spelled_short (Attr g bytes) e w =
+    let few : length bytes ≤ 256 = few_bytes (is_shown_grant g) (length bytes) 256 w in
+    with_kind 3 4108 ((grant & byte_string).spell (g, bytes)) (read_short g bytes e (omega (arith, few))) (omega arith)
+spelled_short (Entry g i user rights) e w = with_kind 4 16 ((grant & (index & (principal & rights_given))).spell (g, (i, (user, rights)))) (entry_short.most (g, (i, (user, rights))) e) (omega arith)
+spelled_short (Mounted g o) e w = with_kind 5 18 ((grant & object).spell (g, o)) (mounted_short.most (g, o) e) (omega arith)
+spelled_short (Names lines more) e w = with_kind 6 3266 ((list_up_to 64 name_line & flag).spell (lines, more)) (names_short.most (lines, more) e) (omega arith)
+spelled_short (Audit lines more) e w = with_kind 7 610 ((list_up_to 32 audit_line & flag).spell (lines, more)) (audit_short.most (lines, more) e) (omega arith)
+spelled_short (Refused r) e w = with_kind 8 13 (refusal.spell r) (refusal_short r e) (omega arith)
+
+-- a reply whose spelling is longer than a frame isn't within the limits
+pub longer_exceeds : (r : Reply) → reply.fits r ≡ true → 8192 < length (reply.spell r) → is_within_limits r ≡ false
+longer_exceeds r e long = of (is_within_limits r) refl
+  where
+    of : (b : Bool) → is_within_limits r ≡ b → b ≡ false
+    of true w = let short = spelled_short r e w in absurd (omega (arith, long, short))
+    of false w = refl
