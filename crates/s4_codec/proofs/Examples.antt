@@ -1,10 +1,12 @@
 -- Worked examples of spellings, each computed.
 use Rattle.std.proofs.Common.{◌≡◌, ℕ, true, false, Some, None, List, [], ◌∷◌, ◌++◌, refl}
+use Rattle.std.specs.Prelude.{replicate}
 use Rattle.s4_types.specs.declared.object.ObjectId.{ObjectId}
 use Rattle.s4_types.specs.declared.request.Request.TheVariants.{Create, Read, Write}
 use Rattle.s4_types.specs.declared.reply.Grant.TheVariants as grant
 use Rattle.s4_types.specs.declared.reply.Refusal.TheVariants.{TooLong, NoMemory}
-use Rattle.s4_types.specs.declared.reply.Reply.TheVariants.{Done, Made, Data, Names, Audit, Refused}
+use Rattle.s4_types.specs.declared.reply.Reply.TheVariants.{Done, Made, Data, Attr, Names, Audit, Refused}
+use Rattle.s4_types.specs.Limits.{is_within_limits}
 use Rattle.s4_codec.specs.Format.{number_at}
 use Rattle.s4_codec.specs.Frames.{frame_limit, framed, front_of, Whole, Part, BadLength}
 use Rattle.s4_codec.specs.Requests.{request, request_in}
@@ -77,6 +79,27 @@ an_audit_is_spelled = refl
 
 pub what_is_served_to_an_owner_has_no_body : has_body (Data grant.Owner hello) ≡ false
 what_is_served_to_an_owner_has_no_body = refl
+
+-- ---- limits
+
+pub what_the_last_entry_reads_is_within_limits : is_within_limits (Data (grant.Entry 15 6) hello) ≡ true
+what_the_last_entry_reads_is_within_limits = refl
+
+pub what_a_seventeenth_entry_reads_is_not : is_within_limits (Data (grant.Entry 16 6) hello) ≡ false
+what_a_seventeenth_entry_reads_is_not = refl
+
+pub what_is_served_to_an_owner_is_not : is_within_limits (Data grant.Owner hello) ≡ false
+what_is_served_to_an_owner_is_not = refl
+
+pub attributes_of_256_bytes_are : is_within_limits (Attr grant.Admin (replicate 256 0)) ≡ true
+attributes_of_256_bytes_are = refl
+
+pub attributes_of_257_bytes_are_not : is_within_limits (Attr grant.Admin (replicate 257 0)) ≡ false
+attributes_of_257_bytes_are_not = refl
+
+pub a_line_of_want_of_memory_is_not :
+    is_within_limits (Audit (record { moment = 8; who = 7; client = 0; code = 20; is_wide = false; reply = 16 } ∷ []) false) ≡ false
+a_line_of_want_of_memory_is_not = refl
 
 -- ---- frames
 

@@ -48,7 +48,6 @@ module _ (limit : ℕ) (xs : List ℕ) (s : Split xs) where
 long_enough : (limit : ℕ) (xs : List ℕ) (f : Front) → (Part ≡ f → ⊥) → front_of limit xs ≡ f → 4 ≤ length xs
 long_enough limit xs f differs e = ltb-false _ _ (passed (ltb (length xs) 4) Part (body_of limit (big_number 4 xs) (drop 4 xs)) f differs e).0
 
-
 body_whole : (limit n : ℕ) (tail body rest : List ℕ) → body_of limit n tail ≡ Whole body rest
     → ((eqb n 0 || ltb limit n) ≡ false) × (n ≤ length tail) × (take n tail ≡ body) × (drop n tail ≡ rest)
 body_whole limit n tail body rest e =

@@ -21,10 +21,22 @@ fn the_secret_of_a_login_is_accepted(rt: HostRuntime) -> Result<(), Fail> {
 fn the_first_faulty_line_is_told(rt: HostRuntime) {
     let alloc = rt.alloc();
     for (text, wanted) in [
-        (b"7 000102030405060708090a0b0c0d0e0f\n\n".as_slice(), LoginFault::BadLine(2)),
-        (b"07 000102030405060708090a0b0c0d0e0f", LoginFault::BadLine(1)),
-        (b"4294967295 000102030405060708090a0b0c0d0e0f", LoginFault::BadLine(1)),
-        (b"7 000102030405060708090a0b0c0d0e\n", LoginFault::BadLine(1)),
+        (
+            b"7 000102030405060708090a0b0c0d0e0f\n\n".as_slice(),
+            LoginFault::BadLine(2),
+        ),
+        (
+            b"07 000102030405060708090a0b0c0d0e0f",
+            LoginFault::BadLine(1),
+        ),
+        (
+            b"4294967295 000102030405060708090a0b0c0d0e0f",
+            LoginFault::BadLine(1),
+        ),
+        (
+            b"7 000102030405060708090a0b0c0d0e\n",
+            LoginFault::BadLine(1),
+        ),
         (
             b"7 000102030405060708090a0b0c0d0e0f\n7 ffffffffffffffffffffffffffffffff\nx",
             LoginFault::Doubled(2),

@@ -47,7 +47,9 @@ fn a_fault_closes_a_session(rt: HostRuntime) -> Result<(), Fail> {
     let logins = logins(alloc)?;
     let mut session = Session::open(alloc);
     let events = session.feed(&logins, b"\x00\x00\x00\x00");
-    assert!(rt; matches!(&events, Ok(events) if matches!(events.as_slice(), [Event::Fault(Fault::FrameLength)])));
+    assert!(rt;
+        matches!(&events, Ok(events) if matches!(events.as_slice(), [Event::Fault(Fault::FrameLength)]))
+    );
     let later = session.feed(&logins, HELLO);
     assert!(rt; matches!(&later, Err(FeedError::Closed)));
     Ok(())

@@ -37,11 +37,23 @@ fn refusal(acl: &Acl, who: u32, rights: u8) -> Result<Option<Refusal>, Fail> {
     Ok(set(acl, given.who, given.rights).err())
 }
 
-#[test]
-fn entries_are_set_in_place_and_taken_away(rt: HostRuntime) -> Result<(), Fail> {
+// Entries of 7, 9 and 8, each of which was added at the end.
+fn three_entries(rt: &impl Abort) -> Result<Acl, Fail> {
     let first = Acl::of_creator(entry(7, 31)?.who);
-    let two = setting(&rt, &first, 9, 1, &[(7, 31), (9, 1)])?;
-    let three = setting(&rt, &two, 8, 2, &[(7, 31), (9, 1), (8, 2)])?;
+    let two = setting(rt, &first, 9, 1, &[(7, 31), (9, 1)])?;
+    setting(rt, &two, 8, 2, &[(7, 31), (9, 1), (8, 2)])
+}
+
+#[test]
+fn entries_are_set_in_place(rt: HostRuntime) -> Result<(), Fail> {
+    let three = three_entries(&rt)?;
+    setting(&rt, &three, 9, 17, &[(7, 31), (9, 17), (8, 2)])?;
+    Ok(())
+}
+
+#[test]
+fn entries_are_taken_away(rt: HostRuntime) -> Result<(), Fail> {
+    let three = three_entries(&rt)?;
     let changed = setting(&rt, &three, 9, 17, &[(7, 31), (9, 17), (8, 2)])?;
     let closed = setting(&rt, &changed, 9, 0, &[(7, 31), (8, 2)])?;
     let alone = setting(&rt, &closed, 7, 0, &[(8, 2)])?;
@@ -68,7 +80,7 @@ fn an_acl_has_16_entries_at_most(rt: HostRuntime) -> Result<(), Fail> {
 }
 
 #[test]
-fn entries_are_found_by_principal_and_by_index(rt: HostRuntime) -> Result<(), Fail> {
+fn entries_are_found_by_principal(rt: HostRuntime) -> Result<(), Fail> {
     let first = Acl::of_creator(entry(7, 31)?.who);
     let acl = setting(&rt, &first, 9, 17, &[(7, 31), (9, 17)])?;
     for (who, wanted) in [(7, Some((0, 31))), (9, Some((1, 17))), (8, None)] {
@@ -78,6 +90,13 @@ fn entries_are_found_by_principal_and_by_index(rt: HostRuntime) -> Result<(), Fa
             wanted
         );
     }
+    Ok(())
+}
+
+#[test]
+fn entries_are_found_by_index(rt: HostRuntime) -> Result<(), Fail> {
+    let first = Acl::of_creator(entry(7, 31)?.who);
+    let acl = setting(&rt, &first, 9, 17, &[(7, 31), (9, 17)])?;
     for (index, wanted) in [
         (0, Some((7, 31))),
         (1, Some((9, 17))),

@@ -6,6 +6,7 @@ use s4_types::{
 };
 use std::alloc::Global;
 use std::cmp::Ordering;
+use std::process::Abort;
 use std::test::Fail;
 
 fn bytes(alloc: Global, text: &[u8]) -> Result<Bytes, Fail> {
@@ -38,7 +39,7 @@ fn home_line() -> Result<NameLine, Fail> {
 }
 
 #[test]
-fn numbers_at_their_borders(rt: HostRuntime) -> Result<(), Fail> {
+fn principals_at_their_borders(rt: HostRuntime) {
     for (number, want) in [
         (0, Some(0)),
         (4294967294, Some(4294967294)),
@@ -47,19 +48,30 @@ fn numbers_at_their_borders(rt: HostRuntime) -> Result<(), Fail> {
         let principal = Principal::new(number);
         assert_eq!(rt; principal.map(|p| p.number()), want, "principal {number}");
     }
+}
+
+#[test]
+fn purse_numbers_at_their_borders(rt: HostRuntime) {
     for (number, want) in [(0, Some(0)), (15, Some(15)), (16, None), (255, None)] {
         let purse = PurseNo::new(number);
         assert_eq!(rt; purse.map(|p| p.number()), want, "purse {number}");
     }
+}
+
+#[test]
+fn serials_at_their_borders(rt: HostRuntime) {
     for (number, want) in [(0, None), (1, Some(1)), (65535, Some(65535))] {
         let serial = Serial::new(number);
         assert_eq!(rt; serial.map(|s| s.number()), want, "serial {number}");
     }
+}
+
+#[test]
+fn rights_at_their_borders(rt: HostRuntime) {
     for (number, want) in [(0, Some(0)), (31, Some(31)), (32, None), (255, None)] {
         let rights = Rights::new(number);
         assert_eq!(rt; rights.map(|r| r.number()), want, "rights {number}");
     }
-    Ok(())
 }
 
 #[test]
@@ -82,19 +94,32 @@ fn moments_are_ordered(rt: HostRuntime) {
 }
 
 #[test]
+fn rights_have_numbers(rt: HostRuntime) {
+    for (right, number) in [
+        (Right::Read, 1),
+        (Right::Write, 2),
+        (Right::Delete, 4),
+        (Right::Control, 8),
+        (Right::Recover, 16),
+        (Right::Admin, 32),
+    ] {
+        assert_eq!(rt; right.number(), number, "number of {right:?}");
+    }
+}
+
+#[test]
 fn rights_are_sums(rt: HostRuntime) -> Result<(), Fail> {
     let all = Rights::all();
     let some = Rights::new(18).ok_or("rights")?;
     assert_eq!(rt; all.number(), 31);
-    for (right, number, in_all, in_some) in [
-        (Right::Read, 1, true, false),
-        (Right::Write, 2, true, true),
-        (Right::Delete, 4, true, false),
-        (Right::Control, 8, true, false),
-        (Right::Recover, 16, true, true),
-        (Right::Admin, 32, false, false),
+    for (right, in_all, in_some) in [
+        (Right::Read, true, false),
+        (Right::Write, true, true),
+        (Right::Delete, true, false),
+        (Right::Control, true, false),
+        (Right::Recover, true, true),
+        (Right::Admin, false, false),
     ] {
-        assert_eq!(rt; right.number(), number, "number of {right:?}");
         assert_eq!(rt; all.has(right), in_all, "{right:?} in all");
         assert_eq!(rt; some.has(right), in_some, "{right:?} in 18");
     }
@@ -110,24 +135,33 @@ fn first_acl_has_its_creator(rt: HostRuntime) -> Result<(), Fail> {
     assert_eq!(rt; acl.entries(), wanted.as_slice());
     let copied = acl.copy();
     assert_eq!(rt; copied.entries(), wanted.as_slice());
-    assert!(rt; Acl::empty().entries().is_empty());
-    assert!(rt; Rights::none().is_empty());
     assert!(rt; !rights.is_empty());
     Ok(())
 }
 
 #[test]
-fn bytes_stay_as_given(rt: HostRuntime) -> Result<(), Fail> {
+fn what_is_empty(rt: HostRuntime) {
+    assert!(rt; Acl::empty().entries().is_empty());
+    assert!(rt; Rights::none().is_empty());
+}
+
+#[test]
+fn no_bytes_are_empty(rt: HostRuntime) -> Result<(), Fail> {
     let alloc = rt.alloc();
     let empty = bytes(alloc, b"")?;
     assert!(rt; empty.is_empty());
     assert_eq!(rt; empty.len(), 0);
-    let hello = bytes(alloc, b"hello")?;
+    assert_ne!(rt; bytes(alloc, b"hello")?, empty);
+    Ok(())
+}
+
+#[test]
+fn bytes_stay_as_given(rt: HostRuntime) -> Result<(), Fail> {
+    let hello = bytes(rt.alloc(), b"hello")?;
     assert!(rt; !hello.is_empty());
     assert_eq!(rt; hello.len(), 5);
     assert_eq!(rt; hello.as_slice(), b"hello".as_slice());
     assert_eq!(rt; hello.copy()?, hello);
-    assert_ne!(rt; hello, empty);
     assert_eq!(rt; hello.into_vec().as_slice(), b"hello".as_slice());
     Ok(())
 }
@@ -148,6 +182,12 @@ fn copies_of_requests_are_equal(rt: HostRuntime) -> Result<(), Fail> {
     assert_eq!(rt; written.copy()?, written);
     assert_eq!(rt; deleted.copy()?, deleted);
     assert_eq!(rt; bound.copy()?, bound);
+    Ok(())
+}
+
+#[test]
+fn copies_of_flushes_are_equal(rt: HostRuntime) -> Result<(), Fail> {
+    let object = last_object()?;
     let (from, to) = (Moment::new(0), Moment::new(u64::MAX));
     let flushed = Request::Flush { from, to };
     let flushed_one = Request::FlushO { object, from, to };
@@ -175,6 +215,12 @@ fn moments_that_requests_name(rt: HostRuntime) -> Result<(), Fail> {
         assert_eq!(rt; read.at(), at, "{read:?}");
         assert_eq!(rt; mounted.at(), at, "{mounted:?}");
     }
+    Ok(())
+}
+
+#[test]
+fn requests_that_name_no_moment(rt: HostRuntime) -> Result<(), Fail> {
+    let object = last_object()?;
     let deleted = Request::Delete { object };
     let windowed = Request::SetWindow { ticks: 5 };
     let flushed = Request::Flush {
@@ -187,47 +233,53 @@ fn moments_that_requests_name(rt: HostRuntime) -> Result<(), Fail> {
     Ok(())
 }
 
-#[test]
-fn purses_of_requests(rt: HostRuntime) -> Result<(), Fail> {
-    let object = last_object()?;
-    let number = PurseNo::new(3).ok_or("a purse")?;
+// The purse of a request of principal 7.
+fn purse_of(request: &Request) -> Result<Option<Purse>, Fail> {
     let who = Principal::new(7).ok_or("a principal")?;
-    let caller = Caller { who, client: 1 };
-    let own = Purse {
-        creator: who,
-        number,
-    };
-    let created = Request::Create { number };
-    let deleted = Request::Delete { object };
+    Ok(request.purse(&Caller { who, client: 1 }))
+}
+
+#[test]
+fn purses_that_a_caller_draws_from(rt: HostRuntime) -> Result<(), Fail> {
+    let number = PurseNo::new(3).ok_or("a purse")?;
+    let creator = Principal::new(7).ok_or("a principal")?;
+    let own = Purse { creator, number };
     let unbound = Request::PDelete {
         purse: own,
         name: named(b"home")?,
     };
-    let listed = Request::PList {
-        range: who,
-        after: None,
-        at: None,
-    };
-    let windowed = Request::SetWindow { ticks: 5 };
+    assert_eq!(rt; purse_of(&Request::Create { number })?, Some(own));
+    assert_eq!(rt; purse_of(&unbound)?, Some(own));
+    Ok(())
+}
+
+#[test]
+fn purses_that_requests_name(rt: HostRuntime) -> Result<(), Fail> {
+    let object = last_object()?;
+    let (from, to) = (Moment::new(0), Moment::new(5));
+    let deleted = Request::Delete { object };
+    let flushed = Request::FlushO { object, from, to };
     let budgeted = Request::SetBudget {
         purse: object.purse,
         budget: u32::MAX,
     };
+    assert_eq!(rt; purse_of(&deleted)?, Some(object.purse));
+    assert_eq!(rt; purse_of(&flushed)?, Some(object.purse));
+    assert_eq!(rt; purse_of(&budgeted)?, Some(object.purse));
+    Ok(())
+}
+
+#[test]
+fn requests_that_name_no_purse(rt: HostRuntime) -> Result<(), Fail> {
     let (from, to) = (Moment::new(0), Moment::new(5));
-    let flushed = Request::Flush { from, to };
-    let flushed_one = Request::FlushO { object, from, to };
-    for (request, wanted) in [
-        (&created, Some(own)),
-        (&deleted, Some(object.purse)),
-        (&unbound, Some(own)),
-        (&listed, None),
-        (&flushed, None),
-        (&flushed_one, Some(object.purse)),
-        (&windowed, None),
-        (&budgeted, Some(object.purse)),
-    ] {
-        assert_eq!(rt; request.purse(&caller), wanted, "{request:?}");
-    }
+    let listed = Request::PList {
+        range: Principal::new(7).ok_or("a principal")?,
+        after: None,
+        at: None,
+    };
+    assert_eq!(rt; purse_of(&listed)?, None);
+    assert_eq!(rt; purse_of(&Request::Flush { from, to })?, None);
+    assert_eq!(rt; purse_of(&Request::SetWindow { ticks: 5 })?, None);
     Ok(())
 }
 
@@ -242,80 +294,85 @@ fn copies_of_replies_are_equal(rt: HostRuntime) -> Result<(), Fail> {
         more: true,
     };
     let refused = Reply::Refused(Refusal::Denied(Right::Admin));
-    for (reply, is_refused) in [
-        (&told, false),
-        (&Reply::Done, false),
-        (&listed, false),
-        (&refused, true),
-    ] {
-        assert_eq!(rt; reply.copy()?, *reply);
-        assert_eq!(rt; reply.is_refused(), is_refused, "{reply:?}");
-    }
+    assert_eq!(rt; told.copy()?, told);
+    assert_eq!(rt; Reply::Done.copy()?, Reply::Done);
+    assert_eq!(rt; listed.copy()?, listed);
+    assert_eq!(rt; refused.copy()?, refused);
     Ok(())
 }
 
 #[test]
-fn names_at_their_borders(rt: HostRuntime) -> Result<(), Fail> {
-    for (text, taken) in [
-        (b"".as_slice(), false),
-        (b"a".as_slice(), true),
-        (b"z".as_slice(), true),
-        (b"0".as_slice(), true),
-        (b"9".as_slice(), true),
-        (b"-".as_slice(), true),
-        (b"abcdefghijklmnopqrstuvwxyz012345".as_slice(), true),
-        (b"abcdefghijklmnopqrstuvwxyz0123456".as_slice(), false),
-        (b"A".as_slice(), false),
-        (b"Z".as_slice(), false),
-        (b"_".as_slice(), false),
-        (b".".as_slice(), false),
-        (b"`".as_slice(), false),
-        (b"{".as_slice(), false),
-        (b"/".as_slice(), false),
-        (b":".as_slice(), false),
-        (b"home.".as_slice(), false),
-    ] {
-        assert_eq!(rt; Name::new(text).is_some(), taken, "name {text:?}");
+fn refusals_are_refused(rt: HostRuntime) -> Result<(), Fail> {
+    let told = Reply::Data {
+        grant: Grant::Admin,
+        bytes: bytes(rt.alloc(), b"hello")?,
+    };
+    let listed = Reply::Names {
+        lines: NameLines::new(vec![in rt.alloc(); home_line()?]?),
+        more: true,
+    };
+    assert!(rt; !told.is_refused());
+    assert!(rt; !Reply::Done.is_refused());
+    assert!(rt; !listed.is_refused());
+    assert!(rt; Reply::Refused(Refusal::Denied(Right::Admin)).is_refused());
+    Ok(())
+}
+
+#[test]
+fn names_have_1_to_32_bytes(rt: HostRuntime) {
+    assert!(rt; Name::new(b"").is_none());
+    assert!(rt; Name::new(b"a").is_some());
+    assert!(rt; Name::new(b"abcdefghijklmnopqrstuvwxyz012345").is_some());
+    assert!(rt; Name::new(b"abcdefghijklmnopqrstuvwxyz0123456").is_none());
+}
+
+#[test]
+fn bytes_of_names(rt: HostRuntime) {
+    for byte in *b"az09-" {
+        assert!(rt; Name::new(&[byte]).is_some(), "name {byte}");
     }
+    for byte in *b"AZ_.`{/:" {
+        assert!(rt; Name::new(&[byte]).is_none(), "name {byte}");
+    }
+    assert!(rt; Name::new(b"home.").is_none());
+}
+
+fn check_name(rt: &impl Abort, text: &[u8]) -> Result<(), Fail> {
+    let name = named(text)?;
+    assert_eq!(rt; name.as_slice(), text);
+    let copied = name.clone()?;
+    assert_eq!(rt; copied, name);
+    assert_eq!(rt; copied.as_slice(), text);
     Ok(())
 }
 
 #[test]
 fn names_stay_as_given(rt: HostRuntime) -> Result<(), Fail> {
-    for text in [
-        b"-".as_slice(),
-        b"home".as_slice(),
-        b"abcdefghijklmnopqrstuvwxyz012345".as_slice(),
-    ] {
-        let name = named(text)?;
-        assert_eq!(rt; name.as_slice(), text);
-        let copied = name.clone()?;
-        assert_eq!(rt; copied, name);
-        assert_eq!(rt; copied.as_slice(), text);
-    }
+    check_name(&rt, b"-")?;
+    check_name(&rt, b"home")?;
+    check_name(&rt, b"abcdefghijklmnopqrstuvwxyz012345")
+}
+
+fn check_order(rt: &impl Abort, low: &[u8], high: &[u8]) -> Result<(), Fail> {
+    let low = named(low)?;
+    let high = named(high)?;
+    assert!(rt; low < high);
+    assert_eq!(rt; low.cmp(&high), Ordering::Less);
+    assert_eq!(rt; high.cmp(&low), Ordering::Greater);
+    assert_eq!(rt; low.cmp(&low), Ordering::Equal);
+    assert_ne!(rt; low, high);
     Ok(())
 }
 
 #[test]
 fn names_are_ordered_by_their_bytes(rt: HostRuntime) -> Result<(), Fail> {
-    for (low, high) in [
-        (b"-".as_slice(), b"0".as_slice()),
-        (b"0".as_slice(), b"9".as_slice()),
-        (b"9".as_slice(), b"a".as_slice()),
-        (b"a".as_slice(), b"a-".as_slice()),
-        (b"a-".as_slice(), b"a0".as_slice()),
-        (b"a0".as_slice(), b"ab".as_slice()),
-        (b"ab".as_slice(), b"b".as_slice()),
-    ] {
-        let low = named(low)?;
-        let high = named(high)?;
-        assert!(rt; low < high);
-        assert_eq!(rt; low.cmp(&high), Ordering::Less);
-        assert_eq!(rt; high.cmp(&low), Ordering::Greater);
-        assert_eq!(rt; low.cmp(&low), Ordering::Equal);
-        assert_ne!(rt; low, high);
-    }
-    Ok(())
+    check_order(&rt, b"-", b"0")?;
+    check_order(&rt, b"0", b"9")?;
+    check_order(&rt, b"9", b"a")?;
+    check_order(&rt, b"a", b"a-")?;
+    check_order(&rt, b"a-", b"a0")?;
+    check_order(&rt, b"a0", b"ab")?;
+    check_order(&rt, b"ab", b"b")
 }
 
 #[test]

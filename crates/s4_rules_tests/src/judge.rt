@@ -44,22 +44,34 @@ fn by_entry(since: u64) -> Result<Grant, Refusal> {
     })
 }
 
-#[test]
-fn what_is_asked_now(rt: HostRuntime) -> Result<(), Fail> {
+// What is told of the object now, where principal 9 may read it.
+fn asked_now(who: u32, right: Right) -> Result<Result<Grant, Refusal>, Fail> {
     let acl = acl(1)?;
     let since = Moment::new(20);
     let held = Some(Held { acl: &acl, since });
-    for (who, right, wanted) in [
-        (0, Right::Write, Ok(Grant::Admin)),
-        (0, Right::Control, Ok(Grant::Admin)),
-        (7, Right::Control, Ok(Grant::Owner)),
-        (7, Right::Read, Err(Refusal::Denied(Right::Read))),
-        (9, Right::Read, by_entry(20)),
-        (9, Right::Control, Err(Refusal::Denied(Right::Control))),
-        (8, Right::Delete, Err(Refusal::Denied(Right::Delete))),
-    ] {
-        assert_eq!(rt; judge_now(caller(who)?, &object()?, &held, right), wanted);
+    Ok(judge_now(caller(who)?, &object()?, &held, right))
+}
+
+#[test]
+fn what_is_asked_now(rt: HostRuntime) -> Result<(), Fail> {
+    assert_eq!(rt; asked_now(0, Right::Write)?, Ok(Grant::Admin));
+    assert_eq!(rt; asked_now(0, Right::Control)?, Ok(Grant::Admin));
+    assert_eq!(rt; asked_now(7, Right::Control)?, Ok(Grant::Owner));
+    assert_eq!(rt; asked_now(9, Right::Read)?, by_entry(20));
+    Ok(())
+}
+
+#[test]
+fn what_is_denied_now(rt: HostRuntime) -> Result<(), Fail> {
+    for (who, right) in [(7, Right::Read), (9, Right::Control), (8, Right::Delete)] {
+        let denied = Err(Refusal::Denied(right));
+        assert_eq!(rt; asked_now(who, right)?, denied, "{who} {right:?}");
     }
+    Ok(())
+}
+
+#[test]
+fn what_is_asked_now_of_no_object(rt: HostRuntime) -> Result<(), Fail> {
     for (who, wanted) in [
         (0, Refusal::NoObject),
         (7, Refusal::NoObject),
@@ -71,21 +83,31 @@ fn what_is_asked_now(rt: HostRuntime) -> Result<(), Fail> {
     Ok(())
 }
 
+// What is told of the object's past, where principal 9 has these rights.
+fn asked_of_the_past(who: u32, rights: u8) -> Result<Result<Grant, Refusal>, Fail> {
+    let acl = acl(rights)?;
+    let since = Moment::new(20);
+    let held = Some(Held { acl: &acl, since });
+    Ok(judge_past(caller(who)?, &object()?, &held))
+}
+
 #[test]
 fn what_is_asked_of_the_past(rt: HostRuntime) -> Result<(), Fail> {
-    let since = Moment::new(20);
     for (rights, wanted) in [
         (1, Err(Refusal::Denied(Right::Recover))),
         (16, Err(Refusal::Denied(Right::Read))),
         (17, by_entry(20)),
     ] {
-        let acl = acl(rights)?;
-        let held = Some(Held { acl: &acl, since });
-        assert_eq!(rt; judge_past(caller(9)?, &object()?, &held), wanted);
-        assert_eq!(rt; judge_past(caller(0)?, &object()?, &held), Ok(Grant::Admin));
-        let creator = judge_past(caller(7)?, &object()?, &held);
+        assert_eq!(rt; asked_of_the_past(9, rights)?, wanted);
+        assert_eq!(rt; asked_of_the_past(0, rights)?, Ok(Grant::Admin));
+        let creator = asked_of_the_past(7, rights)?;
         assert_eq!(rt; creator, Err(Refusal::Denied(Right::Read)));
     }
+    Ok(())
+}
+
+#[test]
+fn what_is_asked_of_the_past_of_no_object(rt: HostRuntime) -> Result<(), Fail> {
     for (who, wanted) in [
         (0, Refusal::NoObject),
         (7, Refusal::NoObject),
