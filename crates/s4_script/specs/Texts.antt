@@ -1,4 +1,4 @@
--- What a reply's line says, and the text of a line that isn't taken.
+-- What the line of a reply or of a connection says, and the text of a line that isn't taken.
 use Rattle.std.specs.Prelude.{ℕ, Bool, true, false, List, [], ◌∷◌, ◌++◌, length, flat_map, codes, decimal}
 use Rattle.hex.specs.Hex.{encode_lower}
 use Rattle.s4_types.specs.declared.audit.AuditLine.{AuditLine}
@@ -115,6 +115,10 @@ reply_text (reply.Refused why) = refusal_text why
 -- how many values and bindings a drive holds
 abbrev pub used_text : ℕ → List ℕ
 used_text count = codes "used " ++ decimal count
+
+-- what was sent on a connection as its line: its number, and the bytes
+abbrev pub sent_text : ℕ → List ℕ → List ℕ
+sent_text connection bytes = decimal connection ++ codes " " ++ bytes_text bytes
 
 -- why a line isn't taken
 abbrev pub parse_error_text : ParseError → List ℕ

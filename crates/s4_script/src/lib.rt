@@ -1,14 +1,18 @@
-//! The script language: what a line spells, and what a reply's line says (docs/SCRIPTS.md says it
-//! in prose).
+//! The language of scripts and arrivals: what a line spells, and what the line of a reply or of a
+//! connection says (docs/SCRIPTS.md says it in prose).
 #![tactic(auto)]
 
+mod arrivals;
 mod error;
 mod line;
 mod records;
 mod replies;
 mod requests;
+mod sent;
 mod words;
 
+pub use arrivals::{ArrivalLine, parse_arrival};
 pub use error::ParseError;
 pub use line::{Line, parse_line, parse_window};
 pub use replies::{ReplyText, UsedText};
+pub use sent::SentText;

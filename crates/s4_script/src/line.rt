@@ -5,9 +5,6 @@ use crate::{requests, words};
 use s4_types::{Caller, Step};
 use std::alloc::Global;
 
-/// The most words that a line has.
-const MOST_WORDS: usize = 9;
-
 /// A line after the first.
 #[derive(Debug, PartialEq, Drop)]
 pub enum Line {
@@ -19,7 +16,7 @@ pub enum Line {
 
 /// The window that the first line opens the drive with.
 pub fn parse_window(alloc: Global, line: &[u8]) -> Result<u64, ParseError> {
-    match words_of(alloc, line)?.as_slice() {
+    match words::of_line(alloc, line)?.as_slice() {
         ["window", ticks] => words::number(ticks),
         _ => Err(ParseError::Bad),
     }
@@ -27,7 +24,7 @@ pub fn parse_window(alloc: Global, line: &[u8]) -> Result<u64, ParseError> {
 
 /// What a line after the first asks for.
 pub fn parse_line(alloc: Global, line: &[u8]) -> Result<Line, ParseError> {
-    match words_of(alloc, line)?.as_slice() {
+    match words::of_line(alloc, line)?.as_slice() {
         ["used"] => Ok(Line::Used),
         ["sweep", most] => sweep(most),
         [moment, who, verb, words @ ..] => request(alloc, moment, who, verb, words),
@@ -56,11 +53,4 @@ fn request(
         },
         request: requests::parse_request(alloc, verb, words)?,
     }))
-}
-
-/// The words of a line. Of a line with too many words there is one more than any line has.
-fn words_of(alloc: Global, line: &[u8]) -> Result<Vec<&str>, ParseError> {
-    let line = std::str::from_utf8(line).map_err(|_| ParseError::Bad)?;
-    let words = line.split(' ').take(MOST_WORDS + 1).collect(alloc)?;
-    Ok(words)
 }

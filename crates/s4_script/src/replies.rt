@@ -86,7 +86,7 @@ impl fmt::Display for ObjectText {
 
 /// Bytes as hexadecimal digits in lower case, or as the word `empty`.
 #[derive(Clone, Copy)]
-struct BytesText<'a>(&'a [u8]);
+pub(crate) struct BytesText<'a>(pub(crate) &'a [u8]);
 
 impl fmt::Display for BytesText<'_> {
     ghost output = { λ t. Some (bytes_text t.0.now) };

@@ -5,6 +5,16 @@ use hex::FromHexError;
 use s4_types::{After, Bytes, Moment, Name, ObjectId, Principal, Purse, PurseNo, Rights, Serial};
 use std::alloc::Global;
 
+/// The most words that a line has.
+const MOST_WORDS: usize = 9;
+
+/// The words of a line. Of a line with too many words there is one more than any line has.
+pub fn of_line(alloc: Global, line: &[u8]) -> Result<Vec<&str>, ParseError> {
+    let line = std::str::from_utf8(line).map_err(|_| ParseError::Bad)?;
+    let words = line.split(' ').take(MOST_WORDS + 1).collect(alloc)?;
+    Ok(words)
+}
+
 /// A decimal number without sign and without leading zeros, in the range of its type.
 pub fn number<T: TryFrom<u64>>(word: &str) -> Result<T, ParseError>
 where

@@ -1,6 +1,8 @@
-//! Tests of what requests and replies are written as: as bytes, and as the lines of scripts.
+//! Tests of what requests and replies are written as: as bytes, and as the lines of scripts and arrivals.
 #![tactic(auto)]
 
+#[cfg(test)]
+mod arrivals;
 #[cfg(test)]
 mod codec_replies;
 #[cfg(test)]

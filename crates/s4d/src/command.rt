@@ -2,10 +2,13 @@
 
 use crate::fault::Fault;
 use clap::error::ErrorKind;
-use clap::{ArgMatches, Command as Parser, Error};
+use clap::{Arg, ArgMatches, Command as Parser, Error};
 use std::alloc::{AllocError, Global};
 use std::rt::Env;
 use std::{env, io};
+
+/// The argument that is the path of a file of logins.
+const LOGINS: &str = "LOGINS";
 
 /// What the program is asked to do.
 #[derive(Debug, PartialEq, Drop)]
@@ -14,6 +17,8 @@ pub enum Command {
     Help(String),
     /// To run a script.
     Run,
+    /// To run arrivals on a hall of the logins in the file with this path.
+    Hall(String),
 }
 
 /// The command that the program's arguments spell.
@@ -38,16 +43,31 @@ fn parser<'a>(alloc: Global) -> Result<Parser<'a>, AllocError> {
     let run = Parser::new(alloc, "run").about(
         "Runs a script from standard input, and writes the replies",
     );
+    let logins = Arg::new(alloc, LOGINS)
+        .help("A file of the principals that may log in, each with its secret")
+        .required(true);
+    let hall = Parser::new(alloc, "hall")
+        .about("Runs arrivals from standard input, and writes what each connection is sent")
+        .arg(logins)?;
     Parser::new(alloc, "s4d")
         .about("A drive that keeps what was written, and answers each principal by its rights")
         .subcommand_required(true)
-        .subcommand(run)
+        .subcommand(run)?
+        .subcommand(hall)
 }
 
 fn chosen(alloc: Global, matches: &ArgMatches) -> Result<Command, Fault> {
     match matches.subcommand() {
         Some(("run", _)) => Ok(Command::Run),
+        Some(("hall", words)) => hall(alloc, words.get_str(LOGINS)),
         _ => Err(Fault::CommandLine(String::from_str(alloc, "a command is wanted, as run")?)),
+    }
+}
+
+fn hall(alloc: Global, logins: Option<&str>) -> Result<Command, Fault> {
+    match logins {
+        Some(path) => Ok(Command::Hall(String::from_str(alloc, path)?)),
+        None => Err(Fault::CommandLine(String::from_str(alloc, "a file of logins is wanted")?)),
     }
 }
 

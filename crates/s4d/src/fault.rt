@@ -2,11 +2,12 @@
 
 ghost use Rattle.std.specs.Prelude.{◌≡◌, ◌≢◌, ◌++◌, Some, codes};
 ghost use Rattle.std.specs.IoError.{error_kind};
-ghost use Rattle.s4d.specs.Faults.{exit_status, fault_of_line};
+ghost use Rattle.s4d.specs.Faults.{exit_status, fault_of_line, fault_of_logins, fault_of_logins_file};
 ghost use Rattle.s4d.specs.Texts.{fault_text};
 ghost use Rattle.s4d.specs.declared.fault.Fault.TheVariants as fault;
 
 use s4_script::ParseError;
+use s4_session::LoginFault;
 use std::alloc::{AllocError, AllocFailed};
 use std::io::ErrorKind;
 use std::{fmt, io};
@@ -17,6 +18,8 @@ use thiserror::Error;
 pub enum Fault {
     BadLine(usize),
     MomentGoesBack(usize),
+    LoginsLine(usize),
+    CannotReadLogins,
     CannotRead,
     CannotWrite,
     NoMemory,
@@ -41,6 +44,26 @@ impl Fault {
         match error {
             ParseError::Bad => Fault::BadLine(number),
             ParseError::NoMemory => Fault::NoMemory,
+        }
+    }
+
+    /// The fault of a text that is no table of logins.
+    pub fn logins(error: LoginFault) -> Fault
+        ensures { result ≡ fault_of_logins error }
+    {
+        match error {
+            LoginFault::BadLine(number) | LoginFault::Doubled(number) => Fault::LoginsLine(number),
+            LoginFault::NoMemory => Fault::NoMemory,
+        }
+    }
+
+    /// The fault where this one was met in reading the file of logins.
+    pub fn of_logins_file(self) -> Fault
+        ensures { result ≡ fault_of_logins_file self }
+    {
+        match self {
+            Fault::CannotRead => Fault::CannotReadLogins,
+            fault => fault,
         }
     }
 
@@ -74,6 +97,8 @@ impl fmt::Display for Fault {
         match self {
             Fault::BadLine(number) => write!(f, "line {number}: bad line"),
             Fault::MomentGoesBack(number) => write!(f, "line {number}: moment goes back"),
+            Fault::LoginsLine(number) => write!(f, "logins line {number}"),
+            Fault::CannotReadLogins => write!(f, "cannot read logins"),
             Fault::CannotRead => write!(f, "cannot read"),
             Fault::CannotWrite => write!(f, "cannot write"),
             Fault::NoMemory => write!(f, "no memory"),
@@ -83,17 +108,17 @@ impl fmt::Display for Fault {
 }
 
 impl From<AllocError> for Fault {
-    fn from(_: AllocError) -> Fault
-        ensures { result ≡ fault.NoMemory }
-    {
+    ghost from_gives = { λ _ why. why ≡ fault.NoMemory };
+
+    fn from(_: AllocError) -> Fault {
         Fault::NoMemory
     }
 }
 
 impl<T: Drop> From<AllocFailed<T>> for Fault {
-    fn from(_: AllocFailed<T>) -> Fault
-        ensures { result ≡ fault.NoMemory }
-    {
+    ghost from_gives = { λ _ why. why ≡ fault.NoMemory };
+
+    fn from(_: AllocFailed<T>) -> Fault {
         Fault::NoMemory
     }
 }

@@ -1,8 +1,16 @@
 //! The command `s4d`, by which the drive is used.
 #![tactic(auto)]
 
+mod arrivals;
 mod command;
+#[cfg(test)]
+mod fakes;
 mod fault;
+mod hall;
+#[cfg(test)]
+mod hall_rows;
+#[cfg(test)]
+mod hall_tests;
 #[cfg(test)]
 mod rows;
 mod script;
@@ -15,6 +23,7 @@ use fault::{Fault, FaultText};
 use std::io;
 use std::io::BufWriter;
 use std::process::ExitCode;
+use std::rt::Files;
 
 fn main(rt: HostRuntime) -> ExitCode {
     match command::given(&rt).and_then(|command| obey(&rt, &command)) {
@@ -26,10 +35,11 @@ fn main(rt: HostRuntime) -> ExitCode {
     }
 }
 
-fn obey<R: Input + Print + AllocGlobal>(rt: &R, command: &Command) -> Result<(), Fault> {
+fn obey<R: Files + Input + Print + AllocGlobal>(rt: &R, command: &Command) -> Result<(), Fault> {
     match command {
         Command::Help(text) => print!(rt; "{text}").map_err(Fault::writing),
         Command::Run => run(rt),
+        Command::Hall(logins) => run_hall(rt, logins),
     }
 }
 
@@ -37,4 +47,12 @@ fn obey<R: Input + Print + AllocGlobal>(rt: &R, command: &Command) -> Result<(),
 fn run<R: Input + Print + AllocGlobal>(rt: &R) -> Result<(), Fault> {
     let mut writer = BufWriter::new(rt.alloc(), io::writer(rt)).map_err(Fault::writing)?;
     script::run_script(rt.alloc(), rt.reader(), &mut writer)
+}
+
+/// Runs the arrivals on standard input on a hall of the logins in the file with that path, and writes
+/// what each connection is sent to standard output.
+fn run_hall<R: Files + Input + Print + AllocGlobal>(rt: &R, path: &str) -> Result<(), Fault> {
+    let logins = hall::open_logins(rt, path)?;
+    let mut writer = BufWriter::new(rt.alloc(), io::writer(rt)).map_err(Fault::writing)?;
+    hall::run_hall(rt.alloc(), logins, rt.reader(), &mut writer)
 }

@@ -1,4 +1,5 @@
 use crate::command;
+use crate::fakes::{Narrow, Trickle};
 use crate::fault::{Fault, FaultText};
 use crate::rows::{
     FAULT_BAD_LINE, FIRST_REQUESTS, ROWS_OF_NAMES, ROWS_OF_OBJECTS, ROWS_OF_THE_PAST, Row,
@@ -11,8 +12,6 @@ use s4_script::{Line, ReplyText, parse_line, parse_window};
 use s4_store::PlainStore;
 use s4_types::{Step, Version};
 use std::alloc::Global;
-use std::io;
-use std::io::{ErrorKind, Read, Write};
 use std::process::Abort;
 use std::test::Fail;
 
@@ -345,68 +344,6 @@ fn budget_at_first(rt: HostRuntime) -> Result<(), Fail> {
     Ok(())
 }
 
-/// Gives a byte at a time, each after an interruption, and fails at the end where it is told to.
-#[derive(Drop)]
-struct Trickle<'a> {
-    bytes: &'a [u8],
-    is_ready: bool,
-    fails: bool,
-}
-
-impl Read for Trickle<'_> {
-    fn read(&mut self, buf: &mut [u8]) -> io::Result<usize> {
-        self.is_ready = !self.is_ready;
-        if self.is_ready {
-            return Err(io::Error::from(ErrorKind::Interrupted));
-        }
-        if self.bytes.is_empty() && self.fails {
-            return Err(io::Error::from(ErrorKind::BrokenPipe));
-        }
-        let most = buf.len().min(1);
-        self.bytes.read(&mut buf[..most])
-    }
-}
-
-/// Takes so many bytes at a time while there is room, and then fails.
-#[derive(Drop)]
-struct Narrow {
-    taken: Vec<u8>,
-    width: usize,
-    room: usize,
-    flushes: bool,
-}
-
-impl Narrow {
-    fn new(alloc: Global, width: usize, room: usize) -> Narrow {
-        Narrow {
-            taken: Vec::new(alloc),
-            width,
-            room,
-            flushes: true,
-        }
-    }
-}
-
-impl Write for Narrow {
-    fn write(&mut self, buf: &[u8]) -> io::Result<usize> {
-        if self.room == 0 {
-            return Err(io::Error::from(ErrorKind::StorageFull));
-        }
-        let count = buf.len().min(self.width).min(self.room);
-        self.taken.extend_from_slice(&buf[..count])?;
-        self.room -= count;
-        Ok(count)
-    }
-
-    fn flush(&mut self) -> io::Result<()> {
-        if self.flushes {
-            Ok(())
-        } else {
-            Err(io::Error::from(ErrorKind::BrokenPipe))
-        }
-    }
-}
-
 #[test]
 fn failing_readers(rt: HostRuntime) -> Result<(), Fail> {
     let alloc = rt.alloc();
@@ -480,6 +417,8 @@ fn faults(rt: HostRuntime) -> Result<(), Fail> {
     for (fault, wanted) in [
         (Fault::BadLine(12), "s4d: line 12: bad line"),
         (Fault::MomentGoesBack(2), "s4d: line 2: moment goes back"),
+        (Fault::LoginsLine(3), "s4d: logins line 3"),
+        (Fault::CannotReadLogins, "s4d: cannot read logins"),
         (Fault::CannotRead, "s4d: cannot read"),
         (Fault::CannotWrite, "s4d: cannot write"),
         (Fault::NoMemory, "s4d: no memory"),
@@ -493,13 +432,18 @@ fn faults(rt: HostRuntime) -> Result<(), Fail> {
 #[test]
 fn command_lines(rt: HostRuntime) -> Result<(), Fail> {
     let alloc = rt.alloc();
-    let cases: [(&[&str], u8); 6] = [
+    let cases: [(&[&str], u8); 11] = [
         (&["s4d", "run"], 0),
+        (&["s4d", "hall", "first.logins"], 0),
+        (&["s4d", "hall", "--help"], 0),
         (&["s4d", "--help"], 0),
         (&["s4d"], 2),
         (&["s4d", "walk"], 2),
         (&["s4d", "run", "first.script"], 2),
         (&["s4d", "run", "--window"], 2),
+        (&["s4d", "hall"], 2),
+        (&["s4d", "hall", "first.logins", "first.arrivals"], 2),
+        (&["s4d", "hall", "--window"], 2),
     ];
     for (words, wanted) in cases {
         let mut given = Vec::new(alloc);
