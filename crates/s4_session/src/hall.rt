@@ -1,6 +1,6 @@
 //! The hall: many connections over one drive.
 
-ghost use Rattle.std.specs.Prelude.{◌≡◌, ◌≤◌, ◌+◌, ◌-◌, min, [], true, false, IfOk, OnErr, IsErr};
+ghost use Rattle.std.specs.Prelude.{◌≡◌, ◌≤◌, ◌+◌, ◌-◌, min, [], true, false, IfOk, OnOk, OnErr, IsErr};
 ghost use Rattle.s4_types.specs.Base.{opened};
 ghost use Rattle.s4_types.specs.Horizon.{horizon_at};
 ghost use Rattle.s4_types.specs.Play.{last_of};
@@ -127,6 +127,7 @@ impl Hall {
         requires moments { NeverDown 0 steps.now }
         ensures sent { IfOk result (λ sent. IsSent (opened self.old.log.window) self.old.logins steps.now (lists_of sent.items)) }
         ensures fails { OnErr result (self.new.failed ≡ true) }
+        ensures stays_failed { self.old.failed ≡ true → self.new.failed ≡ true }
     {
         let sent = self.try_run(steps);
         if sent.is_err() {
@@ -138,7 +139,8 @@ impl Hall {
     fn try_run(&mut self, steps: &[HallStep]) -> Result<Vec<(u32, Vec<u8>)>, NoMemory>
         requires fresh { IsFresh self.old }
         requires moments { NeverDown 0 steps.now }
-        ensures { IfOk result (λ sent. IsSent (opened self.old.log.window) self.old.logins steps.now (lists_of sent.items)) }
+        ensures sent { IfOk result (λ sent. IsSent (opened self.old.log.window) self.old.logins steps.now (lists_of sent.items)) }
+        ensures stays_failed { OnOk result (self.old.failed ≡ true → self.new.failed ≡ true) }
     {
         let mut outbox = Outbox::new(self.alloc);
         for step in steps {

@@ -1,4 +1,4 @@
-use Rattle.std.proofs.Common.{◌≡◌, ◌<◌, ◌≤◌, ◌+◌, ◌++◌, ◌∷◌, [], ℕ, List, length, take, drop, sym, subst, arith}
+use Rattle.std.proofs.Common.{rules, true, ◌≡◌, ◌<◌, ◌≤◌, ◌+◌, ◌++◌, ◌∷◌, [], ℕ, List, length, take, drop, sym, subst, arith}
 use Rattle.std.proofs.lemmas.List.{take_all}
 use Rattle.s4_types.specs.Base.{opened}
 use Rattle.s4_session.specs.declared.hall_step.HallStep.{HallStep}
@@ -31,6 +31,7 @@ loop-step-preserved c =
           record {
             sends = rw (w.self-is, w.outbox-is, front) (sends_more window logins (take i all) now w.arrive.new.self c.loop-step.outbox w.add.new.self conn t piece w.in_ok-sent-in-Arrive.sent.items s takes w.in_ok-add-in-Arrive.ensures);
             down = rw w.self-is (subst (λ (m : ℕ). NeverDown m (drop (i + 1) all)) (sym takes.last) down.1);
+            failed = λ e. let was : now.failed ≡ true = c.loop-step.invariant.failed e in search rules;
           }
       | in-Sweep w ↦
           let n : ℕ = w.in-Sweep.n in
@@ -42,11 +43,12 @@ loop-step-preserved c =
           record {
             sends = rw (w.self-is, w.outbox-is, w.sweep.ensures.swept, front) (sends_swept window logins (take i all) (freed_to now freed) c.loop-step.outbox n (sends_freed window logins (take i all) now c.loop-step.outbox freed s));
             down = rw (w.self-is, w.sweep.ensures.swept) down;
+            failed = λ e. rw (w.self-is, w.sweep.ensures.swept) (c.loop-step.invariant.failed e);
           }
     ]
 
-pub returns : goal.returns
-returns c =
+pub returns-clause-sent : goal.returns-clause-sent
+returns-clause-sent c =
     let window : ℕ = c.args.self.now.log.window in
     let logins = c.args.self.now.logins in
     let i : ℕ = c.loop-step.step-index in
