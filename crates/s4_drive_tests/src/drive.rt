@@ -69,56 +69,106 @@ fn data(alloc: Global, text: &[u8], since: u64) -> Result<Reply, Fail> {
     })
 }
 
-// Gives the steps to a fresh drive one by one, and to another one at once.
-fn answers(
+// A fresh drive over the plain store, with a window of 100 ticks.
+fn fresh(alloc: Global) -> Drive<PlainStore<Version>> {
+    Drive::new(alloc, PlainStore::new(alloc), 100)
+}
+
+// Object 7.0.1 is made at 5, written at 10 and read at 11.
+fn made_written_and_read(alloc: Global) -> Result<Vec<Step>, Fail> {
+    let o = object(7, 0, 1)?;
+    let mut steps = Vec::new(alloc);
+    steps.push(ask(5, 7, create(0)?)?)?;
+    steps.push(Step::Sweep { n: 1 })?;
+    steps.push(ask(10, 7, write(alloc, o, 0, b"hello")?)?)?;
+    steps.push(ask(11, 7, read(o, 0, 100))?)?;
+    Ok(steps)
+}
+
+// That these are the replies to them.
+fn check_replies(rt: &impl Abort, alloc: Global, replies: &[Reply]) -> Result<(), Fail> {
+    let o = object(7, 0, 1)?;
+    let wanted = [Reply::Made(o), Reply::Done, data(alloc, b"hello", 5)?];
+    assert_eq!(rt; replies, wanted.as_slice());
+    Ok(())
+}
+
+// That the drive has so many records, the newest at that moment.
+fn check_records<S: Store<Version>>(rt: &impl Abort, drive: &Drive<S>, last: u64, count: usize) {
+    assert_eq!(rt; drive.last(), Moment::new(last));
+    assert_eq!(rt; drive.history().len(), count);
+}
+
+// Asks a drive at a moment that isn't before the last one.
+fn step_at<S: Store<Version>>(
+    rt: &impl Abort,
+    drive: &mut Drive<S>,
+    moment: u64,
+    request: &Request,
+) -> Result<Reply, Fail> {
+    let moment = Moment::new(moment);
+    assert!(rt; drive.last() <= moment);
+    Ok(drive.step(moment, caller(7)?, request))
+}
+
+// That a drive answers so.
+fn check_step<S: Store<Version>>(
+    rt: &impl Abort,
+    drive: &mut Drive<S>,
+    moment: u64,
+    request: &Request,
+    wanted: &Reply,
+) -> Result<(), Fail> {
+    let reply = step_at(rt, drive, moment, request)?;
+    assert_eq!(rt; reply, *wanted, "at {moment}");
+    Ok(())
+}
+
+// Gives the same to a drive at once.
+fn check_at_once<S: Store<Version>>(
     rt: &impl Abort,
     alloc: Global,
-    steps: &[Step],
-    wanted: &[Reply],
-    last: u64,
+    drive: &mut Drive<S>,
 ) -> Result<(), Fail> {
-    let mut drive = Drive::new(alloc, PlainStore::new(alloc), 100);
-    assert_eq!(rt; drive.last(), Moment::new(0));
-    assert!(rt; drive.history().is_empty());
-    let mut replies = Vec::new(alloc);
-    for step in steps {
-        match step {
-            Step::Request {
-                moment,
-                caller,
-                request,
-            } => {
-                assert!(rt; drive.last() <= *moment);
-                replies.push(drive.step(*moment, *caller, request))?;
-            }
-            Step::Sweep { .. } => {}
-        }
-    }
-    assert_eq!(rt; replies.as_slice(), wanted);
-    assert_eq!(rt; drive.last(), Moment::new(last));
-    assert_eq!(rt; drive.history().len(), wanted.len());
-    let mut drive = Drive::new(alloc, PlainStore::new(alloc), 100);
-    assert!(rt; never_down(drive.last(), steps));
-    let replies = drive.run(steps)?;
-    assert_eq!(rt; replies.as_slice(), wanted);
-    assert_eq!(rt; drive.last(), Moment::new(last));
-    assert_eq!(rt; drive.history().len(), wanted.len());
-    assert!(rt; !never_down(Moment::new(u64::MAX), steps));
+    let steps = made_written_and_read(alloc)?;
+    assert!(rt; never_down(drive.last(), &steps));
+    let replies = drive.run(&steps)?;
+    check_records(rt, drive, 11, 3);
+    check_replies(rt, alloc, &replies)
+}
+
+// Makes, writes and reads object 7.0.1, and sees the records come.
+fn check_one_by_one<S: Store<Version>>(
+    rt: &impl Abort,
+    alloc: Global,
+    drive: &mut Drive<S>,
+) -> Result<(), Fail> {
+    let o = object(7, 0, 1)?;
+    check_records(rt, drive, 0, 0);
+    check_step(rt, drive, 5, &create(0)?, &Reply::Made(o))?;
+    check_step(rt, drive, 10, &write(alloc, o, 0, b"hello")?, &Reply::Done)?;
+    check_step(rt, drive, 11, &read(o, 0, 100), &data(alloc, b"hello", 5)?)?;
+    check_records(rt, drive, 11, 3);
     Ok(())
 }
 
 #[test]
-fn writes_and_reads(rt: HostRuntime) -> Result<(), Fail> {
+fn steps_are_answered_one_by_one(rt: HostRuntime) -> Result<(), Fail> {
     let alloc = rt.alloc();
-    let o = object(7, 0, 1)?;
-    let steps = [
-        ask(5, 7, create(0)?)?,
-        Step::Sweep { n: 1 },
-        ask(10, 7, write(alloc, o, 0, b"hello")?)?,
-        ask(11, 7, read(o, 0, 100))?,
-    ];
-    let wanted = [Reply::Made(o), Reply::Done, data(alloc, b"hello", 5)?];
-    answers(&rt, alloc, &steps, &wanted, 11)
+    check_one_by_one(&rt, alloc, &mut fresh(alloc))
+}
+
+#[test]
+fn steps_are_answered_at_once(rt: HostRuntime) -> Result<(), Fail> {
+    let alloc = rt.alloc();
+    check_at_once(&rt, alloc, &mut fresh(alloc))
+}
+
+#[test]
+fn no_moment_is_after_the_last_one(rt: HostRuntime) -> Result<(), Fail> {
+    let steps = made_written_and_read(rt.alloc())?;
+    assert!(rt; !never_down(Moment::new(u64::MAX), &steps));
+    Ok(())
 }
 
 // A plain store that counts how often it shows the data of an object.
@@ -192,48 +242,76 @@ impl Store<Version> for Counting<'_> {
     }
 }
 
+// That a read at the moment, of the object's data, looks into the store.
+fn check_read<S: Store<Version>>(
+    rt: &impl Abort,
+    alloc: Global,
+    drive: &mut Drive<S>,
+    reads: &Cell<usize>,
+    moment: u64,
+) -> Result<(), Fail> {
+    let before = reads.get();
+    let reply = step_at(rt, drive, moment, &read(object(7, 0, 1)?, 0, 100))?;
+    assert_eq!(rt; reply, data(alloc, b"", 5)?);
+    assert!(rt; reads.get() > before, "at {moment}");
+    Ok(())
+}
+
+// That each granted read of object 7.0.1 looks into the store.
+fn check_reads<S: Store<Version>>(
+    rt: &impl Abort,
+    alloc: Global,
+    drive: &mut Drive<S>,
+    reads: &Cell<usize>,
+) -> Result<(), Fail> {
+    check_step(rt, drive, 5, &create(0)?, &Reply::Made(object(7, 0, 1)?))?;
+    check_read(rt, alloc, drive, reads, 5)?;
+    check_read(rt, alloc, drive, reads, 6)?;
+    check_read(rt, alloc, drive, reads, 7)
+}
+
 #[test]
 fn granted_reads_look_into_the_store(rt: HostRuntime) -> Result<(), Fail> {
     let alloc = rt.alloc();
-    let o = object(7, 0, 1)?;
     let reads = Cell::new(0);
     let store = Counting {
         store: PlainStore::new(alloc),
         reads: &reads,
     };
-    let mut drive = Drive::new(alloc, store, 100);
-    let maker = caller(7)?;
-    let made = drive.step(Moment::new(5), maker, &create(0)?);
-    assert_eq!(rt; made, Reply::Made(o));
-    for moment in [5, 6, 7] {
-        let before = reads.get();
-        let moment = Moment::new(moment);
-        assert!(rt; drive.last() <= moment);
-        let reply = drive.step(moment, maker, &read(o, 0, 100));
-        assert_eq!(rt; reply, data(alloc, b"", 5)?);
-        assert!(rt; reads.get() > before, "at {moment:?}");
-    }
+    check_reads(&rt, alloc, &mut Drive::new(alloc, store, 100), &reads)
+}
+
+// What the horizon is, and what purse 7.0 spends, once principal 7 asked.
+fn check_spent<S: Store<Version>>(
+    rt: &impl Abort,
+    drive: &mut Drive<S>,
+    moment: u64,
+    request: &Request,
+    horizon: u64,
+    spent: u32,
+) -> Result<(), Fail> {
+    step_at(rt, drive, moment, request)?;
+    assert_eq!(rt; drive.horizon(), Moment::new(horizon));
+    assert_eq!(rt; drive.spent(&object(7, 0, 1)?.purse), spent, "at {moment}");
     Ok(())
+}
+
+// What purse 7.0 spends as two writes are made, and until both are expired.
+fn check_spending<S: Store<Version>>(
+    rt: &impl Abort,
+    alloc: Global,
+    drive: &mut Drive<S>,
+) -> Result<(), Fail> {
+    let o = object(7, 0, 1)?;
+    check_spent(rt, drive, 5, &create(0)?, 0, 0)?;
+    check_spent(rt, drive, 10, &write(alloc, o, 0, b"a")?, 0, 64)?;
+    check_spent(rt, drive, 10, &write(alloc, o, 0, b"b")?, 0, 129)?;
+    check_spent(rt, drive, 109, &read(o, 0, 1), 9, 129)?;
+    check_spent(rt, drive, 110, &read(o, 0, 1), 10, 0)
 }
 
 #[test]
 fn spending_goes_once_the_horizon_is_there(rt: HostRuntime) -> Result<(), Fail> {
     let alloc = rt.alloc();
-    let o = object(7, 0, 1)?;
-    let maker = caller(7)?;
-    let mut drive = Drive::new(alloc, PlainStore::new(alloc), 100);
-    for (moment, request, horizon, spent) in [
-        (5, create(0)?, 0, 0),
-        (10, write(alloc, o, 0, b"a")?, 0, 64),
-        (10, write(alloc, o, 0, b"b")?, 0, 129),
-        (109, read(o, 0, 1), 9, 129),
-        (110, read(o, 0, 1), 10, 0),
-    ] {
-        let moment = Moment::new(moment);
-        assert!(rt; drive.last() <= moment);
-        drive.step(moment, maker, &request);
-        assert_eq!(rt; drive.horizon(), Moment::new(horizon));
-        assert_eq!(rt; drive.spent(&o.purse), spent, "at {moment:?}");
-    }
-    Ok(())
+    check_spending(&rt, alloc, &mut fresh(alloc))
 }

@@ -1,40 +1,95 @@
 //! A state without records. The calls on one with records are tried through the drive.
 
+ghost use Rattle.std.specs.Prelude.{◌≡◌, []};
+
 use s4_state::State;
-use s4_store::PlainStore;
-use s4_types::{Caller, Moment, Name, ObjectId, Principal, Purse, PurseNo, Refusal, Right, Serial};
+use s4_store::{PlainStore, Store};
+use s4_types::{
+    Caller, Moment, Name, ObjectId, Principal, Purse, PurseNo, Refusal, Right, Serial, Version,
+};
+use std::alloc::Global;
+use std::process::Abort;
 use std::test::Fail;
 
-#[test]
-fn a_fresh_state_tells_of_nothing(rt: HostRuntime) -> Result<(), Fail> {
-    let alloc = rt.alloc();
-    let state = State::new(alloc, PlainStore::new(alloc), 100);
+fn seven() -> Result<Caller, Fail> {
     let who = Principal::new(7).ok_or("a principal")?;
-    let caller = Caller { who, client: 0 };
-    let purse = Purse {
-        creator: who,
-        number: PurseNo::new(0).ok_or("a purse")?,
-    };
-    let object = ObjectId {
-        purse,
-        serial: Serial::new(1).ok_or("a serial")?,
-    };
-    let name = Name::new(b"home").ok_or("a name")?;
-    let at = Some(Moment::new(3));
-    assert!(rt; state.history().is_empty());
-    assert_eq!(rt; state.next_object(&purse), Some(object));
-    assert_eq!(rt; state.bound(&purse, &name, at), None);
-    assert_eq!(rt; state.bound_count(&purse), 0);
+    Ok(Caller { who, client: 0 })
+}
+
+// The first object of purse 7.0.
+fn first_object() -> Result<ObjectId, Fail> {
+    let creator = seven()?.who;
+    let number = PurseNo::new(0).ok_or("a purse")?;
+    let serial = Serial::new(1).ok_or("a serial")?;
+    Ok(ObjectId {
+        purse: Purse { creator, number },
+        serial,
+    })
+}
+
+// It was never made.
+fn check_object<S: Store<Version>>(rt: &impl Abort, state: &State<S>) -> Result<(), Fail> {
+    let object = first_object()?;
+    assert_eq!(rt; state.next_object(&object.purse), Some(object));
     assert!(rt; !state.has_name(&object));
+    let judged = state.judge(seven()?, &object, Right::Write, None);
+    assert_eq!(rt; judged.err(), Some(Refusal::NoObject));
+    Ok(())
+}
+
+// It has empty values.
+fn check_values<S: Store<Version>>(rt: &impl Abort, state: &State<S>) -> Result<(), Fail>
+    requires { state.now ≡ record { window = 100; history = []; freed = 0 } }
+{
+    let object = first_object()?;
+    let at = Some(Moment::new(3));
     let data = state.data(&object, at).ok_or("data")?;
     let attributes = state.attributes(&object, None).ok_or("attributes")?;
     assert!(rt; data.is_empty() && attributes.is_empty());
     assert!(rt; state.acl(&object, at).entries().is_empty());
-    let judged = state.judge(caller, &object, Right::Write, None);
-    assert_eq!(rt; judged.err(), Some(Refusal::NoObject));
-    let page = state.page(Moment::new(5), caller, who, &None, &at)?;
-    assert!(rt; page.lines.as_slice().is_empty() && !page.more);
-    let page = state.audit_page(&caller, who, 0, Moment::new(0))?;
+    Ok(())
+}
+
+// No name is bound.
+fn check_names<S: Store<Version>>(rt: &impl Abort, state: &State<S>) -> Result<(), Fail>
+    requires { state.now ≡ record { window = 100; history = []; freed = 0 } }
+{
+    let purse = first_object()?.purse;
+    let name = Name::new(b"home").ok_or("a name")?;
+    let at = Some(Moment::new(3));
+    assert_eq!(rt; state.bound(&purse, &name, at), None);
+    assert_eq!(rt; state.bound_count(&purse), 0);
+    let caller = seven()?;
+    let page = state.page(Moment::new(5), caller, caller.who, &None, &at)?;
     assert!(rt; page.lines.as_slice().is_empty() && !page.more);
     Ok(())
+}
+
+// Nothing was asked.
+fn check_records<S: Store<Version>>(rt: &impl Abort, state: &State<S>) -> Result<(), Fail> {
+    assert!(rt; state.history().is_empty());
+    let caller = seven()?;
+    let page = state.audit_page(&caller, caller.who, 0, Moment::new(0))?;
+    assert!(rt; page.lines.as_slice().is_empty() && !page.more);
+    Ok(())
+}
+
+fn fresh(alloc: Global) -> State<PlainStore<Version>>
+    ensures { result ≡ record { window = 100; history = []; freed = 0 } }
+{
+    State::new(alloc, PlainStore::new(alloc), 100)
+}
+
+#[test]
+fn a_fresh_state_has_no_object(rt: HostRuntime) -> Result<(), Fail> {
+    let state = fresh(rt.alloc());
+    check_object(&rt, &state)?;
+    check_values(&rt, &state)
+}
+
+#[test]
+fn a_fresh_state_has_no_names_and_records(rt: HostRuntime) -> Result<(), Fail> {
+    let state = fresh(rt.alloc());
+    check_names(&rt, &state)?;
+    check_records(&rt, &state)
 }

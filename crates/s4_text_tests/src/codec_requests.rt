@@ -70,11 +70,10 @@ fn frames_at_their_borders(rt: HostRuntime) {
 }
 
 #[test]
-fn spellings_of_changes(rt: HostRuntime) -> Result<(), Fail> {
+fn spellings_of_changes_of_objects(rt: HostRuntime) -> Result<(), Fail> {
     let alloc = rt.alloc();
     let object = object()?;
     let user = principal(9)?;
-    let (from, to) = (Moment::new(5), Moment::new(6));
     for (request, body) in [
         (
             Request::Create {
@@ -87,33 +86,11 @@ fn spellings_of_changes(rt: HostRuntime) -> Result<(), Fail> {
             b"\x02\x00\x00\x00\x07\x00\x00\x00\x01",
         ),
         (
-            Request::Write {
-                object,
-                offset: 0,
-                bytes: bytes(alloc, b"hello")?,
-            },
-            b"\x04\x00\x00\x00\x07\x00\x00\x00\x01\x00\x00\x00\x00\x00\x05hello",
-        ),
-        (
-            Request::Append {
-                object,
-                bytes: bytes(alloc, b"")?,
-            },
-            b"\x05\x00\x00\x00\x07\x00\x00\x00\x01\x00\x00",
-        ),
-        (
             Request::Truncate {
                 object,
                 length: 4096,
             },
             b"\x06\x00\x00\x00\x07\x00\x00\x00\x01\x00\x00\x10\x00",
-        ),
-        (
-            Request::SetAttr {
-                object,
-                bytes: bytes(alloc, b"a")?,
-            },
-            b"\x08\x00\x00\x00\x07\x00\x00\x00\x01\x00\x01a",
         ),
         (
             Request::SetAcl {
@@ -123,12 +100,56 @@ fn spellings_of_changes(rt: HostRuntime) -> Result<(), Fail> {
             },
             b"\x0b\x00\x00\x00\x07\x00\x00\x00\x01\x00\x00\x00\x09\x1f",
         ),
+    ] {
+        assert!(rt; is_spelled(alloc, &request, body)?, "{request:?}");
+    }
+    Ok(())
+}
+
+#[test]
+fn spellings_of_changes_that_bring_bytes(rt: HostRuntime) -> Result<(), Fail> {
+    let alloc = rt.alloc();
+    let object = object()?;
+    for (request, body) in [
+        (
+            Request::Write {
+                object,
+                offset: 0,
+                bytes: bytes(alloc, b"hello")?,
+            },
+            b"\x04\x00\x00\x00\x07\x00\x00\x00\x01\x00\x00\x00\x00\x00\x05hello".as_slice(),
+        ),
+        (
+            Request::Append {
+                object,
+                bytes: bytes(alloc, b"")?,
+            },
+            b"\x05\x00\x00\x00\x07\x00\x00\x00\x01\x00\x00",
+        ),
+        (
+            Request::SetAttr {
+                object,
+                bytes: bytes(alloc, b"a")?,
+            },
+            b"\x08\x00\x00\x00\x07\x00\x00\x00\x01\x00\x01a",
+        ),
+    ] {
+        assert!(rt; is_spelled(alloc, &request, body)?, "{request:?}");
+    }
+    Ok(())
+}
+
+#[test]
+fn spellings_of_changes_of_names(rt: HostRuntime) -> Result<(), Fail> {
+    let alloc = rt.alloc();
+    let object = object()?;
+    for (request, body) in [
         (
             Request::PCreate {
                 name: named(b"home")?,
                 object,
             },
-            b"\x0c\x04home\x00\x00\x00\x07\x00\x00\x00\x01",
+            b"\x0c\x04home\x00\x00\x00\x07\x00\x00\x00\x01".as_slice(),
         ),
         (
             Request::PDelete {
@@ -137,9 +158,21 @@ fn spellings_of_changes(rt: HostRuntime) -> Result<(), Fail> {
             },
             b"\x0d\x00\x00\x00\x07\x0f\x03a-0",
         ),
+    ] {
+        assert!(rt; is_spelled(alloc, &request, body)?, "{request:?}");
+    }
+    Ok(())
+}
+
+#[test]
+fn spellings_of_what_the_administrator_changes(rt: HostRuntime) -> Result<(), Fail> {
+    let alloc = rt.alloc();
+    let object = object()?;
+    let (from, to) = (Moment::new(5), Moment::new(6));
+    for (request, body) in [
         (
             Request::Flush { from, to },
-            b"\x10\x00\x00\x00\x00\x00\x00\x00\x05\x00\x00\x00\x00\x00\x00\x00\x06",
+            b"\x10\x00\x00\x00\x00\x00\x00\x00\x05\x00\x00\x00\x00\x00\x00\x00\x06".as_slice(),
         ),
         (
             Request::FlushO { object, from, to },
@@ -164,11 +197,11 @@ fn spellings_of_changes(rt: HostRuntime) -> Result<(), Fail> {
 }
 
 #[test]
-fn spellings_of_reads(rt: HostRuntime) -> Result<(), Fail> {
+fn spellings_of_reads_of_objects(rt: HostRuntime) -> Result<(), Fail> {
     let alloc = rt.alloc();
     let object = object()?;
-    let range = principal(9)?;
     let at = Some(Moment::new(258));
+    let user = principal(9)?;
     for (request, body) in [
         (
             Request::Read {
@@ -186,7 +219,7 @@ fn spellings_of_reads(rt: HostRuntime) -> Result<(), Fail> {
         (
             Request::GetAclByUser {
                 object,
-                user: range,
+                user,
                 at: None,
             },
             b"\x09\x00\x00\x00\x07\x00\x00\x00\x01\x00\x00\x00\x09\x00",
@@ -199,13 +232,25 @@ fn spellings_of_reads(rt: HostRuntime) -> Result<(), Fail> {
             },
             b"\x0a\x00\x00\x00\x07\x00\x00\x00\x01\xff\x00",
         ),
+    ] {
+        assert!(rt; is_spelled(alloc, &request, body)?, "{request:?}");
+    }
+    Ok(())
+}
+
+#[test]
+fn spellings_of_reads_of_names(rt: HostRuntime) -> Result<(), Fail> {
+    let alloc = rt.alloc();
+    let range = principal(9)?;
+    let at = Some(Moment::new(258));
+    for (request, body) in [
         (
             Request::PList {
                 range,
                 after: None,
                 at,
             },
-            b"\x0e\x00\x00\x00\x09\x00\x01\x00\x00\x00\x00\x00\x00\x01\x02",
+            b"\x0e\x00\x00\x00\x09\x00\x01\x00\x00\x00\x00\x00\x00\x01\x02".as_slice(),
         ),
         (
             Request::PList {
@@ -226,13 +271,20 @@ fn spellings_of_reads(rt: HostRuntime) -> Result<(), Fail> {
             },
             b"\x0f\x00\x00\x00\x07\x00\x04home\x00",
         ),
-        (
-            Request::ReadAudit { range, skip: 2 },
-            b"\x14\x00\x00\x00\x09\x00\x00\x00\x02",
-        ),
     ] {
         assert!(rt; is_spelled(alloc, &request, body)?, "{request:?}");
     }
+    Ok(())
+}
+
+#[test]
+fn spelling_of_a_read_of_an_audit(rt: HostRuntime) -> Result<(), Fail> {
+    let request = Request::ReadAudit {
+        range: principal(9)?,
+        skip: 2,
+    };
+    let body = b"\x14\x00\x00\x00\x09\x00\x00\x00\x02";
+    assert!(rt; is_spelled(rt.alloc(), &request, body)?);
     Ok(())
 }
 

@@ -3,46 +3,82 @@ use s4_types::{
     AuditLine, AuditLines, Bytes, Caller, Grant, Moment, Name, NameLine, NameLines, ObjectId,
     Principal, Purse, PurseNo, Refusal, Reply, Request, Right, Rights, Serial, Step,
 };
+use std::alloc::Global;
+use std::process::Abort;
 use std::test::Fail;
 
+fn principal(number: u32) -> Result<Principal, Fail> {
+    Ok(Principal::new(number).ok_or("a principal")?)
+}
+
+fn purse_number(number: u8) -> Result<PurseNo, Fail> {
+    Ok(PurseNo::new(number).ok_or("a purse number")?)
+}
+
+fn object(creator: u32, number: u8, serial: u16) -> Result<ObjectId, Fail> {
+    Ok(ObjectId {
+        purse: Purse {
+            creator: principal(creator)?,
+            number: purse_number(number)?,
+        },
+        serial: Serial::new(serial).ok_or("a serial")?,
+    })
+}
+
+/// That a line spells this.
+fn check_line<A: Abort>(rt: &A, alloc: Global, text: &[u8], line: &Line) {
+    assert!(rt; parse_line(alloc, text).as_ref() == Ok(line), "at {text:?}");
+}
+
+/// That this is the text of a reply.
+fn check_text<A: Abort>(rt: &A, alloc: Global, reply: &Reply, wanted: &str) -> Result<(), Fail> {
+    let text = ReplyText(reply).to_string(alloc)?;
+    assert_eq!(rt; text.as_str(), wanted);
+    Ok(())
+}
+
 #[test]
-fn good_lines(rt: HostRuntime) -> Result<(), Fail> {
+fn good_first_lines(rt: HostRuntime) {
     let alloc = rt.alloc();
+    let greatest = parse_window(alloc, b"window 18446744073709551615");
     assert_eq!(rt; parse_window(alloc, b"window 0"), Ok(0));
-    assert_eq!(rt;
-        parse_window(alloc, b"window 18446744073709551615"),
-        Ok(18446744073709551615)
-    );
-    let who = Principal::new(7).ok_or("a principal")?;
+    assert_eq!(rt; greatest, Ok(18446744073709551615));
+}
+
+#[test]
+fn good_lines(rt: HostRuntime) {
+    let alloc = rt.alloc();
+    let sweep = Line::Step(Step::Sweep { n: u64::MAX });
+    check_line(&rt, alloc, b"sweep 18446744073709551615", &sweep);
+    check_line(&rt, alloc, b"used", &Line::Used);
+}
+
+#[test]
+fn good_lines_of_creates(rt: HostRuntime) -> Result<(), Fail> {
+    let who = principal(7)?;
     let line = Line::Step(Step::Request {
         moment: Moment::new(5),
         caller: Caller { who, client: 0 },
         request: Request::Create {
-            number: PurseNo::new(15).ok_or("a purse number")?,
+            number: purse_number(15)?,
         },
     });
-    assert_eq!(rt; parse_line(alloc, b"5 7 create 15"), Ok(line));
+    check_line(&rt, rt.alloc(), b"5 7 create 15", &line);
+    Ok(())
+}
+
+#[test]
+fn good_lines_of_budgets(rt: HostRuntime) -> Result<(), Fail> {
+    let who = principal(0)?;
     let line = Line::Step(Step::Request {
         moment: Moment::new(0),
-        caller: Caller {
-            who: Principal::new(0).ok_or("a principal")?,
-            client: 0,
-        },
+        caller: Caller { who, client: 0 },
         request: Request::SetBudget {
-            purse: Purse {
-                creator: who,
-                number: PurseNo::new(15).ok_or("a purse number")?,
-            },
+            purse: object(7, 15, 1)?.purse,
             budget: u32::MAX,
         },
     });
-    assert_eq!(rt;
-        parse_line(alloc, b"0 0 setbudget 7.15 4294967295"),
-        Ok(line)
-    );
-    let line = Line::Step(Step::Sweep { n: u64::MAX });
-    assert_eq!(rt; parse_line(alloc, b"sweep 18446744073709551615"), Ok(line));
-    assert_eq!(rt; parse_line(alloc, b"used"), Ok(Line::Used));
+    check_line(&rt, rt.alloc(), b"0 0 setbudget 7.15 4294967295", &line);
     Ok(())
 }
 
@@ -182,51 +218,53 @@ const BAD_LINES: [&str; 132] = [
     "0 0 used",
 ];
 
+fn check_bad_line<A: Abort>(rt: &A, alloc: Global, line: &str) {
+    let parsed = parse_line(alloc, line.as_bytes());
+    assert!(rt; parsed == Err(ParseError::Bad), "at {line}");
+}
+
 #[test]
 fn bad_lines(rt: HostRuntime) {
     let alloc = rt.alloc();
-    for line in BAD_LINES {
-        let parsed = parse_line(alloc, line.as_bytes());
-        assert_eq!(rt; parsed, Err(ParseError::Bad), "at {line}");
+    for line in &BAD_LINES {
+        check_bad_line(&rt, alloc, line);
     }
 }
 
 #[test]
 fn texts_of_replies(rt: HostRuntime) -> Result<(), Fail> {
     let alloc = rt.alloc();
-    let purse = Purse {
-        creator: Principal::new(7).ok_or("a principal")?,
-        number: PurseNo::new(15).ok_or("a purse number")?,
-    };
-    let serial = Serial::new(65535).ok_or("a serial")?;
-    let made = Reply::Made(ObjectId { purse, serial });
-    let text = ReplyText(&made).to_string(alloc)?;
-    assert_eq!(rt; text.as_str(), "made 7.15.65535");
-    let text = ReplyText(&Reply::Done).to_string(alloc)?;
-    assert_eq!(rt; text.as_str(), "done");
-    let text = UsedText(u64::MAX).to_string(alloc)?;
-    assert_eq!(rt; text.as_str(), "used 18446744073709551615");
-    let refused = Reply::Refused(Refusal::TooOld {
-        horizon: Moment::new(u64::MAX),
-    });
-    let text = ReplyText(&refused).to_string(alloc)?;
-    assert_eq!(rt; text.as_str(), "too-old 18446744073709551615");
+    let made = Reply::Made(object(7, 15, 65535)?);
+    check_text(&rt, alloc, &made, "made 7.15.65535")?;
+    check_text(&rt, alloc, &Reply::Done, "done")?;
+    let used = UsedText(u64::MAX).to_string(alloc)?;
+    assert_eq!(rt; used.as_str(), "used 18446744073709551615");
+    Ok(())
+}
+
+#[test]
+fn texts_of_refusals_with_numbers(rt: HostRuntime) -> Result<(), Fail> {
+    let alloc = rt.alloc();
+    let horizon = Moment::new(u64::MAX);
+    let refused = Reply::Refused(Refusal::TooOld { horizon });
+    check_text(&rt, alloc, &refused, "too-old 18446744073709551615")?;
     let refused = Reply::Refused(Refusal::OverBudget {
         spent: 0,
         charge: 208,
         budget: u32::MAX,
     });
-    let text = ReplyText(&refused).to_string(alloc)?;
-    assert_eq!(rt; text.as_str(), "over-budget 0 208 4294967295");
+    check_text(&rt, alloc, &refused, "over-budget 0 208 4294967295")
+}
+
+#[test]
+fn texts_of_entries(rt: HostRuntime) -> Result<(), Fail> {
     let entry = Reply::Entry {
         grant: Grant::Admin,
         index: 15,
-        user: Principal::new(4294967294).ok_or("a principal")?,
+        user: principal(4294967294)?,
         rights: Rights::new(31).ok_or("rights")?,
     };
-    let text = ReplyText(&entry).to_string(alloc)?;
-    assert_eq!(rt; text.as_str(), "entry 15 4294967294 31 by admin");
-    Ok(())
+    check_text(&rt, rt.alloc(), &entry, "entry 15 4294967294 31 by admin")
 }
 
 /// The names on a page, whether more of them follow, and the page.
@@ -240,72 +278,98 @@ const PAGES: [(&[&str], bool, &str); 3] = [
     ),
 ];
 
+/// A grant by an entry.
+fn by_an_entry() -> Grant {
+    Grant::Entry {
+        index: 1,
+        since: Moment::new(3),
+    }
+}
+
+/// A page of these names of 9.0.2.
+fn page(alloc: Global, names: &[&str], more: bool) -> Result<Reply, Fail> {
+    let object = object(9, 0, 2)?;
+    let mut lines = Vec::new(alloc);
+    for name in names {
+        lines.push(NameLine {
+            name: Name::new(name.as_bytes()).ok_or("a name")?,
+            object,
+            grant: by_an_entry(),
+        })?;
+    }
+    Ok(Reply::Names {
+        lines: NameLines::new(lines),
+        more,
+    })
+}
+
 #[test]
 fn texts_of_pages(rt: HostRuntime) -> Result<(), Fail> {
     let alloc = rt.alloc();
-    let purse = Purse {
-        creator: Principal::new(9).ok_or("a principal")?,
-        number: PurseNo::new(0).ok_or("a purse number")?,
-    };
-    let serial = Serial::new(2).ok_or("a serial")?;
-    let object = ObjectId { purse, serial };
-    let grant = Grant::Entry {
-        index: 1,
-        since: Moment::new(3),
-    };
-    let mounted = Reply::Mounted { grant, object };
-    let text = ReplyText(&mounted).to_string(alloc)?;
-    assert_eq!(rt; text.as_str(), "mounted 9.0.2 by 1 since 3");
-    for (names, more, wanted) in PAGES {
-        let mut lines = Vec::new(alloc);
-        for name in names {
-            let name = Name::new(name.as_bytes()).ok_or("a name")?;
-            lines.push(NameLine {
-                name,
-                object,
-                grant,
-            })?;
-        }
-        let lines = NameLines::new(lines);
-        let text = ReplyText(&Reply::Names { lines, more }).to_string(alloc)?;
-        assert_eq!(rt; text.as_str(), wanted);
+    for (names, more, wanted) in &PAGES {
+        check_text(&rt, alloc, &page(alloc, names, *more)?, wanted)?;
     }
     Ok(())
 }
 
 #[test]
+fn texts_of_mounts(rt: HostRuntime) -> Result<(), Fail> {
+    let mounted = Reply::Mounted {
+        grant: by_an_entry(),
+        object: object(9, 0, 2)?,
+    };
+    check_text(&rt, rt.alloc(), &mounted, "mounted 9.0.2 by 1 since 3")
+}
+
+fn audit_line(who: u32, is_wide: bool, reply: u8) -> Result<AuditLine, Fail> {
+    Ok(AuditLine {
+        moment: Moment::new(u64::MAX),
+        who: principal(who)?,
+        client: u32::MAX,
+        code: 18,
+        is_wide,
+        reply,
+    })
+}
+
+#[test]
 fn texts_of_audits(rt: HostRuntime) -> Result<(), Fail> {
     let alloc = rt.alloc();
-    let mut lines = Vec::new(alloc);
+    let lines = AuditLines::new(vec![in alloc; audit_line(0, true, 0)?, audit_line(7, false, 1)?]?);
+    let told = Reply::Audit { lines, more: true };
+    let wanted = "audit 2 more\n\
+                  record 18446744073709551615 0 4294967295 18 wide 0\n\
+                  record 18446744073709551615 7 4294967295 18 range 1";
+    check_text(&rt, alloc, &told, wanted)
+}
+
+#[test]
+fn text_of_an_audit_without_lines(rt: HostRuntime) -> Result<(), Fail> {
+    let alloc = rt.alloc();
     let none = Reply::Audit {
         lines: AuditLines::new(Vec::new(alloc)),
         more: false,
     };
-    let text = ReplyText(&none).to_string(alloc)?;
-    assert_eq!(rt; text.as_str(), "audit 0 end");
-    lines.push(AuditLine {
-        moment: Moment::new(u64::MAX),
-        who: Principal::administrator(),
-        client: u32::MAX,
-        code: 18,
-        is_wide: true,
-        reply: 0,
-    })?;
-    lines.push(AuditLine {
-        moment: Moment::new(u64::MAX),
-        who: Principal::new(7).ok_or("a principal")?,
-        client: u32::MAX,
-        code: 18,
-        is_wide: false,
-        reply: 1,
-    })?;
-    let lines = AuditLines::new(lines);
-    let text = ReplyText(&Reply::Audit { lines, more: true }).to_string(alloc)?;
-    let wanted = "audit 2 more\n\
-                  record 18446744073709551615 0 4294967295 18 wide 0\n\
-                  record 18446744073709551615 7 4294967295 18 range 1";
-    assert_eq!(rt; text.as_str(), wanted);
-    Ok(())
+    check_text(&rt, alloc, &none, "audit 0 end")
+}
+
+/// That these are the texts of data and attributes.
+fn check_bytes<A: Abort>(
+    rt: &A,
+    alloc: Global,
+    grant: Grant,
+    (bytes, data, attributes): (&[u8], &str, &str),
+) -> Result<(), Fail> {
+    let reply = Reply::Data {
+        grant,
+        bytes: Bytes::new(bytes.to_vec(alloc)?),
+    };
+    check_text(rt, alloc, &reply, data)?;
+    let reply = Reply::Attr {
+        grant,
+        bytes: Bytes::new(bytes.to_vec(alloc)?),
+    };
+    check_text(rt, alloc, &reply, attributes)
 }
 
 #[test]
@@ -315,26 +379,20 @@ fn texts_of_bytes(rt: HostRuntime) -> Result<(), Fail> {
         index: 15,
         since: Moment::new(18446744073709551615),
     };
-    let cases: [(Grant, &[u8], &str); 3] = [
-        (Grant::Admin, b"\x00\xff", "00ff by admin"),
-        (Grant::Admin, b"", "empty by admin"),
-        (entry, b"\xab", "ab by 15 since 18446744073709551615"),
-    ];
-    for (grant, bytes, wanted) in cases {
-        let data = Reply::Data {
-            grant,
-            bytes: Bytes::new(bytes.to_vec(alloc)?),
-        };
-        let text = ReplyText(&data).to_string(alloc)?;
-        assert_eq!(rt; text.strip_prefix("data "), Some(wanted));
-        let attr = Reply::Attr {
-            grant,
-            bytes: Bytes::new(bytes.to_vec(alloc)?),
-        };
-        let text = ReplyText(&attr).to_string(alloc)?;
-        assert_eq!(rt; text.strip_prefix("attr "), Some(wanted));
-    }
-    Ok(())
+    let some = (
+        b"\x00\xff".as_slice(),
+        "data 00ff by admin",
+        "attr 00ff by admin",
+    );
+    check_bytes(&rt, alloc, Grant::Admin, some)?;
+    let none = (b"".as_slice(), "data empty by admin", "attr empty by admin");
+    check_bytes(&rt, alloc, Grant::Admin, none)?;
+    let since = (
+        b"\xab".as_slice(),
+        "data ab by 15 since 18446744073709551615",
+        "attr ab by 15 since 18446744073709551615",
+    );
+    check_bytes(&rt, alloc, entry, since)
 }
 
 #[test]
@@ -361,8 +419,7 @@ fn texts_of_refusals(rt: HostRuntime) -> Result<(), Fail> {
         (Refusal::BadRange, "bad-range"),
         (Refusal::NoMemory, "no-memory"),
     ] {
-        let text = ReplyText(&Reply::Refused(refusal)).to_string(alloc)?;
-        assert_eq!(rt; text.as_str(), wanted);
+        check_text(&rt, alloc, &Reply::Refused(refusal), wanted)?;
     }
     Ok(())
 }

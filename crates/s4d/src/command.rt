@@ -3,6 +3,7 @@
 use crate::fault::Fault;
 use clap::error::ErrorKind;
 use clap::{Arg, ArgMatches, Command as Parser, Error};
+use s4_run::RunFault;
 use std::alloc::{AllocError, Global};
 use std::rt::Env;
 use std::{env, io};
@@ -74,7 +75,7 @@ fn hall(alloc: Global, logins: Option<&str>) -> Result<Command, Fault> {
 /// What comes of words that spell no command.
 fn told(alloc: Global, error: &Error) -> Result<Command, Fault> {
     if error.kind() == ErrorKind::OutOfMemory {
-        return Err(Fault::NoMemory);
+        return Err(Fault::Run(RunFault::NoMemory));
     }
     let text = format!(in alloc; "{error}")?;
     if error.use_stderr() {
@@ -87,7 +88,7 @@ fn told(alloc: Global, error: &Error) -> Result<Command, Fault> {
 /// The fault of arguments that can't be read, as those that aren't UTF-8.
 fn unread(alloc: Global, error: &io::Error) -> Fault {
     if error.kind() == io::ErrorKind::OutOfMemory {
-        return Fault::NoMemory;
+        return Fault::Run(RunFault::NoMemory);
     }
     format!(in alloc; "{error}").map_or_else(Fault::from, Fault::CommandLine)
 }

@@ -1,29 +1,22 @@
 //! What ends the program without success.
 
-ghost use Rattle.std.specs.Prelude.{◌≡◌, ◌≢◌, ◌++◌, Some, codes};
-ghost use Rattle.std.specs.IoError.{error_kind};
-ghost use Rattle.s4d.specs.Faults.{exit_status, fault_of_line, fault_of_logins, fault_of_logins_file};
-ghost use Rattle.s4d.specs.Texts.{fault_text};
+ghost use Rattle.std.specs.Prelude.{◌≡◌, ◌++◌, Some, codes};
+ghost use Rattle.s4d.specs.Faults.{exit_status, fault_text};
 ghost use Rattle.s4d.specs.declared.fault.Fault.TheVariants as fault;
+ghost use Rattle.s4_run.specs.declared.fault.RunFault.TheVariants as run_fault;
 
-use s4_script::ParseError;
-use s4_session::LoginFault;
+use s4_run::RunFault;
 use std::alloc::{AllocError, AllocFailed};
-use std::io::ErrorKind;
-use std::{fmt, io};
+use std::fmt;
 use thiserror::Error;
 
-/// Why the program ends without success. Lines count from 1.
+/// Why the program ends without success.
 #[derive(Debug, PartialEq, Drop, Error)]
 pub enum Fault {
-    BadLine(usize),
-    MomentGoesBack(usize),
-    LoginsLine(usize),
-    CannotReadLogins,
-    CannotRead,
-    CannotWrite,
-    NoMemory,
+    /// The command line spells no command; the text says how.
     CommandLine(String),
+    /// The run ended so.
+    Run(RunFault),
 }
 
 impl Fault {
@@ -33,59 +26,7 @@ impl Fault {
     {
         match self {
             Fault::CommandLine(_) => 2,
-            _ => 1,
-        }
-    }
-
-    /// The fault of the line with that number, which isn't taken.
-    pub fn parsing(error: ParseError, number: usize) -> Fault
-        ensures { result ≡ fault_of_line error number }
-    {
-        match error {
-            ParseError::Bad => Fault::BadLine(number),
-            ParseError::NoMemory => Fault::NoMemory,
-        }
-    }
-
-    /// The fault of a text that is no table of logins.
-    pub fn logins(error: LoginFault) -> Fault
-        ensures { result ≡ fault_of_logins error }
-    {
-        match error {
-            LoginFault::BadLine(number) | LoginFault::Doubled(number) => Fault::LoginsLine(number),
-            LoginFault::NoMemory => Fault::NoMemory,
-        }
-    }
-
-    /// The fault where this one was met in reading the file of logins.
-    pub fn of_logins_file(self) -> Fault
-        ensures { result ≡ fault_of_logins_file self }
-    {
-        match self {
-            Fault::CannotRead => Fault::CannotReadLogins,
-            fault => fault,
-        }
-    }
-
-    /// The fault of an input that failed.
-    pub fn reading(error: io::Error) -> Fault
-        ensures no_memory { error_kind error ≡ ErrorKind.OutOfMemory → result ≡ fault.NoMemory }
-        ensures other { error_kind error ≢ ErrorKind.OutOfMemory → result ≡ fault.CannotRead }
-    {
-        match error.kind() {
-            ErrorKind::OutOfMemory => Fault::NoMemory,
-            _ => Fault::CannotRead,
-        }
-    }
-
-    /// The fault of an output that failed.
-    pub fn writing(error: io::Error) -> Fault
-        ensures no_memory { error_kind error ≡ ErrorKind.OutOfMemory → result ≡ fault.NoMemory }
-        ensures other { error_kind error ≢ ErrorKind.OutOfMemory → result ≡ fault.CannotWrite }
-    {
-        match error.kind() {
-            ErrorKind::OutOfMemory => Fault::NoMemory,
-            _ => Fault::CannotWrite,
+            Fault::Run(_) => 1,
         }
     }
 }
@@ -95,31 +36,33 @@ impl fmt::Display for Fault {
 
     fn fmt<W: fmt::Write>(&self, f: &mut fmt::Formatter<W>) -> fmt::Result {
         match self {
-            Fault::BadLine(number) => write!(f, "line {number}: bad line"),
-            Fault::MomentGoesBack(number) => write!(f, "line {number}: moment goes back"),
-            Fault::LoginsLine(number) => write!(f, "logins line {number}"),
-            Fault::CannotReadLogins => write!(f, "cannot read logins"),
-            Fault::CannotRead => write!(f, "cannot read"),
-            Fault::CannotWrite => write!(f, "cannot write"),
-            Fault::NoMemory => write!(f, "no memory"),
             Fault::CommandLine(text) => write!(f, "{text}"),
+            Fault::Run(fault) => write!(f, "{fault}"),
         }
     }
 }
 
+impl From<RunFault> for Fault {
+    ghost from_gives = { λ run why. why ≡ fault.Run run };
+
+    fn from(fault: RunFault) -> Fault {
+        Fault::Run(fault)
+    }
+}
+
 impl From<AllocError> for Fault {
-    ghost from_gives = { λ _ why. why ≡ fault.NoMemory };
+    ghost from_gives = { λ _ why. why ≡ fault.Run run_fault.NoMemory };
 
     fn from(_: AllocError) -> Fault {
-        Fault::NoMemory
+        Fault::Run(RunFault::NoMemory)
     }
 }
 
 impl<T: Drop> From<AllocFailed<T>> for Fault {
-    ghost from_gives = { λ _ why. why ≡ fault.NoMemory };
+    ghost from_gives = { λ _ why. why ≡ fault.Run run_fault.NoMemory };
 
     fn from(_: AllocFailed<T>) -> Fault {
-        Fault::NoMemory
+        Fault::Run(RunFault::NoMemory)
     }
 }
 

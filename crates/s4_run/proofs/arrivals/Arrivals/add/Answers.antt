@@ -2,9 +2,9 @@ use Rattle.std.proofs.Common.{◌≡◌, ◌≤◌, ◌++◌, ◌∷◌, [], ℕ
 use Rattle.s4_session.specs.declared.hall_step.HallStep.{HallStep}
 use Rattle.s4_session.specs.declared.hall_step.HallStep.TheVariants.{Arrive, Sweep}
 use Rattle.s4_session.specs.Arrivals.{NeverDown}
-use Rattle.s4d.specs.Arrivals.{newest_of}
-use Rattle.s4d.proofs.Arriving.{never_down-arrive, never_down-sweep, newest-arrive, newest-sweep}
-use Rattle.s4d.proofs.arrivals.Arrivals.add.Goals as goal
+use Rattle.s4_run.specs.Arrivals.{newest_of}
+use Rattle.s4_run.proofs.Arriving.{never_down-arrive, never_down-sweep, newest-arrive, newest-sweep}
+use Rattle.s4_run.proofs.arrivals.Arrivals.add.Goals as goal
 
 pub invariant_of-self-in-Arrive : goal.invariant_of-self-in-Arrive
 invariant_of-self-in-Arrive c =

@@ -5,7 +5,7 @@ use Rattle.s4_types.specs.Play.{last_of, record_of, is_no_memory}
 use Rattle.s4_types.proofs.Booleans.{by_test}
 use Rattle.s4_types.proofs.Snoc.{last_of-snoc}
 use Rattle.s4_drive.specs.Step.{Answers}
-use Rattle.s4d.proofs.script.Run.reply.Goals as goal
+use Rattle.s4_run.proofs.script.Run.reply.Goals as goal
 
 pub invariant_of-self : goal.invariant_of-self
 invariant_of-self c =

@@ -1,17 +1,16 @@
 use crate::fakes::{Narrow, Trickle};
-use crate::fault::{Fault, FaultText};
-use crate::hall::{open_logins, read_logins, run_hall};
 use crate::hall_rows::{
     FAULT_BAD_LINE, FIRST_STREAM, HallRow, ROWS_OF_BODIES, ROWS_OF_LENGTHS, ROWS_OF_LINES,
     ROWS_OF_STREAMS, SEVEN, STRANGER_BETWEEN, cut_at_any_byte, first_stream_in_pieces,
     largest_frame,
 };
+use s4_run::{RunFault, open_logins, read_logins, run_hall};
 use s4_session::Logins;
 use std::alloc::Global;
 use std::process::Abort;
 use std::test::Fail;
 
-fn logins_of(alloc: Global, text: &str) -> Result<Logins, Fault> {
+fn logins_of(alloc: Global, text: &str) -> Result<Logins, RunFault> {
     let mut bytes = text.as_bytes();
     read_logins(alloc, &mut bytes)
 }
@@ -27,15 +26,27 @@ fn written(alloc: Global, logins: &str, arrivals: &[u8]) -> Result<(Vec<u8>, Str
     ));
     match outcome {
         Ok(()) => Ok((output, String::new(alloc))),
-        Err(fault) => Ok((output, format!(in alloc; "{}\n", FaultText(&fault))?)),
+        Err(fault) => Ok((output, format!(in alloc; "s4d: {fault}\n")?)),
     }
 }
 
-fn check_row<A: Abort>(rt: &A, alloc: Global, row: &HallRow) -> Result<(), Fail> {
-    let (output, error) = written(alloc, row.logins, row.arrivals.as_bytes())?;
-    assert_eq!(rt; output.as_slice(), row.output.as_bytes(), "{}", row.name);
-    assert_eq!(rt; error.as_str(), row.error, "{}", row.name);
+/// That the program writes this for logins and arrivals.
+fn check_written<A: Abort>(
+    rt: &A,
+    alloc: Global,
+    (logins, arrivals): (&str, &[u8]),
+    wanted: &str,
+    told: &str,
+) -> Result<(), Fail> {
+    let (output, error) = written(alloc, logins, arrivals)?;
+    assert_eq!(rt; output.as_slice(), wanted.as_bytes(), "at {arrivals:?}");
+    assert_eq!(rt; error.as_str(), told, "at {arrivals:?}");
     Ok(())
+}
+
+fn check_row<A: Abort>(rt: &A, alloc: Global, row: &HallRow) -> Result<(), Fail> {
+    let texts = (row.logins, row.arrivals.as_bytes());
+    check_written(rt, alloc, texts, row.output, row.error)
 }
 
 #[test]
@@ -80,9 +91,7 @@ fn rows_of_largest_frames(rt: HostRuntime) -> Result<(), Fail> {
     let alloc = rt.alloc();
     for (count, answer) in [("1ff1", "0807"), ("1ff0", "1101")] {
         let (arrivals, wanted) = largest_frame(alloc, count, answer)?;
-        let (output, error) = written(alloc, SEVEN, arrivals.as_bytes())?;
-        assert_eq!(rt; output.as_slice(), wanted.as_bytes(), "{count}");
-        assert_eq!(rt; error.as_str(), "");
+        check_written(&rt, alloc, (SEVEN, arrivals.as_bytes()), &wanted, "")?;
     }
     Ok(())
 }
@@ -91,10 +100,7 @@ fn rows_of_largest_frames(rt: HostRuntime) -> Result<(), Fail> {
 fn row_of_a_cut_at_any_byte(rt: HostRuntime) -> Result<(), Fail> {
     let alloc = rt.alloc();
     let (arrivals, wanted) = cut_at_any_byte(alloc)?;
-    let (output, error) = written(alloc, SEVEN, arrivals.as_bytes())?;
-    assert_eq!(rt; output.as_slice(), wanted.as_bytes());
-    assert_eq!(rt; error.as_str(), "");
-    Ok(())
+    check_written(&rt, alloc, (SEVEN, arrivals.as_bytes()), &wanted, "")
 }
 
 /// Whatever the pieces, the same is sent.
@@ -103,12 +109,13 @@ fn first_stream_cut_at_every_byte(rt: HostRuntime) -> Result<(), Fail> {
     let alloc = rt.alloc();
     for width in 1..=30u8 {
         let arrivals = first_stream_in_pieces(alloc, width)?;
-        let (output, _) = written(alloc, SEVEN, arrivals.as_bytes())?;
-        assert_eq!(rt;
-            output.as_slice(),
-            FIRST_STREAM.output.as_bytes(),
-            "{width}"
-        );
+        check_written(
+            &rt,
+            alloc,
+            (SEVEN, arrivals.as_bytes()),
+            FIRST_STREAM.output,
+            "",
+        )?;
     }
     Ok(())
 }
@@ -145,10 +152,8 @@ const GOOD_ARRIVALS: [(&str, &str); 4] = [
 #[test]
 fn good_arrivals(rt: HostRuntime) -> Result<(), Fail> {
     let alloc = rt.alloc();
-    for (arrivals, wanted) in GOOD_ARRIVALS {
-        let (output, error) = written(alloc, SEVEN, arrivals.as_bytes())?;
-        assert_eq!(rt; output.as_slice(), wanted.as_bytes(), "at {arrivals:?}");
-        assert_eq!(rt; error.as_str(), "", "at {arrivals:?}");
+    for (arrivals, wanted) in &GOOD_ARRIVALS {
+        check_written(&rt, alloc, (SEVEN, arrivals.as_bytes()), wanted, "")?;
     }
     Ok(())
 }
@@ -175,10 +180,8 @@ const BAD_ARRIVALS: [(&[u8], &str); 8] = [
 #[test]
 fn bad_arrivals(rt: HostRuntime) -> Result<(), Fail> {
     let alloc = rt.alloc();
-    for (arrivals, told) in BAD_ARRIVALS {
-        let (output, error) = written(alloc, SEVEN, arrivals)?;
-        assert!(rt; output.is_empty(), "at {arrivals:?}");
-        assert_eq!(rt; error.as_str(), told, "at {arrivals:?}");
+    for (arrivals, told) in &BAD_ARRIVALS {
+        check_written(&rt, alloc, (SEVEN, arrivals), "", told)?;
     }
     Ok(())
 }
@@ -189,7 +192,7 @@ fn failing_readers_of_arrivals(rt: HostRuntime) -> Result<(), Fail> {
     let row = FIRST_STREAM;
     for (fails, wanted, told) in [
         (false, row.output, Ok(())),
-        (true, "", Err(Fault::CannotRead)),
+        (true, "", Err(RunFault::CannotRead)),
     ] {
         let reader = Trickle {
             bytes: row.arrivals.as_bytes(),
@@ -214,7 +217,7 @@ fn failing_writers_of_what_is_sent(rt: HostRuntime) -> Result<(), Fail> {
         let mut writer = Narrow::new(alloc, 3, room);
         let outcome = run_hall(alloc, logins, row.arrivals.as_bytes(), &mut writer);
         assert_eq!(rt; outcome.is_ok(), room == whole.len());
-        assert!(rt; outcome.is_ok() || outcome == Err(Fault::CannotWrite));
+        assert!(rt; outcome.is_ok() || outcome == Err(RunFault::CannotWrite));
         assert_eq!(rt; writer.taken.as_slice(), &whole[..room]);
     }
     Ok(())
@@ -228,7 +231,7 @@ fn failing_flush_of_what_is_sent(rt: HostRuntime) -> Result<(), Fail> {
     let mut writer = Narrow::new(alloc, 4096, 4096);
     writer.flushes = false;
     let outcome = run_hall(alloc, logins, row.arrivals.as_bytes(), &mut writer);
-    assert_eq!(rt; outcome, Err(Fault::CannotWrite));
+    assert_eq!(rt; outcome, Err(RunFault::CannotWrite));
     Ok(())
 }
 
@@ -240,7 +243,7 @@ fn fault_before_a_failing_writer(rt: HostRuntime) -> Result<(), Fail> {
     let logins = logins_of(alloc, row.logins)?;
     let mut writer = Narrow::new(alloc, 1, 0);
     let outcome = run_hall(alloc, logins, row.arrivals.as_bytes(), &mut writer);
-    assert_eq!(rt; outcome, Err(Fault::BadLine(3)));
+    assert_eq!(rt; outcome, Err(RunFault::BadLine(3)));
     Ok(())
 }
 
@@ -254,17 +257,20 @@ fn logins_that_cannot_be_read(rt: HostRuntime) -> Result<(), Fail> {
     };
     assert_eq!(rt;
         read_logins(alloc, &mut broken).err(),
-        Some(Fault::CannotReadLogins)
+        Some(RunFault::CannotReadLogins)
     );
     // No UTF-8, in a line that would be bad in any case.
     let mut no_text = b"\xff".as_slice();
     assert_eq!(rt;
         read_logins(alloc, &mut no_text).err(),
-        Some(Fault::CannotReadLogins)
+        Some(RunFault::CannotReadLogins)
     );
     let missing = open_logins(&rt, "there-is-no-such-file/first.logins");
-    assert_eq!(rt; missing.err(), Some(Fault::CannotReadLogins));
+    assert_eq!(rt; missing.err(), Some(RunFault::CannotReadLogins));
     // A folder can be opened, and not read.
-    assert_eq!(rt; open_logins(&rt, ".").err(), Some(Fault::CannotReadLogins));
+    assert_eq!(rt;
+        open_logins(&rt, ".").err(),
+        Some(RunFault::CannotReadLogins)
+    );
     Ok(())
 }

@@ -3,10 +3,10 @@
 ghost use Rattle.std.specs.Prelude.{◌≡◌, ◌++◌, ◌∷◌, [], true, false, IfOk, IfErr, OnOk, OnErr, Err};
 ghost use Rattle.s4_types.specs.Base.{opened};
 ghost use Rattle.s4_session.specs.Sent.{IsSent, lists_of};
-ghost use Rattle.s4d.specs.Arrivals.{step_of, goes_back};
-ghost use Rattle.s4d.specs.declared.fault.Fault.TheVariants as fault;
+ghost use Rattle.s4_run.specs.Arrivals.{step_of, goes_back};
+ghost use Rattle.s4_run.specs.declared.fault.RunFault.TheVariants as fault;
 
-use crate::fault::Fault;
+use crate::fault::RunFault;
 use s4_script::{ArrivalLine, parse_arrival, parse_window};
 use s4_session::{Hall, HallStep, Logins};
 use s4_types::{Moment, NoMemory};
@@ -24,7 +24,7 @@ pub struct Arrivals {
 impl Model for Arrivals {
     ghost use Rattle.std.specs.Prelude.{◌≡◌};
     ghost use Rattle.s4_session.specs.Arrivals.{NeverDown};
-    ghost use Rattle.s4d.specs.Arrivals as list;
+    ghost use Rattle.s4_run.specs.Arrivals as list;
 
     ghost Value = { list.Arrivals };
 
@@ -35,12 +35,12 @@ impl Model for Arrivals {
 
 impl Arrivals {
     /// The arrivals of a text, or none of an empty one.
-    pub fn read(alloc: Global, text: &[u8]) -> Result<Option<Arrivals>, Fault> {
+    pub fn read(alloc: Global, text: &[u8]) -> Result<Option<Arrivals>, RunFault> {
         let mut arrivals = None;
         for (index, line) in text.split_inclusive(|byte| *byte == b'\n').enumerate() {
             let number = index.saturating_add(1);
             let line = line.strip_suffix(b"\n").unwrap_or(line);
-            let refuse = |why| Fault::parsing(why, number);
+            let refuse = |why| RunFault::parsing(why, number);
             match &mut arrivals {
                 None => {
                     let window = parse_window(alloc, line).map_err(refuse)?;
@@ -67,7 +67,7 @@ impl Arrivals {
     }
 
     /// Adds what the line of that number tells, unless its moment goes back.
-    fn add(&mut self, line: ArrivalLine, number: usize) -> Result<(), Fault>
+    fn add(&mut self, line: ArrivalLine, number: usize) -> Result<(), RunFault>
         ensures added { OnOk result (self.new ≡ record self.old { steps = self.old.steps ++ step_of line ∷ [] }) }
         ensures back { goes_back line self.old.steps ≡ true → result ≡ Err (fault.MomentGoesBack number) }
         ensures unchanged { OnErr result (self.new ≡ self.old) }
@@ -80,7 +80,7 @@ impl Arrivals {
                 piece,
             } => {
                 if moment < self.newest {
-                    return Err(Fault::MomentGoesBack(number));
+                    return Err(RunFault::MomentGoesBack(number));
                 }
                 self.steps.push(HallStep::Arrive {
                     conn,

@@ -3,7 +3,7 @@ use Rattle.std.proofs.Common.{◌≡◌, ℕ, ◌≤◌, List, [], ◌∷◌, �
 use Rattle.s4_session.specs.declared.hall_step.HallStep.{HallStep}
 use Rattle.s4_session.specs.declared.hall_step.HallStep.TheVariants.{Arrive, Sweep}
 use Rattle.s4_session.specs.Arrivals.{NeverDown}
-use Rattle.s4d.specs.Arrivals.{newest_from}
+use Rattle.s4_run.specs.Arrivals.{newest_from}
 
 -- an arrival that isn't before the newest one may follow
 pub never_down-arrive : (from conn moment : ℕ) (piece : List ℕ) (steps : List HallStep) → NeverDown from steps → newest_from from steps ≤ moment → NeverDown from (steps ++ Arrive conn moment piece ∷ [])

@@ -1,7 +1,7 @@
 //! Runs of a hall: the logins come from a file, and the arrivals from standard input.
 
 use crate::arrivals::Arrivals;
-use crate::fault::Fault;
+use crate::fault::RunFault;
 use crate::text;
 use s4_script::SentText;
 use s4_session::Logins;
@@ -11,19 +11,19 @@ use std::io::{Read, Write};
 use std::rt::Files;
 
 /// The logins of the file with that path.
-pub fn open_logins<R: Files + AllocGlobal>(rt: &R, path: &str) -> Result<Logins, Fault> {
-    let file = fs::open(rt, path).map_err(Fault::reading);
-    let mut file = file.map_err(Fault::of_logins_file)?;
+pub fn open_logins<R: Files + AllocGlobal>(rt: &R, path: &str) -> Result<Logins, RunFault> {
+    let file = fs::open(rt, path).map_err(RunFault::reading);
+    let mut file = file.map_err(RunFault::of_logins_file)?;
     read_logins(rt.alloc(), &mut file)
 }
 
 /// The logins of a text that the reader gives.
-pub fn read_logins<R: Read>(alloc: Global, reader: &mut R) -> Result<Logins, Fault> {
-    let text = text::read_text(alloc, reader).map_err(Fault::of_logins_file)?;
+pub fn read_logins<R: Read>(alloc: Global, reader: &mut R) -> Result<Logins, RunFault> {
+    let text = text::read_text(alloc, reader).map_err(RunFault::of_logins_file)?;
     if std::str::from_utf8(&text).is_err() {
-        return Err(Fault::CannotReadLogins);
+        return Err(RunFault::CannotReadLogins);
     }
-    Logins::read(alloc, &text).map_err(Fault::logins)
+    Logins::read(alloc, &text).map_err(RunFault::logins)
 }
 
 /// Runs arrivals on a fresh hall of these logins, and writes what each connection is sent, by rising
@@ -33,13 +33,13 @@ pub fn run_hall<R: Read + Drop, W: Write>(
     logins: Logins,
     mut reader: R,
     writer: &mut W,
-) -> Result<(), Fault> {
+) -> Result<(), RunFault> {
     let text = text::read_text(alloc, &mut reader)?;
     let Some(arrivals) = Arrivals::read(alloc, &text)? else {
         return Ok(());
     };
     for (conn, bytes) in &arrivals.run(alloc, logins)? {
-        writeln!(writer, "{}", SentText(*conn, bytes)).map_err(Fault::writing)?;
+        writeln!(writer, "{}", SentText(*conn, bytes)).map_err(RunFault::writing)?;
     }
-    writer.flush().map_err(Fault::writing)
+    writer.flush().map_err(RunFault::writing)
 }

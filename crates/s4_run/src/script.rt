@@ -4,7 +4,7 @@ ghost use Rattle.std.specs.Prelude.{◌≡◌, ◌<◌, ◌≤◌, ◌↔◌, Is
 ghost use Rattle.s4_types.specs.Play.{last_of};
 ghost use Rattle.s4_drive.specs.Step.{Steps};
 
-use crate::fault::Fault;
+use crate::fault::RunFault;
 use crate::text;
 use s4_drive::Drive;
 use s4_script::{Line, ReplyText, UsedText, parse_line, parse_window};
@@ -19,36 +19,53 @@ pub fn run_script<R: Read + Drop, W: Write>(
     alloc: Global,
     mut reader: R,
     writer: &mut W,
-) -> Result<(), Fault> {
+) -> Result<(), RunFault> {
     let text = text::read_text(alloc, &mut reader)?;
     let outcome = run_lines(alloc, &text, writer);
-    if outcome != Err(Fault::CannotWrite) {
-        writer.flush().map_err(Fault::writing)?;
+    if outcome != Err(RunFault::CannotWrite) {
+        writer.flush().map_err(RunFault::writing)?;
     }
     outcome
 }
 
-fn run_lines<W: Write>(alloc: Global, text: &[u8], writer: &mut W) -> Result<(), Fault> {
+fn run_lines<W: Write>(alloc: Global, text: &[u8], writer: &mut W) -> Result<(), RunFault> {
     let mut run = None;
     for (index, line) in text.split_inclusive(|byte| *byte == b'\n').enumerate() {
         let number = index.saturating_add(1);
         let line = line.strip_suffix(b"\n").unwrap_or(line);
         match &mut run {
-            None => {
-                let window = parse_window(alloc, line).map_err(|why| Fault::parsing(why, number))?;
-                run = Some(Run::open(alloc, window));
-            }
-            Some(run) => {
-                let line = parse_line(alloc, line).map_err(|why| Fault::parsing(why, number))?;
-                obey(run, &line, number, writer)?;
-            }
+            None => run = Some(opened(alloc, line, number)?),
+            Some(run) => take_line(alloc, run, line, number, writer)?,
         }
     }
     Ok(())
 }
 
+/// The run that the first line opens.
+fn opened(alloc: Global, line: &[u8], number: usize) -> Result<Run, RunFault> {
+    let window = parse_window(alloc, line).map_err(|why| RunFault::parsing(why, number))?;
+    Ok(Run::open(alloc, window))
+}
+
+/// Reads a further line, and does what it says.
+fn take_line<W: Write>(
+    alloc: Global,
+    run: &mut Run,
+    line: &[u8],
+    number: usize,
+    writer: &mut W,
+) -> Result<(), RunFault> {
+    let line = parse_line(alloc, line).map_err(|why| RunFault::parsing(why, number))?;
+    obey(run, &line, number, writer)
+}
+
 /// Does what the line of that number says, and writes what it is told.
-fn obey<W: Write>(run: &mut Run, line: &Line, number: usize, writer: &mut W) -> Result<(), Fault> {
+fn obey<W: Write>(
+    run: &mut Run,
+    line: &Line,
+    number: usize,
+    writer: &mut W,
+) -> Result<(), RunFault> {
     match line {
         Line::Step(
             Step::Request {
@@ -58,14 +75,14 @@ fn obey<W: Write>(run: &mut Run, line: &Line, number: usize, writer: &mut W) -> 
             },
         ) => {
             let reply = run.reply(*moment, *caller, request);
-            let reply = reply.ok_or(Fault::MomentGoesBack(number))?;
-            writeln!(writer, "{}", ReplyText(&reply)).map_err(Fault::writing)
+            let reply = reply.ok_or(RunFault::MomentGoesBack(number))?;
+            writeln!(writer, "{}", ReplyText(&reply)).map_err(RunFault::writing)
         }
         Line::Step(Step::Sweep { n }) => {
             run.drive.sweep(*n);
             Ok(())
         }
-        Line::Used => writeln!(writer, "{}", UsedText(run.drive.used())).map_err(Fault::writing),
+        Line::Used => writeln!(writer, "{}", UsedText(run.drive.used())).map_err(RunFault::writing),
     }
 }
 

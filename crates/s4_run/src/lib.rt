@@ -1,0 +1,14 @@
+//! Runs from a reader to a writer: of scripts on a fresh drive, and of arrivals on a fresh hall.
+#![tactic(auto)]
+
+mod arrivals;
+mod fault;
+mod hall;
+mod script;
+mod text;
+
+pub use arrivals::Arrivals;
+pub use fault::RunFault;
+pub use hall::{open_logins, read_logins, run_hall};
+pub use script::run_script;
+pub use text::read_up_to;
