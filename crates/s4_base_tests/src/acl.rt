@@ -79,10 +79,15 @@ fn an_acl_has_16_entries_at_most(rt: HostRuntime) -> Result<(), Fail> {
     Ok(())
 }
 
+// Entries of 7 and 9.
+fn two_entries(rt: &impl Abort) -> Result<Acl, Fail> {
+    let first = Acl::of_creator(entry(7, 31)?.who);
+    setting(rt, &first, 9, 17, &[(7, 31), (9, 17)])
+}
+
 #[test]
 fn entries_are_found_by_principal(rt: HostRuntime) -> Result<(), Fail> {
-    let first = Acl::of_creator(entry(7, 31)?.who);
-    let acl = setting(&rt, &first, 9, 17, &[(7, 31), (9, 17)])?;
+    let acl = two_entries(&rt)?;
     for (who, wanted) in [(7, Some((0, 31))), (9, Some((1, 17))), (8, None)] {
         let found = entry_of(&acl, entry(who, 1)?.who);
         assert_eq!(rt;
@@ -95,8 +100,7 @@ fn entries_are_found_by_principal(rt: HostRuntime) -> Result<(), Fail> {
 
 #[test]
 fn entries_are_found_by_index(rt: HostRuntime) -> Result<(), Fail> {
-    let first = Acl::of_creator(entry(7, 31)?.who);
-    let acl = setting(&rt, &first, 9, 17, &[(7, 31), (9, 17)])?;
+    let acl = two_entries(&rt)?;
     for (index, wanted) in [
         (0, Some((7, 31))),
         (1, Some((9, 17))),

@@ -48,6 +48,20 @@ fn room_at(rt: &impl Abort, ledger: &Ledger, purse: &Purse, horizon: u64, cost: 
     ledger.room_at(purse, Moment::new(horizon), cost)
 }
 
+// What a ledger tells of a purse.
+
+fn check_spent(rt: &impl Abort, ledger: &Ledger, purse: &Purse, wanted: u32) {
+    assert_eq!(rt; ledger.spent(purse), wanted);
+}
+
+fn check_spent_at(rt: &impl Abort, ledger: &Ledger, purse: &Purse, horizon: u64, wanted: u32) {
+    assert_eq!(rt; spent_at(rt, ledger, purse, horizon), wanted);
+}
+
+fn check_budget(rt: &impl Abort, ledger: &Ledger, purse: &Purse, wanted: u32) {
+    assert_eq!(rt; ledger.budget(purse), wanted);
+}
+
 // Charges of purse 7.0 that end at 10, 20 and 30, and one of purse 3.1 that ends at 20.
 fn four_charges(rt: &impl Abort, alloc: Global) -> Result<Ledger, Fail> {
     let mut ledger = Ledger::new(alloc);
@@ -64,12 +78,12 @@ fn charges_count_before_their_end(rt: HostRuntime) -> Result<(), Fail> {
     let ledger = four_charges(&rt, rt.alloc())?;
     let home = purse(7, 0)?;
     let other = purse(3, 1)?;
-    assert_eq!(rt; ledger.spent(&home), 293);
-    assert_eq!(rt; ledger.spent(&other), 80);
-    assert_eq!(rt; spent_at(&rt, &ledger, &home, 9), 293);
-    assert_eq!(rt; spent_at(&rt, &ledger, &home, 10), 129);
-    assert_eq!(rt; spent_at(&rt, &ledger, &home, 20), 65);
-    assert_eq!(rt; spent_at(&rt, &ledger, &other, 20), 0);
+    check_spent(&rt, &ledger, &home, 293);
+    check_spent(&rt, &ledger, &other, 80);
+    check_spent_at(&rt, &ledger, &home, 9, 293);
+    check_spent_at(&rt, &ledger, &home, 10, 129);
+    check_spent_at(&rt, &ledger, &home, 20, 65);
+    check_spent_at(&rt, &ledger, &other, 20, 0);
     Ok(())
 }
 
@@ -78,9 +92,9 @@ fn charges_count_until_the_horizon_reaches_their_end(rt: HostRuntime) -> Result<
     let mut ledger = four_charges(&rt, rt.alloc())?;
     advance(&rt, &mut ledger, 20);
     assert_eq!(rt; ledger.horizon().tick(), 20);
-    assert_eq!(rt; ledger.spent(&purse(7, 0)?), 65);
-    assert_eq!(rt; ledger.spent(&purse(3, 1)?), 0);
-    assert_eq!(rt; ledger.spent(&purse(7, 1)?), 0);
+    check_spent(&rt, &ledger, &purse(7, 0)?, 65);
+    check_spent(&rt, &ledger, &purse(3, 1)?, 0);
+    check_spent(&rt, &ledger, &purse(7, 1)?, 0);
     Ok(())
 }
 
@@ -110,10 +124,10 @@ fn forgiven_charges_count_no_more(rt: HostRuntime) -> Result<(), Fail> {
     let home = purse(7, 0)?;
     let other = purse(7, 1)?;
     forgive(&rt, &mut ledger, &home, 5, 64);
-    assert_eq!(rt; ledger.spent(&home), 64);
-    assert_eq!(rt; ledger.spent(&other), 64);
+    check_spent(&rt, &ledger, &home, 64);
+    check_spent(&rt, &ledger, &other, 64);
     forgive(&rt, &mut ledger, &home, 5, 64);
-    assert_eq!(rt; ledger.spent(&home), 0);
+    check_spent(&rt, &ledger, &home, 0);
     assert!(rt; !ledger.has_charge(&home, Moment::new(5), 64));
     Ok(())
 }
@@ -125,10 +139,10 @@ fn charges_after_forgiven_ones_count(rt: HostRuntime) -> Result<(), Fail> {
     forgive(&rt, &mut ledger, &home, 5, 64);
     forgive(&rt, &mut ledger, &home, 5, 64);
     charge(&rt, &mut ledger, &home, 6, 128)?;
-    assert_eq!(rt; spent_at(&rt, &ledger, &home, 5), 128);
+    check_spent_at(&rt, &ledger, &home, 5, 128);
     advance(&rt, &mut ledger, 5);
-    assert_eq!(rt; ledger.spent(&home), 128);
-    assert_eq!(rt; ledger.spent(&purse(7, 1)?), 0);
+    check_spent(&rt, &ledger, &home, 128);
+    check_spent(&rt, &ledger, &purse(7, 1)?, 0);
     Ok(())
 }
 
@@ -138,11 +152,11 @@ fn a_charge_that_has_ended_changes_nothing(rt: HostRuntime) -> Result<(), Fail> 
     let home = purse(7, 0)?;
     advance(&rt, &mut ledger, 8);
     charge(&rt, &mut ledger, &home, 8, 64)?;
-    assert_eq!(rt; ledger.spent(&home), 0);
+    check_spent(&rt, &ledger, &home, 0);
     forgive(&rt, &mut ledger, &home, 8, 64);
-    assert_eq!(rt; ledger.spent(&home), 0);
+    check_spent(&rt, &ledger, &home, 0);
     charge(&rt, &mut ledger, &home, 9, 64)?;
-    assert_eq!(rt; ledger.spent(&home), 64);
+    check_spent(&rt, &ledger, &home, 64);
     Ok(())
 }
 
@@ -152,10 +166,10 @@ fn a_budget_is_65536_until_another_is_set(rt: HostRuntime) -> Result<(), Fail> {
     let home = purse(7, 0)?;
     let other = purse(7, 1)?;
     assert_eq!(rt; DEFAULT_BUDGET, 65536);
-    assert_eq!(rt; ledger.budget(&home), 65536);
+    check_budget(&rt, &ledger, &home, 65536);
     ledger.set_budget(&home, 129)?;
-    assert_eq!(rt; ledger.budget(&home), 129);
-    assert_eq!(rt; ledger.budget(&other), 65536);
+    check_budget(&rt, &ledger, &home, 129);
+    check_budget(&rt, &ledger, &other, 65536);
     Ok(())
 }
 
@@ -194,7 +208,7 @@ fn a_budget_may_be_below_what_is_spent(rt: HostRuntime) -> Result<(), Fail> {
     let home = purse(7, 0)?;
     charge(&rt, &mut ledger, &home, 4, 65)?;
     ledger.set_budget(&home, 64)?;
-    assert_eq!(rt; ledger.spent(&home), 65);
+    check_spent(&rt, &ledger, &home, 65);
     assert!(rt; !ledger.room(&home, 0));
     Ok(())
 }
@@ -205,8 +219,8 @@ fn a_budget_that_has_room_stays_as_it_was(rt: HostRuntime) -> Result<(), Fail> {
     let home = purse(7, 0)?;
     let other = purse(7, 1)?;
     ledger.reserve_budget(&home)?;
-    assert_eq!(rt; ledger.budget(&home), 65536);
-    assert_eq!(rt; ledger.budget(&other), 65536);
+    check_budget(&rt, &ledger, &home, 65536);
+    check_budget(&rt, &ledger, &other, 65536);
     Ok(())
 }
 
@@ -218,11 +232,11 @@ fn room_for_a_budget_changes_none(rt: HostRuntime) -> Result<(), Fail> {
     ledger.set_budget(&home, 200)?;
     ledger.reserve_budget(&home)?;
     ledger.reserve_budget(&other)?;
-    assert_eq!(rt; ledger.budget(&home), 200);
-    assert_eq!(rt; ledger.budget(&other), 65536);
+    check_budget(&rt, &ledger, &home, 200);
+    check_budget(&rt, &ledger, &other, 65536);
     ledger.set_budget(&other, u32::MAX)?;
-    assert_eq!(rt; ledger.budget(&home), 200);
-    assert_eq!(rt; ledger.budget(&other), 4294967295);
+    check_budget(&rt, &ledger, &home, 200);
+    check_budget(&rt, &ledger, &other, 4294967295);
     Ok(())
 }
 
@@ -232,8 +246,8 @@ fn a_place_is_no_charge(rt: HostRuntime) -> Result<(), Fail> {
     let home = purse(7, 0)?;
     ledger.reserve(&home, Moment::new(5), 64)?;
     assert!(rt; !ledger.has_charge(&home, Moment::new(5), 64));
-    assert_eq!(rt; ledger.spent(&home), 0);
-    assert_eq!(rt; ledger.budget(&home), 65536);
+    check_spent(&rt, &ledger, &home, 0);
+    check_budget(&rt, &ledger, &home, 65536);
     Ok(())
 }
 
@@ -244,11 +258,11 @@ fn a_place_for_a_charge_that_is_there_changes_nothing(rt: HostRuntime) -> Result
     ledger.reserve(&home, Moment::new(5), 64)?;
     charge(&rt, &mut ledger, &home, 6, 65)?;
     ledger.reserve(&home, Moment::new(6), 65)?;
-    assert_eq!(rt; ledger.spent(&home), 65);
-    assert_eq!(rt; spent_at(&rt, &ledger, &home, 5), 65);
+    check_spent(&rt, &ledger, &home, 65);
+    check_spent_at(&rt, &ledger, &home, 5, 65);
     advance(&rt, &mut ledger, 5);
     assert!(rt; ledger.has_charge(&home, Moment::new(6), 65));
     advance(&rt, &mut ledger, 6);
-    assert_eq!(rt; ledger.spent(&home), 0);
+    check_spent(&rt, &ledger, &home, 0);
     Ok(())
 }

@@ -166,6 +166,11 @@ fn bytes_stay_as_given(rt: HostRuntime) -> Result<(), Fail> {
     Ok(())
 }
 
+fn check_request_copy(rt: &impl Abort, request: Request) -> Result<(), Fail> {
+    assert_eq!(rt; request.copy()?, request);
+    Ok(())
+}
+
 #[test]
 fn copies_of_requests_are_equal(rt: HostRuntime) -> Result<(), Fail> {
     let object = last_object()?;
@@ -174,46 +179,47 @@ fn copies_of_requests_are_equal(rt: HostRuntime) -> Result<(), Fail> {
         offset: u32::MAX,
         bytes: bytes(rt.alloc(), b"hello")?,
     };
-    let deleted = Request::Delete { object };
+    check_request_copy(&rt, written)?;
     let bound = Request::PCreate {
         name: named(b"home")?,
         object,
     };
-    assert_eq!(rt; written.copy()?, written);
-    assert_eq!(rt; deleted.copy()?, deleted);
-    assert_eq!(rt; bound.copy()?, bound);
-    Ok(())
+    check_request_copy(&rt, bound)?;
+    check_request_copy(&rt, Request::Delete { object })
 }
 
 #[test]
 fn copies_of_flushes_are_equal(rt: HostRuntime) -> Result<(), Fail> {
     let object = last_object()?;
     let (from, to) = (Moment::new(0), Moment::new(u64::MAX));
-    let flushed = Request::Flush { from, to };
-    let flushed_one = Request::FlushO { object, from, to };
-    assert_eq!(rt; flushed.copy()?, flushed);
-    assert_eq!(rt; flushed_one.copy()?, flushed_one);
-    assert_ne!(rt; flushed, Request::Flush { from, to: from });
+    check_request_copy(&rt, Request::FlushO { object, from, to })?;
+    check_request_copy(&rt, Request::Flush { from, to })?;
+    assert_ne!(rt;
+        Request::Flush { from, to },
+        Request::Flush { from, to: from }
+    );
     Ok(())
+}
+
+fn check_moment(rt: &impl Abort, request: Request, at: Option<Moment>) {
+    assert_eq!(rt; request.at(), at);
 }
 
 #[test]
 fn moments_that_requests_name(rt: HostRuntime) -> Result<(), Fail> {
     let object = last_object()?;
+    let purse = last_object()?.purse;
+    let (offset, length) = (0, 1);
     for at in [None, Some(Moment::new(0)), Some(Moment::new(u64::MAX))] {
         let read = Request::Read {
             object,
-            offset: 0,
-            length: 1,
+            offset,
+            length,
             at,
         };
-        let mounted = Request::PMount {
-            purse: object.purse,
-            name: named(b"home")?,
-            at,
-        };
-        assert_eq!(rt; read.at(), at, "{read:?}");
-        assert_eq!(rt; mounted.at(), at, "{mounted:?}");
+        check_moment(&rt, read, at);
+        let name = named(b"home")?;
+        check_moment(&rt, Request::PMount { purse, name, at }, at);
     }
     Ok(())
 }
@@ -221,15 +227,10 @@ fn moments_that_requests_name(rt: HostRuntime) -> Result<(), Fail> {
 #[test]
 fn requests_that_name_no_moment(rt: HostRuntime) -> Result<(), Fail> {
     let object = last_object()?;
-    let deleted = Request::Delete { object };
-    let windowed = Request::SetWindow { ticks: 5 };
-    let flushed = Request::Flush {
-        from: Moment::new(0),
-        to: Moment::new(5),
-    };
-    assert_eq!(rt; deleted.at(), None);
-    assert_eq!(rt; windowed.at(), None);
-    assert_eq!(rt; flushed.at(), None);
+    let (from, to) = (Moment::new(0), Moment::new(5));
+    check_moment(&rt, Request::Delete { object }, None);
+    check_moment(&rt, Request::SetWindow { ticks: 5 }, None);
+    check_moment(&rt, Request::Flush { from, to }, None);
     Ok(())
 }
 
@@ -237,6 +238,11 @@ fn requests_that_name_no_moment(rt: HostRuntime) -> Result<(), Fail> {
 fn purse_of(request: &Request) -> Result<Option<Purse>, Fail> {
     let who = Principal::new(7).ok_or("a principal")?;
     Ok(request.purse(&Caller { who, client: 1 }))
+}
+
+fn check_purse(rt: &impl Abort, request: Request, wanted: Option<Purse>) -> Result<(), Fail> {
+    assert_eq!(rt; purse_of(&request)?, wanted);
+    Ok(())
 }
 
 #[test]
@@ -248,72 +254,67 @@ fn purses_that_a_caller_draws_from(rt: HostRuntime) -> Result<(), Fail> {
         purse: own,
         name: named(b"home")?,
     };
-    assert_eq!(rt; purse_of(&Request::Create { number })?, Some(own));
-    assert_eq!(rt; purse_of(&unbound)?, Some(own));
-    Ok(())
+    check_purse(&rt, unbound, Some(own))?;
+    check_purse(&rt, Request::Create { number }, Some(own))
 }
 
 #[test]
 fn purses_that_requests_name(rt: HostRuntime) -> Result<(), Fail> {
     let object = last_object()?;
+    let purse = last_object()?.purse;
     let (from, to) = (Moment::new(0), Moment::new(5));
-    let deleted = Request::Delete { object };
-    let flushed = Request::FlushO { object, from, to };
-    let budgeted = Request::SetBudget {
-        purse: object.purse,
-        budget: u32::MAX,
-    };
-    assert_eq!(rt; purse_of(&deleted)?, Some(object.purse));
-    assert_eq!(rt; purse_of(&flushed)?, Some(object.purse));
-    assert_eq!(rt; purse_of(&budgeted)?, Some(object.purse));
-    Ok(())
+    let budget = u32::MAX;
+    check_purse(&rt, Request::Delete { object }, Some(purse))?;
+    check_purse(&rt, Request::FlushO { object, from, to }, Some(purse))?;
+    check_purse(&rt, Request::SetBudget { purse, budget }, Some(purse))
 }
 
 #[test]
 fn requests_that_name_no_purse(rt: HostRuntime) -> Result<(), Fail> {
     let (from, to) = (Moment::new(0), Moment::new(5));
+    let range = Principal::new(7).ok_or("a principal")?;
     let listed = Request::PList {
-        range: Principal::new(7).ok_or("a principal")?,
+        range,
         after: None,
         at: None,
     };
-    assert_eq!(rt; purse_of(&listed)?, None);
-    assert_eq!(rt; purse_of(&Request::Flush { from, to })?, None);
-    assert_eq!(rt; purse_of(&Request::SetWindow { ticks: 5 })?, None);
+    check_purse(&rt, listed, None)?;
+    check_purse(&rt, Request::Flush { from, to }, None)?;
+    check_purse(&rt, Request::SetWindow { ticks: 5 }, None)
+}
+
+fn told(alloc: Global) -> Result<Reply, Fail> {
+    Ok(Reply::Data {
+        grant: Grant::Admin,
+        bytes: bytes(alloc, b"hello")?,
+    })
+}
+
+fn listed(alloc: Global) -> Result<Reply, Fail> {
+    Ok(Reply::Names {
+        lines: NameLines::new(vec![in alloc; home_line()?]?),
+        more: true,
+    })
+}
+
+fn check_reply_copy(rt: &impl Abort, reply: &Reply) -> Result<(), Fail> {
+    assert_eq!(rt; reply.copy()?, *reply);
     Ok(())
 }
 
 #[test]
 fn copies_of_replies_are_equal(rt: HostRuntime) -> Result<(), Fail> {
-    let told = Reply::Data {
-        grant: Grant::Admin,
-        bytes: bytes(rt.alloc(), b"hello")?,
-    };
-    let listed = Reply::Names {
-        lines: NameLines::new(vec![in rt.alloc(); home_line()?]?),
-        more: true,
-    };
-    let refused = Reply::Refused(Refusal::Denied(Right::Admin));
-    assert_eq!(rt; told.copy()?, told);
-    assert_eq!(rt; Reply::Done.copy()?, Reply::Done);
-    assert_eq!(rt; listed.copy()?, listed);
-    assert_eq!(rt; refused.copy()?, refused);
-    Ok(())
+    check_reply_copy(&rt, &told(rt.alloc())?)?;
+    check_reply_copy(&rt, &listed(rt.alloc())?)?;
+    check_reply_copy(&rt, &Reply::Done)?;
+    check_reply_copy(&rt, &Reply::Refused(Refusal::Denied(Right::Admin)))
 }
 
 #[test]
 fn refusals_are_refused(rt: HostRuntime) -> Result<(), Fail> {
-    let told = Reply::Data {
-        grant: Grant::Admin,
-        bytes: bytes(rt.alloc(), b"hello")?,
-    };
-    let listed = Reply::Names {
-        lines: NameLines::new(vec![in rt.alloc(); home_line()?]?),
-        more: true,
-    };
-    assert!(rt; !told.is_refused());
+    assert!(rt; !told(rt.alloc())?.is_refused());
+    assert!(rt; !listed(rt.alloc())?.is_refused());
     assert!(rt; !Reply::Done.is_refused());
-    assert!(rt; !listed.is_refused());
     assert!(rt; Reply::Refused(Refusal::Denied(Right::Admin)).is_refused());
     Ok(())
 }
