@@ -1,5 +1,10 @@
 //! Runs of a hall: the logins come from a file, and the arrivals from standard input.
 
+ghost use Rattle.std.specs.Prelude.{◌≡◌, true, IfErr, IfSome};
+ghost use Rattle.std.specs.Io.KnownBytes.{Keeps};
+ghost use Rattle.s4_run.specs.Faults.{is_of_line, is_of_logins};
+ghost use Rattle.s4_run.specs.Logins.{IsLogins};
+
 use crate::arrivals::Arrivals;
 use crate::fault::RunFault;
 use crate::text;
@@ -11,14 +16,20 @@ use std::io::{Read, Write};
 use std::rt::Files;
 
 /// The logins of the file with that path.
-pub fn open_logins<R: Files + AllocGlobal>(rt: &R, path: &str) -> Result<Logins, RunFault> {
+pub fn open_logins<R: Files + AllocGlobal>(rt: &R, path: &str) -> Result<Logins, RunFault>
+    ensures { IfErr result (λ why. is_of_logins why ≡ true) }
+{
     let file = fs::open(rt, path).map_err(RunFault::reading);
     let mut file = file.map_err(RunFault::of_logins_file)?;
     read_logins(rt.alloc(), &mut file)
 }
 
 /// The logins of a text that the reader gives.
-pub fn read_logins<R: Read>(alloc: Global, reader: &mut R) -> Result<Logins, RunFault> {
+pub fn read_logins<R: Read>(alloc: Global, reader: &mut R) -> Result<Logins, RunFault>
+    // The table that the reader's bytes say, or the fault of their first bad line.
+    ensures text { IfSome (R.remaining reader.old) (IsLogins result) }
+    ensures fault { IfErr result (λ why. is_of_logins why ≡ true) }
+{
     let text = text::read_text(alloc, reader).map_err(RunFault::of_logins_file)?;
     if std::str::from_utf8(&text).is_err() {
         return Err(RunFault::CannotReadLogins);
@@ -27,13 +38,16 @@ pub fn read_logins<R: Read>(alloc: Global, reader: &mut R) -> Result<Logins, Run
 }
 
 /// Runs arrivals on a fresh hall of these logins, and writes what each connection is sent, by rising
-/// number. At a fault in a line nothing is written.
+/// number. What is written of the arrivals is said by docs/SCRIPTS.md, "Arrivals".
 pub fn run_hall<R: Read + Drop, W: Write>(
     alloc: Global,
     logins: Logins,
     mut reader: R,
     writer: &mut W,
-) -> Result<(), RunFault> {
+) -> Result<(), RunFault>
+    // At a fault in a line nothing is written.
+    ensures nothing_written { IfErr result (λ why. is_of_line why ≡ true → Keeps (W.contents writer.old) (W.contents writer.new)) }
+{
     let text = text::read_text(alloc, &mut reader)?;
     let Some(arrivals) = Arrivals::read(alloc, &text)? else {
         return Ok(());

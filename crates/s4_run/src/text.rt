@@ -1,39 +1,38 @@
 //! Texts that come in, up to a bound.
 
+ghost use Rattle.std.specs.Prelude.{◌≡◌, ◌≤◌, true, IfOk, IfErr, IfSome, length};
+ghost use Rattle.s4_run.specs.Faults.{is_of_reading};
+
 use crate::fault::RunFault;
 use std::alloc::Global;
-use std::io::{ErrorKind, Read};
+use std::io::Read;
 
-/// The most bytes of a text, and the most reads that it may take, the one that finds its end
-/// among them.
-const TEXT_LIMIT: usize = 268435456;
-
-const PIECE: usize = 4096;
+/// The most bytes of a text.
+const TEXT_LIMIT: u32 = 268435456;
 
 /// All bytes of the reader.
-pub fn read_text<R: Read>(alloc: Global, reader: &mut R) -> Result<Vec<u8>, RunFault> {
+pub fn read_text<R: Read>(alloc: Global, reader: &mut R) -> Result<Vec<u8>, RunFault>
+    ensures whole { IfOk result (λ text. IfSome (R.remaining reader.old) (λ bytes. text.items ≡ bytes)) }
+    ensures fault { IfErr result (λ why. is_of_reading why ≡ true) }
+{
     read_up_to(alloc, reader, TEXT_LIMIT)
 }
 
-/// All bytes of the reader, where there are at most so many, and as many reads.
-pub fn read_up_to<R: Read>(
-    alloc: Global,
-    reader: &mut R,
-    limit: usize,
-) -> Result<Vec<u8>, RunFault> {
+/// All bytes of the reader, where there are at most so many.
+///
+/// `CannotRead` where there are more, or the reader fails; `NoMemory` where they don't fit in
+/// memory.
+pub fn read_up_to<R: Read>(alloc: Global, reader: &mut R, limit: u32) -> Result<Vec<u8>, RunFault>
+    // It's all that the reader has left, where that is known.
+    ensures whole { IfOk result (λ text. IfSome (R.remaining reader.old) (λ bytes. text.items ≡ bytes)) }
+    ensures limit { IfOk result (λ text. length text.items ≤ limit) }
+    ensures fault { IfErr result (λ why. is_of_reading why ≡ true) }
+{
     let mut text = Vec::new(alloc);
-    let mut piece = [0; PIECE];
-    for _ in 0..limit {
-        let count = match reader.read(&mut piece) {
-            Ok(0) => return Ok(text),
-            Ok(count) => count,
-            Err(error) if error.kind() == ErrorKind::Interrupted => continue,
-            Err(error) => return Err(RunFault::reading(error)),
-        };
-        if count > limit.saturating_sub(text.len()) {
-            return Err(RunFault::CannotRead);
-        }
-        text.extend_from_slice(&piece[..count])?;
+    let mut start = reader.take(u64::from(limit) + 1);
+    start.read_to_end(&mut text).map_err(RunFault::reading)?;
+    if text.len() > limit as usize {
+        return Err(RunFault::CannotRead);
     }
-    Err(RunFault::CannotRead)
+    Ok(text)
 }

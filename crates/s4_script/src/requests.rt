@@ -7,44 +7,53 @@ use std::alloc::Global;
 
 /// The request that a verb and the words after it spell.
 pub fn parse_request(alloc: Global, verb: &str, words: &[&str]) -> Result<Request, ParseError> {
-    match (verb, words) {
-        ("create", [number]) => create(number),
-        ("delete", [object]) => delete(object),
-        ("read", [object, offset, length, at @ ..]) => read(object, offset, length, at),
-        ("write", [object, offset, bytes]) => write(alloc, object, offset, bytes),
-        ("append", [object, bytes]) => append(alloc, object, bytes),
-        ("truncate", [object, length]) => truncate(object, length),
-        ("getattr", [object, at @ ..]) => get_attr(object, at),
-        ("setattr", [object, bytes]) => set_attr(alloc, object, bytes),
-        ("acl-user", [object, user, at @ ..]) => get_acl_by_user(object, user, at),
-        ("acl-index", [object, index, at @ ..]) => get_acl_by_index(object, index, at),
-        ("setacl", [object, user, rights]) => set_acl(object, user, rights),
-        ("pcreate", [name, object]) => pcreate(name, object),
-        ("pdelete", [purse, name]) => pdelete(purse, name),
-        ("plist", [range, place @ ..]) => plist(range, place),
-        ("pmount", [purse, name, at @ ..]) => pmount(purse, name, at),
-        ("flush", [from, to]) => flush(from, to),
-        ("flusho", [object, from, to]) => flush_object(object, from, to),
-        ("setwindow", [ticks]) => set_window(ticks),
-        ("setbudget", [purse, budget]) => set_budget(purse, budget),
-        ("audit", [range, skip]) => audit(range, skip),
+    match verb {
+        "create" => create(words),
+        "delete" => delete(words),
+        "read" => read(words),
+        "write" => write(alloc, words),
+        "append" => append(alloc, words),
+        "truncate" => truncate(words),
+        "getattr" => get_attr(words),
+        "setattr" => set_attr(alloc, words),
+        "acl-user" => get_acl_by_user(words),
+        "acl-index" => get_acl_by_index(words),
+        "setacl" => set_acl(words),
+        "pcreate" => pcreate(words),
+        "pdelete" => pdelete(words),
+        "plist" => plist(words),
+        "pmount" => pmount(words),
+        "flush" => flush(words),
+        "flusho" => flush_object(words),
+        "setwindow" => set_window(words),
+        "setbudget" => set_budget(words),
+        "audit" => audit(words),
         _ => Err(ParseError::Bad),
     }
 }
 
-fn create(number: &str) -> Result<Request, ParseError> {
+fn create(words: &[&str]) -> Result<Request, ParseError> {
+    let [number] = words else {
+        return Err(ParseError::Bad);
+    };
     Ok(Request::Create {
         number: words::purse_number(number)?,
     })
 }
 
-fn delete(object: &str) -> Result<Request, ParseError> {
+fn delete(words: &[&str]) -> Result<Request, ParseError> {
+    let [object] = words else {
+        return Err(ParseError::Bad);
+    };
     Ok(Request::Delete {
         object: words::object(object)?,
     })
 }
 
-fn read(object: &str, offset: &str, length: &str, at: &[&str]) -> Result<Request, ParseError> {
+fn read(words: &[&str]) -> Result<Request, ParseError> {
+    let [object, offset, length, at @ ..] = words else {
+        return Err(ParseError::Bad);
+    };
     Ok(Request::Read {
         object: words::object(object)?,
         offset: words::number(offset)?,
@@ -53,7 +62,10 @@ fn read(object: &str, offset: &str, length: &str, at: &[&str]) -> Result<Request
     })
 }
 
-fn write(alloc: Global, object: &str, offset: &str, bytes: &str) -> Result<Request, ParseError> {
+fn write(alloc: Global, words: &[&str]) -> Result<Request, ParseError> {
+    let [object, offset, bytes] = words else {
+        return Err(ParseError::Bad);
+    };
     Ok(Request::Write {
         object: words::object(object)?,
         offset: words::number(offset)?,
@@ -61,35 +73,50 @@ fn write(alloc: Global, object: &str, offset: &str, bytes: &str) -> Result<Reque
     })
 }
 
-fn append(alloc: Global, object: &str, bytes: &str) -> Result<Request, ParseError> {
+fn append(alloc: Global, words: &[&str]) -> Result<Request, ParseError> {
+    let [object, bytes] = words else {
+        return Err(ParseError::Bad);
+    };
     Ok(Request::Append {
         object: words::object(object)?,
         bytes: words::bytes(alloc, bytes)?,
     })
 }
 
-fn truncate(object: &str, length: &str) -> Result<Request, ParseError> {
+fn truncate(words: &[&str]) -> Result<Request, ParseError> {
+    let [object, length] = words else {
+        return Err(ParseError::Bad);
+    };
     Ok(Request::Truncate {
         object: words::object(object)?,
         length: words::number(length)?,
     })
 }
 
-fn get_attr(object: &str, at: &[&str]) -> Result<Request, ParseError> {
+fn get_attr(words: &[&str]) -> Result<Request, ParseError> {
+    let [object, at @ ..] = words else {
+        return Err(ParseError::Bad);
+    };
     Ok(Request::GetAttr {
         object: words::object(object)?,
         at: words::at(at)?,
     })
 }
 
-fn set_attr(alloc: Global, object: &str, bytes: &str) -> Result<Request, ParseError> {
+fn set_attr(alloc: Global, words: &[&str]) -> Result<Request, ParseError> {
+    let [object, bytes] = words else {
+        return Err(ParseError::Bad);
+    };
     Ok(Request::SetAttr {
         object: words::object(object)?,
         bytes: words::bytes(alloc, bytes)?,
     })
 }
 
-fn get_acl_by_user(object: &str, user: &str, at: &[&str]) -> Result<Request, ParseError> {
+fn get_acl_by_user(words: &[&str]) -> Result<Request, ParseError> {
+    let [object, user, at @ ..] = words else {
+        return Err(ParseError::Bad);
+    };
     Ok(Request::GetAclByUser {
         object: words::object(object)?,
         user: words::principal(user)?,
@@ -97,7 +124,10 @@ fn get_acl_by_user(object: &str, user: &str, at: &[&str]) -> Result<Request, Par
     })
 }
 
-fn get_acl_by_index(object: &str, index: &str, at: &[&str]) -> Result<Request, ParseError> {
+fn get_acl_by_index(words: &[&str]) -> Result<Request, ParseError> {
+    let [object, index, at @ ..] = words else {
+        return Err(ParseError::Bad);
+    };
     Ok(Request::GetAclByIndex {
         object: words::object(object)?,
         index: words::number(index)?,
@@ -105,7 +135,10 @@ fn get_acl_by_index(object: &str, index: &str, at: &[&str]) -> Result<Request, P
     })
 }
 
-fn set_acl(object: &str, user: &str, rights: &str) -> Result<Request, ParseError> {
+fn set_acl(words: &[&str]) -> Result<Request, ParseError> {
+    let [object, user, rights] = words else {
+        return Err(ParseError::Bad);
+    };
     Ok(Request::SetAcl {
         object: words::object(object)?,
         user: words::principal(user)?,
@@ -113,14 +146,20 @@ fn set_acl(object: &str, user: &str, rights: &str) -> Result<Request, ParseError
     })
 }
 
-fn pcreate(name: &str, object: &str) -> Result<Request, ParseError> {
+fn pcreate(words: &[&str]) -> Result<Request, ParseError> {
+    let [name, object] = words else {
+        return Err(ParseError::Bad);
+    };
     Ok(Request::PCreate {
         name: words::name(name)?,
         object: words::object(object)?,
     })
 }
 
-fn pdelete(purse: &str, name: &str) -> Result<Request, ParseError> {
+fn pdelete(words: &[&str]) -> Result<Request, ParseError> {
+    let [purse, name] = words else {
+        return Err(ParseError::Bad);
+    };
     Ok(Request::PDelete {
         purse: words::purse(purse)?,
         name: words::name(name)?,
@@ -129,7 +168,10 @@ fn pdelete(purse: &str, name: &str) -> Result<Request, ParseError> {
 
 /// A page of partitions. The place is where it begins, as `after 1 b`, and then when, as `at 9`;
 /// either may lack.
-fn plist(range: &str, place: &[&str]) -> Result<Request, ParseError> {
+fn plist(words: &[&str]) -> Result<Request, ParseError> {
+    let [range, place @ ..] = words else {
+        return Err(ParseError::Bad);
+    };
     let (after, at) = match place {
         ["after", number, name, at @ ..] => (Some(words::after(number, name)?), at),
         at => (None, at),
@@ -141,7 +183,10 @@ fn plist(range: &str, place: &[&str]) -> Result<Request, ParseError> {
     })
 }
 
-fn pmount(purse: &str, name: &str, at: &[&str]) -> Result<Request, ParseError> {
+fn pmount(words: &[&str]) -> Result<Request, ParseError> {
+    let [purse, name, at @ ..] = words else {
+        return Err(ParseError::Bad);
+    };
     Ok(Request::PMount {
         purse: words::purse(purse)?,
         name: words::name(name)?,
@@ -149,14 +194,20 @@ fn pmount(purse: &str, name: &str, at: &[&str]) -> Result<Request, ParseError> {
     })
 }
 
-fn flush(from: &str, to: &str) -> Result<Request, ParseError> {
+fn flush(words: &[&str]) -> Result<Request, ParseError> {
+    let [from, to] = words else {
+        return Err(ParseError::Bad);
+    };
     Ok(Request::Flush {
         from: words::moment(from)?,
         to: words::moment(to)?,
     })
 }
 
-fn flush_object(object: &str, from: &str, to: &str) -> Result<Request, ParseError> {
+fn flush_object(words: &[&str]) -> Result<Request, ParseError> {
+    let [object, from, to] = words else {
+        return Err(ParseError::Bad);
+    };
     Ok(Request::FlushO {
         object: words::object(object)?,
         from: words::moment(from)?,
@@ -164,20 +215,29 @@ fn flush_object(object: &str, from: &str, to: &str) -> Result<Request, ParseErro
     })
 }
 
-fn set_window(ticks: &str) -> Result<Request, ParseError> {
+fn set_window(words: &[&str]) -> Result<Request, ParseError> {
+    let [ticks] = words else {
+        return Err(ParseError::Bad);
+    };
     Ok(Request::SetWindow {
         ticks: words::number(ticks)?,
     })
 }
 
-fn set_budget(purse: &str, budget: &str) -> Result<Request, ParseError> {
+fn set_budget(words: &[&str]) -> Result<Request, ParseError> {
+    let [purse, budget] = words else {
+        return Err(ParseError::Bad);
+    };
     Ok(Request::SetBudget {
         purse: words::purse(purse)?,
         budget: words::number(budget)?,
     })
 }
 
-fn audit(range: &str, skip: &str) -> Result<Request, ParseError> {
+fn audit(words: &[&str]) -> Result<Request, ParseError> {
+    let [range, skip] = words else {
+        return Err(ParseError::Bad);
+    };
     Ok(Request::ReadAudit {
         range: words::principal(range)?,
         skip: words::number(skip)?,

@@ -1,5 +1,5 @@
 -- Values of a chain lose their items.
-use Rattle.std.proofs.Common.{◌≡◌, ℕ, zero, suc, ◌+◌, ◌<◌, Bool, true, false, Option, Some, None, List, [], ◌∷◌, refl, sym, ◌∙◌, ap, subst, arith, take, length}
+use Rattle.std.proofs.Common.{◌≡◌, ℕ, zero, suc, ◌+◌, ◌<◌, Bool, true, false, Option, Some, None, IfNone, List, [], ◌∷◌, refl, sym, ◌∙◌, ap, subst, true≢false, arith, take, length}
 use Rattle.std.proofs.Math.Numerals.{suc-eq-add-one}
 use Rattle.std.specs.Prelude.{◌&&◌, ◌||◌, is_some, nat_le, slice_get, slice_set, if◌then◌else◌}
 use Rattle.std.specs.List.{list_any, cons_option}
@@ -65,6 +65,14 @@ item_at (x ∷ xs) zero l = (x, refl)
 item_at (x ∷ xs) (suc i) l = item_at xs i (omega arith)
 
 module _ (from to : ℕ) where
+  ended-told : (P : Type 0) (cost : ℕ) (end : Option ℕ) → ends_by to end ≡ true → IfNone (told_by cost end) P
+  ended-told P cost None e = absurd (true≢false (sym e))
+  ended-told P cost (Some end) e = tt
+
+  -- a value that is yet to be erased has an end, so it is told
+  pub is_told : (P : Type 0) (v : Version) → is_erasable from to v ≡ true → IfNone (told_of v) P
+  is_told P v e = ended-told P v.cost v.end (both (nat_le from v.begin) (ends_by to v.end) (both (is_within from to v) (is_some v.item) e).0).1
+
   pub first_at : (vs : List Version) (i : ℕ) (v : Version) → slice_get vs i ≡ Some v → list_any (is_erasable from to) (take i vs) ≡ false → is_erasable from to v ≡ true → first_told from to vs ≡ told_of v
   first_at [] i v got behind e = cc
   first_at (u ∷ vs) zero v got behind e =

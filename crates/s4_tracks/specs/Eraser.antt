@@ -1,5 +1,5 @@
 -- How far a walk that erases has come.
-use Rattle.std.specs.Prelude.{◌≡◌, false, List, take}
+use Rattle.std.specs.Prelude.{◌≡◌, ℕ, false, List, take}
 use Rattle.std.specs.List.{list_any}
 use Rattle.s4_types.specs.declared.version.Version.{Version}
 use Rattle.s4_tracks.specs.declared.eraser.Eraser.{Eraser}
@@ -14,3 +14,7 @@ pub record SameWalk (old new : Eraser) : Type 0 where
   pub chain : new.chain ≡ old.chain
   pub from : new.from ≡ old.from
   pub to : new.to ≡ old.to
+
+-- how many values the walk has looked at
+abbrev pub looked : Eraser → ℕ
+looked walk = walk.place

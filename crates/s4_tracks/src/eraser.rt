@@ -1,12 +1,12 @@
 //! Erasing: values of the past lose their items, and keep begin, end and cost.
 
-ghost use Rattle.std.specs.Prelude.{◌≡◌, ◌+◌, ◌<◌, ◌^◌, List, Some, true, false, take, length, slice_get, slice_set, IfSome, IfNone};
+ghost use Rattle.std.specs.Prelude.{◌≡◌, ◌+◌, ◌<◌, ◌≤◌, ◌^◌, List, Some, true, false, take, length, slice_get, slice_set, IfSome, IfNone};
 ghost use Rattle.std.specs.List.{list_any};
 ghost use Rattle.std.specs.FinMap as finmap;
 ghost use Rattle.s4_types.specs.declared.version.Version.{Version};
 ghost use Rattle.s4_store.specs.Chains.{items_of, IsOpen, StillOpen};
 ghost use Rattle.s4_tracks.specs.Chain.{erased, is_erasable as can_be_erased, told_of, first_told, with_first_erased};
-ghost use Rattle.s4_tracks.specs.Eraser.{IsPassed, SameWalk};
+ghost use Rattle.s4_tracks.specs.Eraser.{IsPassed, SameWalk, looked};
 
 use crate::track::{Track, is_by};
 use s4_store::{Chain, Store};
@@ -49,6 +49,9 @@ impl Eraser {
         ensures room { S.room store.new ≡ S.room store.old }
         ensures same { SameWalk self.old self.new }
         ensures passed { IsPassed self.new (items_of (S.chains store.new) self.new.chain) }
+        // It never goes back, so it looks at no value twice.
+        ensures onward { IfSome result (λ _. looked self.old < looked self.new) }
+        ensures ended { IfNone result (looked self.new ≡ length (items_of (S.chains store.old) self.old.chain)) }
     {
         let Some(place) = self.next_place(store) else {
             self.place = store.len(self.chain);
@@ -63,6 +66,7 @@ impl Eraser {
         requires open { IsOpen (S.chains store.now) self.now.chain }
         requires passed { IsPassed self.now (items_of (S.chains store.now) self.now.chain) }
         ensures small { IfSome result (λ place. place + 1 < 2 ^ 64) }
+        ensures onward { IfSome result (λ place. looked self.now ≤ place) }
         ensures within { IfSome result (λ place. place < length (items_of (S.chains store.now) self.now.chain)) }
         ensures passed { IfSome result (λ place. list_any (can_be_erased self.now.from self.now.to) (take place (items_of (S.chains store.now) self.now.chain)) ≡ false) }
         ensures here { IfSome result (λ place. (v : Version) → slice_get (items_of (S.chains store.now) self.now.chain) place ≡ Some v → can_be_erased self.now.from self.now.to v ≡ true) }

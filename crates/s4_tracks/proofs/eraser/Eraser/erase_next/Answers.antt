@@ -1,4 +1,4 @@
-use Rattle.std.proofs.Common.{◌≡◌, ◌+◌, List, sym, ◌∙◌, ap, take}
+use Rattle.std.proofs.Common.{◌≡◌, ◌+◌, List, IfNone, length, sym, ◌∙◌, ap, subst, take}
 use Rattle.std.specs.Prelude.{slice_set}
 use Rattle.std.specs.List.{list_any}
 use Rattle.std.specs.FinMap as finmap
@@ -7,7 +7,7 @@ use Rattle.s4_types.specs.declared.version.Version.{Version}
 use Rattle.s4_store.specs.Chains.{items_of}
 use Rattle.s4_store.specs.Laws.{insert_same, items_here}
 use Rattle.s4_tracks.specs.Chain.{erased, is_erasable}
-use Rattle.s4_tracks.proofs.Erasing.{item_at, first_at, with_first_at, passed_at, first_none, with_first_none}
+use Rattle.s4_tracks.proofs.Erasing.{item_at, first_at, with_first_at, passed_at, first_none, with_first_none, is_told}
 use Rattle.s4_tracks.proofs.eraser.Eraser.erase_next.Goals as goal
 
 pub returns-in_default-clause-told : goal.returns-in_default-clause-told
@@ -45,3 +45,9 @@ returns-clause-passed g c =
           ∙ ap (λ k. list_any (is_erasable c.args.self.now.from c.args.self.now.to) (take k after)) (sym (suc-eq-add-one c.in-Some.place))
           ∙ passed_at c.args.self.now.from c.args.self.now.to items c.in-Some.place found.0 found.1 c.in-Some.ensures.passed;
     }
+
+pub returns-clause-ended : goal.returns-clause-ended
+returns-clause-ended g c =
+    let items = items_of (g.S.Store.chains c.args.store.now) c.args.self.now.chain in
+    let found = item_at items c.in-Some.place c.in-Some.ensures.within in
+    subst (λ told. IfNone told (c.in-Some.place + 1 ≡ length items)) (sym (c.erase.ensures.told found.0 found.1)) (is_told c.args.self.now.from c.args.self.now.to _ found.0 (c.in-Some.ensures.here found.0 found.1))
