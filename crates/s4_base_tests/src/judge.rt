@@ -61,28 +61,6 @@ fn what_is_asked_now(rt: HostRuntime) -> Result<(), Fail> {
     Ok(())
 }
 
-#[test]
-fn what_is_denied_now(rt: HostRuntime) -> Result<(), Fail> {
-    for (who, right) in [(7, Right::Read), (9, Right::Control), (8, Right::Delete)] {
-        let denied = Err(Refusal::Denied(right));
-        assert_eq!(rt; asked_now(who, right)?, denied, "{who} {right:?}");
-    }
-    Ok(())
-}
-
-#[test]
-fn what_is_asked_now_of_no_object(rt: HostRuntime) -> Result<(), Fail> {
-    for (who, wanted) in [
-        (0, Refusal::NoObject),
-        (7, Refusal::NoObject),
-        (9, Refusal::Denied(Right::Write)),
-    ] {
-        let judged = judge_now(caller(who)?, &object()?, &None, Right::Write);
-        assert_eq!(rt; judged, Err(wanted));
-    }
-    Ok(())
-}
-
 // What is told of the object's past, where principal 9 has these rights.
 fn asked_of_the_past(who: u32, rights: u8) -> Result<Result<Grant, Refusal>, Fail> {
     let acl = acl(rights)?;
@@ -102,18 +80,6 @@ fn what_is_asked_of_the_past(rt: HostRuntime) -> Result<(), Fail> {
         assert_eq!(rt; asked_of_the_past(0, rights)?, Ok(Grant::Admin));
         let creator = asked_of_the_past(7, rights)?;
         assert_eq!(rt; creator, Err(Refusal::Denied(Right::Read)));
-    }
-    Ok(())
-}
-
-#[test]
-fn what_is_asked_of_the_past_of_no_object(rt: HostRuntime) -> Result<(), Fail> {
-    for (who, wanted) in [
-        (0, Refusal::NoObject),
-        (7, Refusal::NoObject),
-        (9, Refusal::Denied(Right::Read)),
-    ] {
-        assert_eq!(rt; judge_past(caller(who)?, &object()?, &None), Err(wanted));
     }
     Ok(())
 }

@@ -115,34 +115,6 @@ fn end(
 }
 
 #[test]
-fn an_object_is_made(rt: HostRuntime) -> Result<(), Fail> {
-    let alloc = rt.alloc();
-    let mut store: PlainStore<Version> = PlainStore::new(alloc);
-    let mut objects = Objects::new(alloc);
-    let first = object(1)?;
-    make(&rt, alloc, &mut objects, &mut store, &first)?;
-    assert!(rt; objects.is_kept(&first));
-    assert!(rt; !objects.is_kept(&object(2)?));
-    assert_eq!(rt; data(&objects, &store, &first, None), Some((2, None, true)));
-    Ok(())
-}
-
-#[test]
-fn a_value_ends_where_the_next_begins(rt: HostRuntime) -> Result<(), Fail> {
-    let alloc = rt.alloc();
-    let mut store: PlainStore<Version> = PlainStore::new(alloc);
-    let mut objects = Objects::new(alloc);
-    let first = object(1)?;
-    make(&rt, alloc, &mut objects, &mut store, &first)?;
-    change(&rt, alloc, &mut objects, &mut store, &first)?;
-    let now = data(&objects, &store, &first, None);
-    assert_eq!(rt; now, Some((5, None, true)));
-    let past = data(&objects, &store, &first, Some(Moment::new(2)));
-    assert_eq!(rt; past, Some((2, Some(5), true)));
-    Ok(())
-}
-
-#[test]
 fn a_flush_erases_what_is_past_and_refunds_it(rt: HostRuntime) -> Result<(), Fail> {
     let alloc = rt.alloc();
     let mut store: PlainStore<Version> = PlainStore::new(alloc);

@@ -188,19 +188,6 @@ fn copies_of_requests_are_equal(rt: HostRuntime) -> Result<(), Fail> {
     check_request_copy(&rt, Request::Delete { object })
 }
 
-#[test]
-fn copies_of_flushes_are_equal(rt: HostRuntime) -> Result<(), Fail> {
-    let object = last_object()?;
-    let (from, to) = (Moment::new(0), Moment::new(u64::MAX));
-    check_request_copy(&rt, Request::FlushO { object, from, to })?;
-    check_request_copy(&rt, Request::Flush { from, to })?;
-    assert_ne!(rt;
-        Request::Flush { from, to },
-        Request::Flush { from, to: from }
-    );
-    Ok(())
-}
-
 fn check_moment(rt: &impl Abort, request: Request, at: Option<Moment>) {
     assert_eq!(rt; request.at(), at);
 }
@@ -221,16 +208,6 @@ fn moments_that_requests_name(rt: HostRuntime) -> Result<(), Fail> {
         let name = named(b"home")?;
         check_moment(&rt, Request::PMount { purse, name, at }, at);
     }
-    Ok(())
-}
-
-#[test]
-fn requests_that_name_no_moment(rt: HostRuntime) -> Result<(), Fail> {
-    let object = last_object()?;
-    let (from, to) = (Moment::new(0), Moment::new(5));
-    check_moment(&rt, Request::Delete { object }, None);
-    check_moment(&rt, Request::SetWindow { ticks: 5 }, None);
-    check_moment(&rt, Request::Flush { from, to }, None);
     Ok(())
 }
 
@@ -267,20 +244,6 @@ fn purses_that_requests_name(rt: HostRuntime) -> Result<(), Fail> {
     check_purse(&rt, Request::Delete { object }, Some(purse))?;
     check_purse(&rt, Request::FlushO { object, from, to }, Some(purse))?;
     check_purse(&rt, Request::SetBudget { purse, budget }, Some(purse))
-}
-
-#[test]
-fn requests_that_name_no_purse(rt: HostRuntime) -> Result<(), Fail> {
-    let (from, to) = (Moment::new(0), Moment::new(5));
-    let range = Principal::new(7).ok_or("a principal")?;
-    let listed = Request::PList {
-        range,
-        after: None,
-        at: None,
-    };
-    check_purse(&rt, listed, None)?;
-    check_purse(&rt, Request::Flush { from, to }, None)?;
-    check_purse(&rt, Request::SetWindow { ticks: 5 }, None)
 }
 
 fn told(alloc: Global) -> Result<Reply, Fail> {

@@ -6,6 +6,7 @@ use s4_types::{
     Purse, PurseNo, Refusal, Reply, Right, Rights, Serial,
 };
 use std::alloc::Global;
+use std::process::Abort;
 use std::test::Fail;
 
 fn bytes(alloc: Global, text: &[u8]) -> Result<Bytes, Fail> {
@@ -66,77 +67,89 @@ fn is_spelled(alloc: Global, reply: &Reply, body: &[u8]) -> Result<bool, Fail> {
     Ok(write_reply(alloc, reply)?.as_slice() == body && read_reply(alloc, body)? == *reply)
 }
 
+fn check_spelling(rt: &impl Abort, alloc: Global, reply: Reply, body: &[u8]) -> Result<(), Fail> {
+    assert!(rt; is_spelled(alloc, &reply, body)?, "{reply:?}");
+    Ok(())
+}
+
 #[test]
 fn spellings_of_replies(rt: HostRuntime) -> Result<(), Fail> {
     let alloc = rt.alloc();
     let object = object()?;
-    for (reply, body) in [
-        (Reply::Done, b"\x00".as_slice()),
-        (Reply::Made(object), b"\x01\x00\x00\x00\x07\x00\x00\x00\x01"),
-        (
-            Reply::Data {
-                grant: entry(0, 6),
-                bytes: bytes(alloc, b"hello")?,
-            },
-            b"\x02\x01\x00\x00\x00\x00\x00\x00\x00\x00\x06\x00\x05hello",
-        ),
-        (
-            Reply::Attr {
-                grant: Grant::Admin,
-                bytes: bytes(alloc, b"")?,
-            },
-            b"\x03\x00\x00\x00",
-        ),
-        (
-            Reply::Entry {
-                grant: entry(15, 258),
-                index: 15,
-                user: Principal::new(9).ok_or("a principal")?,
-                rights: Rights::all(),
-            },
-            b"\x04\x01\x0f\x00\x00\x00\x00\x00\x00\x01\x02\x0f\x00\x00\x00\x09\x1f",
-        ),
-        (
-            Reply::Mounted {
-                grant: Grant::Admin,
-                object,
-            },
-            b"\x05\x00\x00\x00\x00\x07\x00\x00\x00\x01",
-        ),
-    ] {
-        assert!(rt; is_spelled(alloc, &reply, body)?, "{reply:?}");
-    }
-    Ok(())
+    check_spelling(&rt, alloc, Reply::Done, b"\x00")?;
+    check_spelling(
+        &rt,
+        alloc,
+        Reply::Made(object),
+        b"\x01\x00\x00\x00\x07\x00\x00\x00\x01",
+    )?;
+    check_spelling(
+        &rt,
+        alloc,
+        Reply::Data {
+            grant: entry(0, 6),
+            bytes: bytes(alloc, b"hello")?,
+        },
+        b"\x02\x01\x00\x00\x00\x00\x00\x00\x00\x00\x06\x00\x05hello",
+    )?;
+    check_spelling(
+        &rt,
+        alloc,
+        Reply::Attr {
+            grant: Grant::Admin,
+            bytes: bytes(alloc, b"")?,
+        },
+        b"\x03\x00\x00\x00",
+    )?;
+    check_spelling(
+        &rt,
+        alloc,
+        Reply::Entry {
+            grant: entry(15, 258),
+            index: 15,
+            user: Principal::new(9).ok_or("a principal")?,
+            rights: Rights::all(),
+        },
+        b"\x04\x01\x0f\x00\x00\x00\x00\x00\x00\x01\x02\x0f\x00\x00\x00\x09\x1f",
+    )?;
+    check_spelling(
+        &rt,
+        alloc,
+        Reply::Mounted {
+            grant: Grant::Admin,
+            object,
+        },
+        b"\x05\x00\x00\x00\x00\x07\x00\x00\x00\x01",
+    )
 }
 
 #[test]
 fn spellings_of_pages(rt: HostRuntime) -> Result<(), Fail> {
     let alloc = rt.alloc();
-    for (reply, body) in [
-        (page(alloc, 0)?, b"\x06\x00\x00".as_slice()),
-        (
-            Reply::Names {
-                lines: NameLines::new(vec![in alloc; name_line(entry(1, 3))?]?),
-                more: true,
-            },
-            b"\x06\x01\x04home\x00\x00\x00\x07\x00\x00\x00\x01\
+    check_spelling(&rt, alloc, page(alloc, 0)?, b"\x06\x00\x00")?;
+    check_spelling(
+        &rt,
+        alloc,
+        Reply::Names {
+            lines: NameLines::new(vec![in alloc; name_line(entry(1, 3))?]?),
+            more: true,
+        },
+        b"\x06\x01\x04home\x00\x00\x00\x07\x00\x00\x00\x01\
               \x01\x01\x00\x00\x00\x00\x00\x00\x00\x03\x01",
-        ),
-        (
-            Reply::Audit {
-                lines: AuditLines::new(vec![in alloc;
-                    audit_line(3, false, 1)?,
-                    audit_line(18, true, 0)?,
-                ]?),
-                more: false,
-            },
-            b"\x07\x02\x00\x00\x00\x00\x00\x00\x00\x08\x00\x00\x00\x07\x00\x00\x00\x00\x03\x00\x01\
+    )?;
+    check_spelling(
+        &rt,
+        alloc,
+        Reply::Audit {
+            lines: AuditLines::new(vec![in alloc;
+                audit_line(3, false, 1)?,
+                audit_line(18, true, 0)?,
+            ]?),
+            more: false,
+        },
+        b"\x07\x02\x00\x00\x00\x00\x00\x00\x00\x08\x00\x00\x00\x07\x00\x00\x00\x00\x03\x00\x01\
               \x00\x00\x00\x00\x00\x00\x00\x08\x00\x00\x00\x07\x00\x00\x00\x00\x12\x01\x00\x00",
-        ),
-    ] {
-        assert!(rt; is_spelled(alloc, &reply, body)?, "{reply:?}");
-    }
-    Ok(())
+    )
 }
 
 #[test]

@@ -7,6 +7,7 @@ use s4_types::{
     After, Bytes, Moment, Name, ObjectId, Principal, Purse, PurseNo, Request, Rights, Serial,
 };
 use std::alloc::Global;
+use std::process::Abort;
 use std::test::Fail;
 
 fn bytes(alloc: Global, text: &[u8]) -> Result<Bytes, Fail> {
@@ -39,6 +40,16 @@ fn object() -> Result<ObjectId, Fail> {
 /// That the request is written as this body, and read from it.
 fn is_spelled(alloc: Global, request: &Request, body: &[u8]) -> Result<bool, Fail> {
     Ok(write_request(alloc, request)?.as_slice() == body && read_request(alloc, body)? == *request)
+}
+
+fn check_spelling(
+    rt: &impl Abort,
+    alloc: Global,
+    request: Request,
+    body: &[u8],
+) -> Result<(), Fail> {
+    assert!(rt; is_spelled(alloc, &request, body)?, "{request:?}");
+    Ok(())
 }
 
 #[test]
@@ -74,94 +85,97 @@ fn spellings_of_changes_of_objects(rt: HostRuntime) -> Result<(), Fail> {
     let alloc = rt.alloc();
     let object = object()?;
     let user = principal(9)?;
-    for (request, body) in [
-        (
-            Request::Create {
-                number: PurseNo::new(0).ok_or("a purse")?,
-            },
-            b"\x01\x00".as_slice(),
-        ),
-        (
-            Request::Delete { object },
-            b"\x02\x00\x00\x00\x07\x00\x00\x00\x01",
-        ),
-        (
-            Request::Truncate {
-                object,
-                length: 4096,
-            },
-            b"\x06\x00\x00\x00\x07\x00\x00\x00\x01\x00\x00\x10\x00",
-        ),
-        (
-            Request::SetAcl {
-                object,
-                user,
-                rights: Rights::all(),
-            },
-            b"\x0b\x00\x00\x00\x07\x00\x00\x00\x01\x00\x00\x00\x09\x1f",
-        ),
-    ] {
-        assert!(rt; is_spelled(alloc, &request, body)?, "{request:?}");
-    }
-    Ok(())
+    check_spelling(
+        &rt,
+        alloc,
+        Request::Create {
+            number: PurseNo::new(0).ok_or("a purse")?,
+        },
+        b"\x01\x00",
+    )?;
+    check_spelling(
+        &rt,
+        alloc,
+        Request::Delete { object },
+        b"\x02\x00\x00\x00\x07\x00\x00\x00\x01",
+    )?;
+    check_spelling(
+        &rt,
+        alloc,
+        Request::Truncate {
+            object,
+            length: 4096,
+        },
+        b"\x06\x00\x00\x00\x07\x00\x00\x00\x01\x00\x00\x10\x00",
+    )?;
+    check_spelling(
+        &rt,
+        alloc,
+        Request::SetAcl {
+            object,
+            user,
+            rights: Rights::all(),
+        },
+        b"\x0b\x00\x00\x00\x07\x00\x00\x00\x01\x00\x00\x00\x09\x1f",
+    )
 }
 
 #[test]
 fn spellings_of_changes_that_bring_bytes(rt: HostRuntime) -> Result<(), Fail> {
     let alloc = rt.alloc();
     let object = object()?;
-    for (request, body) in [
-        (
-            Request::Write {
-                object,
-                offset: 0,
-                bytes: bytes(alloc, b"hello")?,
-            },
-            b"\x04\x00\x00\x00\x07\x00\x00\x00\x01\x00\x00\x00\x00\x00\x05hello".as_slice(),
-        ),
-        (
-            Request::Append {
-                object,
-                bytes: bytes(alloc, b"")?,
-            },
-            b"\x05\x00\x00\x00\x07\x00\x00\x00\x01\x00\x00",
-        ),
-        (
-            Request::SetAttr {
-                object,
-                bytes: bytes(alloc, b"a")?,
-            },
-            b"\x08\x00\x00\x00\x07\x00\x00\x00\x01\x00\x01a",
-        ),
-    ] {
-        assert!(rt; is_spelled(alloc, &request, body)?, "{request:?}");
-    }
-    Ok(())
+    check_spelling(
+        &rt,
+        alloc,
+        Request::Write {
+            object,
+            offset: 0,
+            bytes: bytes(alloc, b"hello")?,
+        },
+        b"\x04\x00\x00\x00\x07\x00\x00\x00\x01\x00\x00\x00\x00\x00\x05hello",
+    )?;
+    check_spelling(
+        &rt,
+        alloc,
+        Request::Append {
+            object,
+            bytes: bytes(alloc, b"")?,
+        },
+        b"\x05\x00\x00\x00\x07\x00\x00\x00\x01\x00\x00",
+    )?;
+    check_spelling(
+        &rt,
+        alloc,
+        Request::SetAttr {
+            object,
+            bytes: bytes(alloc, b"a")?,
+        },
+        b"\x08\x00\x00\x00\x07\x00\x00\x00\x01\x00\x01a",
+    )
 }
 
 #[test]
 fn spellings_of_changes_of_names(rt: HostRuntime) -> Result<(), Fail> {
     let alloc = rt.alloc();
     let object = object()?;
-    for (request, body) in [
-        (
-            Request::PCreate {
-                name: named(b"home")?,
-                object,
-            },
-            b"\x0c\x04home\x00\x00\x00\x07\x00\x00\x00\x01".as_slice(),
-        ),
-        (
-            Request::PDelete {
-                purse: purse(7, 15)?,
-                name: named(b"a-0")?,
-            },
-            b"\x0d\x00\x00\x00\x07\x0f\x03a-0",
-        ),
-    ] {
-        assert!(rt; is_spelled(alloc, &request, body)?, "{request:?}");
-    }
-    Ok(())
+    check_spelling(
+        &rt,
+        alloc,
+        Request::PCreate {
+            name: named(b"home")?,
+            object,
+        },
+        b"\x0c\x04home\x00\x00\x00\x07\x00\x00\x00\x01",
+    )?;
+    check_spelling(
+        &rt,
+        alloc,
+        Request::PDelete {
+            purse: purse(7, 15)?,
+            name: named(b"a-0")?,
+        },
+        b"\x0d\x00\x00\x00\x07\x0f\x03a-0",
+    )
 }
 
 #[test]
@@ -169,31 +183,34 @@ fn spellings_of_what_the_administrator_changes(rt: HostRuntime) -> Result<(), Fa
     let alloc = rt.alloc();
     let object = object()?;
     let (from, to) = (Moment::new(5), Moment::new(6));
-    for (request, body) in [
-        (
-            Request::Flush { from, to },
-            b"\x10\x00\x00\x00\x00\x00\x00\x00\x05\x00\x00\x00\x00\x00\x00\x00\x06".as_slice(),
-        ),
-        (
-            Request::FlushO { object, from, to },
-            b"\x11\x00\x00\x00\x07\x00\x00\x00\x01\
+    check_spelling(
+        &rt,
+        alloc,
+        Request::Flush { from, to },
+        b"\x10\x00\x00\x00\x00\x00\x00\x00\x05\x00\x00\x00\x00\x00\x00\x00\x06",
+    )?;
+    check_spelling(
+        &rt,
+        alloc,
+        Request::FlushO { object, from, to },
+        b"\x11\x00\x00\x00\x07\x00\x00\x00\x01\
               \x00\x00\x00\x00\x00\x00\x00\x05\x00\x00\x00\x00\x00\x00\x00\x06",
-        ),
-        (
-            Request::SetWindow { ticks: u64::MAX },
-            b"\x12\xff\xff\xff\xff\xff\xff\xff\xff",
-        ),
-        (
-            Request::SetBudget {
-                purse: purse(4294967294, 1)?,
-                budget: 65536,
-            },
-            b"\x13\xff\xff\xff\xfe\x01\x00\x01\x00\x00",
-        ),
-    ] {
-        assert!(rt; is_spelled(alloc, &request, body)?, "{request:?}");
-    }
-    Ok(())
+    )?;
+    check_spelling(
+        &rt,
+        alloc,
+        Request::SetWindow { ticks: u64::MAX },
+        b"\x12\xff\xff\xff\xff\xff\xff\xff\xff",
+    )?;
+    check_spelling(
+        &rt,
+        alloc,
+        Request::SetBudget {
+            purse: purse(4294967294, 1)?,
+            budget: 65536,
+        },
+        b"\x13\xff\xff\xff\xfe\x01\x00\x01\x00\x00",
+    )
 }
 
 #[test]
@@ -202,40 +219,43 @@ fn spellings_of_reads_of_objects(rt: HostRuntime) -> Result<(), Fail> {
     let object = object()?;
     let at = Some(Moment::new(258));
     let user = principal(9)?;
-    for (request, body) in [
-        (
-            Request::Read {
-                object,
-                offset: 0,
-                length: 5,
-                at: None,
-            },
-            b"\x03\x00\x00\x00\x07\x00\x00\x00\x01\x00\x00\x00\x00\x00\x00\x00\x05\x00".as_slice(),
-        ),
-        (
-            Request::GetAttr { object, at },
-            b"\x07\x00\x00\x00\x07\x00\x00\x00\x01\x01\x00\x00\x00\x00\x00\x00\x01\x02",
-        ),
-        (
-            Request::GetAclByUser {
-                object,
-                user,
-                at: None,
-            },
-            b"\x09\x00\x00\x00\x07\x00\x00\x00\x01\x00\x00\x00\x09\x00",
-        ),
-        (
-            Request::GetAclByIndex {
-                object,
-                index: 255,
-                at: None,
-            },
-            b"\x0a\x00\x00\x00\x07\x00\x00\x00\x01\xff\x00",
-        ),
-    ] {
-        assert!(rt; is_spelled(alloc, &request, body)?, "{request:?}");
-    }
-    Ok(())
+    check_spelling(
+        &rt,
+        alloc,
+        Request::Read {
+            object,
+            offset: 0,
+            length: 5,
+            at: None,
+        },
+        b"\x03\x00\x00\x00\x07\x00\x00\x00\x01\x00\x00\x00\x00\x00\x00\x00\x05\x00",
+    )?;
+    check_spelling(
+        &rt,
+        alloc,
+        Request::GetAttr { object, at },
+        b"\x07\x00\x00\x00\x07\x00\x00\x00\x01\x01\x00\x00\x00\x00\x00\x00\x01\x02",
+    )?;
+    check_spelling(
+        &rt,
+        alloc,
+        Request::GetAclByUser {
+            object,
+            user,
+            at: None,
+        },
+        b"\x09\x00\x00\x00\x07\x00\x00\x00\x01\x00\x00\x00\x09\x00",
+    )?;
+    check_spelling(
+        &rt,
+        alloc,
+        Request::GetAclByIndex {
+            object,
+            index: 255,
+            at: None,
+        },
+        b"\x0a\x00\x00\x00\x07\x00\x00\x00\x01\xff\x00",
+    )
 }
 
 #[test]
@@ -243,38 +263,39 @@ fn spellings_of_reads_of_names(rt: HostRuntime) -> Result<(), Fail> {
     let alloc = rt.alloc();
     let range = principal(9)?;
     let at = Some(Moment::new(258));
-    for (request, body) in [
-        (
-            Request::PList {
-                range,
-                after: None,
-                at,
-            },
-            b"\x0e\x00\x00\x00\x09\x00\x01\x00\x00\x00\x00\x00\x00\x01\x02".as_slice(),
-        ),
-        (
-            Request::PList {
-                range,
-                after: Some(After {
-                    number: PurseNo::new(1).ok_or("a purse")?,
-                    name: named(b"b1")?,
-                }),
-                at: None,
-            },
-            b"\x0e\x00\x00\x00\x09\x01\x01\x02b1\x00",
-        ),
-        (
-            Request::PMount {
-                purse: purse(7, 0)?,
-                name: named(b"home")?,
-                at: None,
-            },
-            b"\x0f\x00\x00\x00\x07\x00\x04home\x00",
-        ),
-    ] {
-        assert!(rt; is_spelled(alloc, &request, body)?, "{request:?}");
-    }
-    Ok(())
+    check_spelling(
+        &rt,
+        alloc,
+        Request::PList {
+            range,
+            after: None,
+            at,
+        },
+        b"\x0e\x00\x00\x00\x09\x00\x01\x00\x00\x00\x00\x00\x00\x01\x02",
+    )?;
+    check_spelling(
+        &rt,
+        alloc,
+        Request::PList {
+            range,
+            after: Some(After {
+                number: PurseNo::new(1).ok_or("a purse")?,
+                name: named(b"b1")?,
+            }),
+            at: None,
+        },
+        b"\x0e\x00\x00\x00\x09\x01\x01\x02b1\x00",
+    )?;
+    check_spelling(
+        &rt,
+        alloc,
+        Request::PMount {
+            purse: purse(7, 0)?,
+            name: named(b"home")?,
+            at: None,
+        },
+        b"\x0f\x00\x00\x00\x07\x00\x04home\x00",
+    )
 }
 
 #[test]
@@ -283,9 +304,12 @@ fn spelling_of_a_read_of_an_audit(rt: HostRuntime) -> Result<(), Fail> {
         range: principal(9)?,
         skip: 2,
     };
-    let body = b"\x14\x00\x00\x00\x09\x00\x00\x00\x02";
-    assert!(rt; is_spelled(rt.alloc(), &request, body)?);
-    Ok(())
+    check_spelling(
+        &rt,
+        rt.alloc(),
+        request,
+        b"\x14\x00\x00\x00\x09\x00\x00\x00\x02",
+    )
 }
 
 #[test]
