@@ -1,6 +1,6 @@
 //! Runs of a hall: the logins come from a file, and the arrivals from standard input.
 
-ghost use Rattle.std.specs.Prelude.{◌≡◌, true, IfErr, IfSome};
+ghost use Rattle.std.specs.Prelude.{◌≡◌, true, false, IfErr, IfSome};
 ghost use Rattle.std.specs.Io.KnownBytes.{Keeps};
 ghost use Rattle.s4_run.specs.Faults.{is_of_line, is_of_logins};
 ghost use Rattle.s4_run.specs.Logins.{IsLogins};
@@ -52,7 +52,15 @@ pub fn run_hall<R: Read + Drop, W: Write>(
     let Some(arrivals) = Arrivals::read(alloc, &text)? else {
         return Ok(());
     };
-    for (conn, bytes) in &arrivals.run(alloc, logins)? {
+    let sent = arrivals.run(alloc, logins)?;
+    write_sent(writer, &sent)
+}
+
+/// Writes a line for each connection.
+fn write_sent<W: Write>(writer: &mut W, sent: &[(u32, Vec<u8>)]) -> Result<(), RunFault>
+    ensures { IfErr result (λ why. is_of_line why ≡ false) }
+{
+    for (conn, bytes) in sent {
         writeln!(writer, "{}", SentText(*conn, bytes)).map_err(RunFault::writing)?;
     }
     writer.flush().map_err(RunFault::writing)
