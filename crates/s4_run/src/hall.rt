@@ -49,11 +49,22 @@ pub fn run_hall<R: Read + Drop, W: Write>(
     ensures nothing_written { IfErr result (λ why. is_of_line why ≡ true → Keeps (W.contents writer.old) (W.contents writer.new)) }
 {
     let text = text::read_text(alloc, &mut reader)?;
-    let Some(arrivals) = Arrivals::read(alloc, &text)? else {
-        return Ok(());
+    match sent_by(alloc, logins, &text)? {
+        Some(sent) => write_sent(writer, &sent),
+        None => Ok(()),
+    }
+}
+
+/// What each connection is sent by the arrivals of a text, or none of an empty one.
+fn sent_by(
+    alloc: Global,
+    logins: Logins,
+    text: &[u8],
+) -> Result<Option<Vec<(u32, Vec<u8>)>>, RunFault> {
+    let Some(arrivals) = Arrivals::read(alloc, text)? else {
+        return Ok(None);
     };
-    let sent = arrivals.run(alloc, logins)?;
-    write_sent(writer, &sent)
+    Ok(Some(arrivals.run(alloc, logins)?))
 }
 
 /// Writes a line for each connection.
