@@ -216,14 +216,12 @@ fn spellings_of_what_the_administrator_changes(rt: HostRuntime) -> Result<(), Fa
 #[test]
 fn spellings_of_reads_of_objects(rt: HostRuntime) -> Result<(), Fail> {
     let alloc = rt.alloc();
-    let object = object()?;
-    let at = Some(Moment::new(258));
     let user = principal(9)?;
     check_spelling(
         &rt,
         alloc,
         Request::Read {
-            object,
+            object: object()?,
             offset: 0,
             length: 5,
             at: None,
@@ -233,14 +231,17 @@ fn spellings_of_reads_of_objects(rt: HostRuntime) -> Result<(), Fail> {
     check_spelling(
         &rt,
         alloc,
-        Request::GetAttr { object, at },
+        Request::GetAttr {
+            object: object()?,
+            at: Some(Moment::new(258)),
+        },
         b"\x07\x00\x00\x00\x07\x00\x00\x00\x01\x01\x00\x00\x00\x00\x00\x00\x01\x02",
     )?;
     check_spelling(
         &rt,
         alloc,
         Request::GetAclByUser {
-            object,
+            object: object()?,
             user,
             at: None,
         },
@@ -250,7 +251,7 @@ fn spellings_of_reads_of_objects(rt: HostRuntime) -> Result<(), Fail> {
         &rt,
         alloc,
         Request::GetAclByIndex {
-            object,
+            object: object()?,
             index: 255,
             at: None,
         },
