@@ -114,45 +114,77 @@ fn end(
     Ok(())
 }
 
-#[test]
-fn a_flush_erases_what_is_past_and_refunds_it(rt: HostRuntime) -> Result<(), Fail> {
-    let alloc = rt.alloc();
-    let mut store: PlainStore<Version> = PlainStore::new(alloc);
-    let mut objects = Objects::new(alloc);
+// Makes and changes an object, and flushes what is past of it.
+fn check_flush(
+    rt: &impl Abort,
+    alloc: Global,
+    objects: &mut Objects,
+    store: &mut PlainStore<Version>,
+) -> Result<(), Fail>
+    requires holds { Holds (chains_of store.old) objects.old }
+    requires ends { ends_in objects.old ≡ [] }
+{
     let first = object(1)?;
-    make(&rt, alloc, &mut objects, &mut store, &first)?;
-    change(&rt, alloc, &mut objects, &mut store, &first)?;
+    make(rt, alloc, objects, store, &first)?;
+    change(rt, alloc, objects, store, &first)?;
     let (from, to) = (Moment::new(0), Moment::new(99));
-    let refunds = objects.flush(alloc, &mut store, from, to)?;
+    let refunds = objects.flush(alloc, store, from, to)?;
     let wanted = [Refund {
         purse: first.purse,
         end: Moment::new(5),
         cost: 64,
     }];
     assert_eq!(rt; refunds.as_slice(), wanted.as_slice());
-    let past = data(&objects, &store, &first, Some(Moment::new(2)));
+    let past = data(objects, store, &first, Some(Moment::new(2)));
     assert_eq!(rt; past, Some((2, Some(5), false)));
-    let again = objects.flush_object(alloc, &mut store, &first, from, to)?;
+    let again = objects.flush_object(alloc, store, &first, from, to)?;
     assert!(rt; again.is_empty());
+    Ok(())
+}
+
+#[test]
+fn a_flush_erases_what_is_past_and_refunds_it(rt: HostRuntime) -> Result<(), Fail> {
+    let alloc = rt.alloc();
+    check_flush(
+        &rt,
+        alloc,
+        &mut Objects::new(alloc),
+        &mut PlainStore::new(alloc),
+    )
+}
+
+// Makes, changes, flushes and ends an object, and frees its values.
+fn check_expiry(
+    rt: &impl Abort,
+    alloc: Global,
+    objects: &mut Objects,
+    store: &mut PlainStore<Version>,
+) -> Result<(), Fail>
+    requires holds { Holds (chains_of store.old) objects.old }
+    requires ends { ends_in objects.old ≡ [] }
+{
+    let first = object(1)?;
+    make(rt, alloc, objects, store, &first)?;
+    change(rt, alloc, objects, store, &first)?;
+    objects.flush(alloc, store, Moment::new(0), Moment::new(99))?;
+    end(rt, objects, store, &first)?;
+    assert_eq!(rt; data(objects, store, &first, None), None);
+    assert_eq!(rt; objects.expire(store, Moment::new(6), 9), 1);
+    assert_eq!(rt; objects.expire(store, Moment::new(7), 2), 2);
+    assert!(rt; objects.is_kept(&first));
+    assert_eq!(rt; objects.expire(store, Moment::new(7), 9), 1);
+    assert!(rt; !objects.is_kept(&first));
+    assert_eq!(rt; store.used(), 0);
     Ok(())
 }
 
 #[test]
 fn an_object_goes_with_its_last_value(rt: HostRuntime) -> Result<(), Fail> {
     let alloc = rt.alloc();
-    let mut store: PlainStore<Version> = PlainStore::new(alloc);
-    let mut objects = Objects::new(alloc);
-    let first = object(1)?;
-    make(&rt, alloc, &mut objects, &mut store, &first)?;
-    change(&rt, alloc, &mut objects, &mut store, &first)?;
-    objects.flush(alloc, &mut store, Moment::new(0), Moment::new(99))?;
-    end(&rt, &mut objects, &mut store, &first)?;
-    assert_eq!(rt; data(&objects, &store, &first, None), None);
-    assert_eq!(rt; objects.expire(&mut store, Moment::new(6), 9), 1);
-    assert_eq!(rt; objects.expire(&mut store, Moment::new(7), 2), 2);
-    assert!(rt; objects.is_kept(&first));
-    assert_eq!(rt; objects.expire(&mut store, Moment::new(7), 9), 1);
-    assert!(rt; !objects.is_kept(&first));
-    assert_eq!(rt; store.used(), 0);
-    Ok(())
+    check_expiry(
+        &rt,
+        alloc,
+        &mut Objects::new(alloc),
+        &mut PlainStore::new(alloc),
+    )
 }

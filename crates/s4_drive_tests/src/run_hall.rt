@@ -8,7 +8,9 @@ use s4_run::{RunFault, open_logins, read_logins, run_hall};
 use s4_session::Logins;
 use std::alloc::Global;
 use std::process::Abort;
+use std::rt::Files;
 use std::test::Fail;
+use std::{fs, process};
 
 fn logins_of(alloc: Global, text: &str) -> Result<Logins, RunFault> {
     let mut bytes = text.as_bytes();
@@ -245,6 +247,32 @@ fn fault_before_a_failing_writer(rt: HostRuntime) -> Result<(), Fail> {
     let outcome = run_hall(alloc, logins, row.arrivals.as_bytes(), &mut writer);
     assert_eq!(rt; outcome, Err(RunFault::BadLine(3)));
     Ok(())
+}
+
+/// That a hall of these logins writes what the row's does.
+fn check_sent<A: Abort>(rt: &A, alloc: Global, logins: Logins, row: &HallRow) -> Result<(), Fail> {
+    let mut output = Vec::new(alloc);
+    run_hall(alloc, logins, row.arrivals.as_bytes(), &mut output)?;
+    assert_eq!(rt; output.as_slice(), row.output.as_bytes());
+    Ok(())
+}
+
+/// That the logins of a row are those of a new file with that path.
+fn check_file<R: Files + Abort + AllocGlobal>(
+    rt: &R,
+    path: &str,
+    row: &HallRow,
+) -> Result<(), Fail> {
+    fs::write(rt, path, row.logins.as_bytes())?;
+    check_sent(rt, rt.alloc(), open_logins(rt, path)?, row)?;
+    Ok(fs::remove_file(rt, path)?)
+}
+
+#[test]
+fn logins_of_a_file(rt: HostRuntime) -> Result<(), Fail> {
+    let id = process::id(rt.process());
+    let path = format!(in rt.alloc(); "/tmp/s4d_logins_of_a_file_{id}")?;
+    check_file(&rt, path.as_str(), &FIRST_STREAM)
 }
 
 #[test]

@@ -1,5 +1,5 @@
 -- Which fault it is.
-use Rattle.std.specs.Prelude.{ℕ, Bool, true, false}
+use Rattle.std.specs.Prelude.{ℕ}
 use Rattle.s4_run.specs.declared.fault.RunFault.{RunFault}
 use Rattle.s4_run.specs.declared.fault.RunFault.TheVariants as fault
 use Rattle.s4_script.specs.declared.error.ParseError.{ParseError}
@@ -22,22 +22,3 @@ fault_of_logins login_fault.NoMemory = fault.NoMemory
 abbrev pub fault_of_logins_file : RunFault → RunFault
 fault_of_logins_file fault.CannotRead = fault.CannotReadLogins
 fault_of_logins_file other = other
-
--- whether the fault is one of logins, or want of memory
-abbrev pub is_of_logins : RunFault → Bool
-is_of_logins (fault.LoginsLine number) = true
-is_of_logins fault.CannotReadLogins = true
-is_of_logins fault.NoMemory = true
-is_of_logins other = false
-
--- whether the fault is one of a line of the input
-abbrev pub is_of_line : RunFault → Bool
-is_of_line (fault.BadLine number) = true
-is_of_line (fault.MomentGoesBack number) = true
-is_of_line other = false
-
--- whether the fault is one of reading the input, or want of memory
-abbrev pub is_of_reading : RunFault → Bool
-is_of_reading fault.CannotRead = true
-is_of_reading fault.NoMemory = true
-is_of_reading other = false

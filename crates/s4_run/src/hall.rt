@@ -1,9 +1,10 @@
 //! Runs of a hall: the logins come from a file, and the arrivals from standard input.
 
-ghost use Rattle.std.specs.Prelude.{◌≡◌, true, false, IfErr, IfSome};
-ghost use Rattle.std.specs.Io.KnownBytes.{Keeps};
-ghost use Rattle.s4_run.specs.Faults.{is_of_line, is_of_logins};
+ghost use Rattle.std.specs.Prelude.{◌≡◌, Err};
+ghost use Rattle.std.specs.Str.{IsUtf8};
+ghost use Rattle.s4_session.specs.LoginText.{table_in};
 ghost use Rattle.s4_run.specs.Logins.{IsLogins};
+ghost use Rattle.s4_run.specs.declared.fault.RunFault.TheVariants as fault;
 
 use crate::arrivals::Arrivals;
 use crate::fault::RunFault;
@@ -16,25 +17,28 @@ use std::io::{Read, Write};
 use std::rt::Files;
 
 /// The logins of the file with that path.
-pub fn open_logins<R: Files + AllocGlobal>(rt: &R, path: &str) -> Result<Logins, RunFault>
-    ensures { IfErr result (λ why. is_of_logins why ≡ true) }
-{
+pub fn open_logins<R: Files + AllocGlobal>(rt: &R, path: &str) -> Result<Logins, RunFault> {
     let file = fs::open(rt, path).map_err(RunFault::reading);
     let mut file = file.map_err(RunFault::of_logins_file)?;
     read_logins(rt.alloc(), &mut file)
 }
 
 /// The logins of a text that the reader gives.
-pub fn read_logins<R: Read>(alloc: Global, reader: &mut R) -> Result<Logins, RunFault>
-    // The table that the reader's bytes say, or the fault of their first bad line.
-    ensures text { IfSome (R.remaining reader.old) (IsLogins result) }
-    ensures fault { IfErr result (λ why. is_of_logins why ≡ true) }
-{
+pub fn read_logins<R: Read>(alloc: Global, reader: &mut R) -> Result<Logins, RunFault> {
     let text = text::read_text(alloc, reader).map_err(RunFault::of_logins_file)?;
-    if std::str::from_utf8(&text).is_err() {
+    logins_in(alloc, &text)
+}
+
+/// The table that a text of logins says, or the fault of its first bad line; `CannotReadLogins`
+/// where the text isn't UTF-8.
+fn logins_in(alloc: Global, text: &[u8]) -> Result<Logins, RunFault>
+    ensures no_text { ¬ (IsUtf8 text.now) → result ≡ Err fault.CannotReadLogins }
+    ensures table { IsUtf8 text.now → IsLogins result (table_in text.now) }
+{
+    if std::str::from_utf8(text).is_err() {
         return Err(RunFault::CannotReadLogins);
     }
-    Logins::read(alloc, &text).map_err(RunFault::logins)
+    Logins::read(alloc, text).map_err(RunFault::logins)
 }
 
 /// Runs arrivals on a fresh hall of these logins, and writes what each connection is sent, by rising
@@ -44,10 +48,7 @@ pub fn run_hall<R: Read + Drop, W: Write>(
     logins: Logins,
     mut reader: R,
     writer: &mut W,
-) -> Result<(), RunFault>
-    // At a fault in a line nothing is written.
-    ensures nothing_written { IfErr result (λ why. is_of_line why ≡ true → Keeps (W.contents writer.old) (W.contents writer.new)) }
-{
+) -> Result<(), RunFault> {
     let text = text::read_text(alloc, &mut reader)?;
     match sent_by(alloc, logins, &text)? {
         Some(sent) => write_sent(writer, &sent),
@@ -68,9 +69,7 @@ fn sent_by(
 }
 
 /// Writes a line for each connection.
-fn write_sent<W: Write>(writer: &mut W, sent: &[(u32, Vec<u8>)]) -> Result<(), RunFault>
-    ensures { IfErr result (λ why. is_of_line why ≡ false) }
-{
+fn write_sent<W: Write>(writer: &mut W, sent: &[(u32, Vec<u8>)]) -> Result<(), RunFault> {
     for (conn, bytes) in sent {
         writeln!(writer, "{}", SentText(*conn, bytes)).map_err(RunFault::writing)?;
     }

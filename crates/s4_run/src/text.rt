@@ -1,8 +1,5 @@
 //! Texts that come in, up to a bound.
 
-ghost use Rattle.std.specs.Prelude.{◌≡◌, ◌≤◌, true, IfOk, IfErr, IfSome, length};
-ghost use Rattle.s4_run.specs.Faults.{is_of_reading};
-
 use crate::fault::RunFault;
 use std::alloc::Global;
 use std::io::Read;
@@ -11,10 +8,7 @@ use std::io::Read;
 const TEXT_LIMIT: u32 = 268435456;
 
 /// All bytes of the reader.
-pub fn read_text<R: Read>(alloc: Global, reader: &mut R) -> Result<Vec<u8>, RunFault>
-    ensures whole { IfOk result (λ text. IfSome (R.remaining reader.old) (λ bytes. text.items ≡ bytes)) }
-    ensures fault { IfErr result (λ why. is_of_reading why ≡ true) }
-{
+pub fn read_text<R: Read>(alloc: Global, reader: &mut R) -> Result<Vec<u8>, RunFault> {
     read_up_to(alloc, reader, TEXT_LIMIT)
 }
 
@@ -22,12 +16,7 @@ pub fn read_text<R: Read>(alloc: Global, reader: &mut R) -> Result<Vec<u8>, RunF
 ///
 /// `CannotRead` where there are more, or the reader fails; `NoMemory` where they don't fit in
 /// memory.
-pub fn read_up_to<R: Read>(alloc: Global, reader: &mut R, limit: u32) -> Result<Vec<u8>, RunFault>
-    // It's all that the reader has left, where that is known.
-    ensures whole { IfOk result (λ text. IfSome (R.remaining reader.old) (λ bytes. text.items ≡ bytes)) }
-    ensures limit { IfOk result (λ text. length text.items ≤ limit) }
-    ensures fault { IfErr result (λ why. is_of_reading why ≡ true) }
-{
+pub fn read_up_to<R: Read>(alloc: Global, reader: &mut R, limit: u32) -> Result<Vec<u8>, RunFault> {
     let mut text = Vec::new(alloc);
     let mut start = reader.take(u64::from(limit) + 1);
     start.read_to_end(&mut text).map_err(RunFault::reading)?;
