@@ -100,9 +100,9 @@ plain-judge_now caller o needed (Some held) =
     plain-either (caller.who == 0) (Ok grant.Admin) (cond owns (Ok grant.Owner) by_entry) refl
     (plain-either owns (Ok grant.Owner) by_entry refl (plain-entry held needed (entry_of caller.who held.acl)))
 
-plain-judge : (h : List Record) (t : ℕ) (caller : Caller) (o : ObjectId) (needed : Right) (at : Option ℕ) → is_plain (judge h t caller o needed at) ≡ true
-plain-judge h t caller o needed None = plain-judge_now caller o needed (held_at o t h)
-plain-judge h t caller o needed (Some m) = plain-judge_past caller o (held_at o m h)
+plain-judge : (base : Base) (h : List Record) (t : ℕ) (caller : Caller) (o : ObjectId) (needed : Right) (at : Option ℕ) → is_plain (judge base h t caller o needed at) ≡ true
+plain-judge base h t caller o needed None = plain-judge_now caller o needed (held_at base o t h)
+plain-judge base h t caller o needed (Some m) = plain-judge_past caller o (held_at base o m h)
 
 -- the outcome is a refusal just if it says so, and none for want of memory
 abbrev is_told : Result Reply Refusal → Bool
@@ -155,58 +155,58 @@ told-flushed from to caller = told-test (nat_lt to from) BadRange (administered 
 told-by-kind : (base : Base) (h : List Record) (t : ℕ) (caller : Caller) (request : Request) → is_told (outcome_by_kind base h t caller request) ≡ true
 told-by-kind base h t caller (Create number) =
     let purse : Purse = record { creator = caller.who; number = number } in
-    told-test (nat_le 65535 (drawn purse h)) NamesSpent (Ok (Made (object_in purse (drawn purse h + 1)))) refl refl
+    told-test (nat_le 65535 (drawn base purse h)) NamesSpent (Ok (Made (object_in purse (drawn base purse h + 1)))) refl refl
 told-by-kind base h t caller (Delete o) =
-    told-then (judge h t caller o right.Delete None) (refuse_if (has_name o t h) Named >> Ok Done) (plain-judge h t caller o right.Delete None)
-    (told-test (has_name o t h) Named (Ok Done) refl refl)
+    told-then (judge base h t caller o right.Delete None) (refuse_if (has_name base o t h) Named >> Ok Done) (plain-judge base h t caller o right.Delete None)
+    (told-test (has_name base o t h) Named (Ok Done) refl refl)
 told-by-kind base h t caller (Read o offset length at) =
-    let gone : Bool = is_gone (value_at data_track o (moment_of t at) h) in
-    let last : Grant → Result Reply Refusal = λ g. Ok (Data g (take length (drop offset (data_of o (moment_of t at) h)))) in
-    told-bind (judge h t caller o right.Read at) (λ g. refuse_if gone Flushed >> last g) (plain-judge h t caller o right.Read at)
+    let gone : Bool = is_gone (value_at base data_track o (moment_of t at) h) in
+    let last : Grant → Result Reply Refusal = λ g. Ok (Data g (take length (drop offset (data_of base o (moment_of t at) h)))) in
+    told-bind (judge base h t caller o right.Read at) (λ g. refuse_if gone Flushed >> last g) (plain-judge base h t caller o right.Read at)
     (λ g. told-test gone Flushed (last g) refl refl)
 told-by-kind base h t caller (Write o offset bytes) =
-    told-test (nat_lt 4096 (offset + length bytes)) TooLong (judge h t caller o right.Write None >> Ok Done) refl
-    (told-then (judge h t caller o right.Write None) (Ok Done) (plain-judge h t caller o right.Write None) refl)
+    told-test (nat_lt 4096 (offset + length bytes)) TooLong (judge base h t caller o right.Write None >> Ok Done) refl
+    (told-then (judge base h t caller o right.Write None) (Ok Done) (plain-judge base h t caller o right.Write None) refl)
 told-by-kind base h t caller (Append o bytes) =
-    told-test (nat_lt 4096 (length bytes)) TooLong (judge h t caller o right.Write None >> (refuse_if (nat_lt 4096 (length (data_of o t h) + length bytes)) TooLong >> Ok Done)) refl
-    (told-then (judge h t caller o right.Write None) (refuse_if (nat_lt 4096 (length (data_of o t h) + length bytes)) TooLong >> Ok Done) (plain-judge h t caller o right.Write None)
-    (told-test (nat_lt 4096 (length (data_of o t h) + length bytes)) TooLong (Ok Done) refl refl))
+    told-test (nat_lt 4096 (length bytes)) TooLong (judge base h t caller o right.Write None >> (refuse_if (nat_lt 4096 (length (data_of base o t h) + length bytes)) TooLong >> Ok Done)) refl
+    (told-then (judge base h t caller o right.Write None) (refuse_if (nat_lt 4096 (length (data_of base o t h) + length bytes)) TooLong >> Ok Done) (plain-judge base h t caller o right.Write None)
+    (told-test (nat_lt 4096 (length (data_of base o t h) + length bytes)) TooLong (Ok Done) refl refl))
 told-by-kind base h t caller (Truncate o length) =
-    told-test (nat_lt 4096 length) TooLong (judge h t caller o right.Write None >> Ok Done) refl
-    (told-then (judge h t caller o right.Write None) (Ok Done) (plain-judge h t caller o right.Write None) refl)
+    told-test (nat_lt 4096 length) TooLong (judge base h t caller o right.Write None >> Ok Done) refl
+    (told-then (judge base h t caller o right.Write None) (Ok Done) (plain-judge base h t caller o right.Write None) refl)
 told-by-kind base h t caller (GetAttr o at) =
-    let gone : Bool = is_gone (value_at attribute_track o (moment_of t at) h) in
-    let last : Grant → Result Reply Refusal = λ g. Ok (Attr g (attributes_of o (moment_of t at) h)) in
-    told-bind (judge h t caller o right.Read at) (λ g. refuse_if gone Flushed >> last g) (plain-judge h t caller o right.Read at)
+    let gone : Bool = is_gone (value_at base attribute_track o (moment_of t at) h) in
+    let last : Grant → Result Reply Refusal = λ g. Ok (Attr g (attributes_of base o (moment_of t at) h)) in
+    told-bind (judge base h t caller o right.Read at) (λ g. refuse_if gone Flushed >> last g) (plain-judge base h t caller o right.Read at)
     (λ g. told-test gone Flushed (last g) refl refl)
 told-by-kind base h t caller (SetAttr o bytes) =
-    told-test (nat_lt 256 (length bytes)) TooLong (judge h t caller o right.Write None >> Ok Done) refl
-    (told-then (judge h t caller o right.Write None) (Ok Done) (plain-judge h t caller o right.Write None) refl)
+    told-test (nat_lt 256 (length bytes)) TooLong (judge base h t caller o right.Write None >> Ok Done) refl
+    (told-then (judge base h t caller o right.Write None) (Ok Done) (plain-judge base h t caller o right.Write None) refl)
 told-by-kind base h t caller (GetAclByUser o user at) =
-    let next : Grant → Result Reply Refusal = λ g. entry_by_user g user (entry_of user (acl_of o (moment_of t at) h)) in
-    told-bind (judge h t caller o right.Read at) next (plain-judge h t caller o right.Read at) (λ g. told-user g user (entry_of user (acl_of o (moment_of t at) h)))
+    let next : Grant → Result Reply Refusal = λ g. entry_by_user g user (entry_of user (acl_of base o (moment_of t at) h)) in
+    told-bind (judge base h t caller o right.Read at) next (plain-judge base h t caller o right.Read at) (λ g. told-user g user (entry_of user (acl_of base o (moment_of t at) h)))
 told-by-kind base h t caller (GetAclByIndex o index at) =
-    let next : Grant → Result Reply Refusal = λ g. entry_by_index g index (slice_get (acl_of o (moment_of t at) h) index) in
-    told-bind (judge h t caller o right.Read at) next (plain-judge h t caller o right.Read at) (λ g. told-index g index (slice_get (acl_of o (moment_of t at) h) index))
+    let next : Grant → Result Reply Refusal = λ g. entry_by_index g index (slice_get (acl_of base o (moment_of t at) h) index) in
+    told-bind (judge base h t caller o right.Read at) next (plain-judge base h t caller o right.Read at) (λ g. told-index g index (slice_get (acl_of base o (moment_of t at) h) index))
 told-by-kind base h t caller (SetAcl o user rights) =
-    told-then (judge h t caller o right.Control None) (settable user rights (acl_of o t h) >> Ok Done) (plain-judge h t caller o right.Control None)
-    (told-then (settable user rights (acl_of o t h)) (Ok Done) (plain-settable user rights (acl_of o t h)) refl)
+    told-then (judge base h t caller o right.Control None) (settable user rights (acl_of base o t h) >> Ok Done) (plain-judge base h t caller o right.Control None)
+    (told-then (settable user rights (acl_of base o t h)) (Ok Done) (plain-settable user rights (acl_of base o t h)) refl)
 told-by-kind base h t caller (PCreate name o) =
-    let taken : Bool = is_some (bound_at o.purse name t h) in
-    let full : Bool = nat_le 64 (bound_count o.purse t h) in
-    told-then (judge h t caller o right.Control None) (refuse_if taken Exists >> (refuse_if full PartsFull >> Ok Done)) (plain-judge h t caller o right.Control None)
+    let taken : Bool = is_some (bound_at base o.purse name t h) in
+    let full : Bool = nat_le 64 (bound_count base o.purse t h) in
+    told-then (judge base h t caller o right.Control None) (refuse_if taken Exists >> (refuse_if full PartsFull >> Ok Done)) (plain-judge base h t caller o right.Control None)
     (told-test taken Exists (refuse_if full PartsFull >> Ok Done) refl (told-test full PartsFull (Ok Done) refl refl))
 told-by-kind base h t caller (PDelete purse name) =
-    let next : ℕ → Result Reply Refusal = λ serial. judge h t caller (object_in purse serial) right.Control None >> Ok Done in
-    told-bind (found_bound caller purse right.Control (bound_at purse name t h)) next (plain-found caller purse right.Control (bound_at purse name t h))
-    (λ serial. told-then (judge h t caller (object_in purse serial) right.Control None) (Ok Done) (plain-judge h t caller (object_in purse serial) right.Control None) refl)
+    let next : ℕ → Result Reply Refusal = λ serial. judge base h t caller (object_in purse serial) right.Control None >> Ok Done in
+    told-bind (found_bound caller purse right.Control (bound_at base purse name t h)) next (plain-found caller purse right.Control (bound_at base purse name t h))
+    (λ serial. told-then (judge base h t caller (object_in purse serial) right.Control None) (Ok Done) (plain-judge base h t caller (object_in purse serial) right.Control None) refl)
 told-by-kind base h t caller (PList range after at) = refl
 told-by-kind base h t caller (PMount purse name at) =
-    let found : Result ℕ Refusal = found_bound caller purse right.Read (bound_at purse name (moment_of t at) h) in
+    let found : Result ℕ Refusal = found_bound caller purse right.Read (bound_at base purse name (moment_of t at) h) in
     let last : ℕ → Grant → Result Reply Refusal = λ serial grant. Ok (Mounted grant (object_in purse serial)) in
-    let next : ℕ → Result Reply Refusal = λ serial. judge h t caller (object_in purse serial) right.Read at >>= last serial in
-    told-bind found next (plain-found caller purse right.Read (bound_at purse name (moment_of t at) h))
-    (λ serial. told-bind (judge h t caller (object_in purse serial) right.Read at) (last serial) (plain-judge h t caller (object_in purse serial) right.Read at) (λ g. refl))
+    let next : ℕ → Result Reply Refusal = λ serial. judge base h t caller (object_in purse serial) right.Read at >>= last serial in
+    told-bind found next (plain-found caller purse right.Read (bound_at base purse name (moment_of t at) h))
+    (λ serial. told-bind (judge base h t caller (object_in purse serial) right.Read at) (last serial) (plain-judge base h t caller (object_in purse serial) right.Read at) (λ g. refl))
 told-by-kind base h t caller (Flush from to) = told-flushed from to caller
 told-by-kind base h t caller (FlushO o from to) = told-flushed from to caller
 told-by-kind base h t caller (SetWindow ticks) = told-administered caller
@@ -215,9 +215,9 @@ told-by-kind base h t caller (ReadAudit range skip) = refl
 
 plain-affordable : (base : Base) (h : List Record) (t : ℕ) (request : Request) (purse : Option Purse) → is_plain (affordable base h t request purse) ≡ true
 plain-affordable base h t request None = refl
-plain-affordable base h t request (Some purse) = of (nat_lt 0 (charge_of h t request) && nat_lt (budget_of purse h) (spent_at base purse h t + charge_of h t request))
+plain-affordable base h t request (Some purse) = of (nat_lt 0 (charge_of base h t request) && nat_lt (budget_of base purse h) (spent_at base purse h t + charge_of base h t request))
   where
-    of : (b : Bool) → is_plain (refuse_if b (OverBudget (spent_at base purse h t) (charge_of h t request) (budget_of purse h))) ≡ true
+    of : (b : Bool) → is_plain (refuse_if b (OverBudget (spent_at base purse h t) (charge_of base h t request) (budget_of base purse h))) ≡ true
     of true = refl
     of false = refl
 

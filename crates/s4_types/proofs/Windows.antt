@@ -1,43 +1,17 @@
--- Which records the horizon depends on, and that it never goes back.
-use Rattle.std.proofs.Common.{◌≡◌, ℕ, ◌≤◌, Bool, true, false, cond, refl, List, [], ◌∷◌, ◌++◌, sym, ◌∙◌, ap, subst, filter, arith}
-use Rattle.std.specs.Prelude.{◌&&◌, ◌||◌}
+-- The horizon never goes back.
+use Rattle.std.proofs.Common.{◌≡◌, ℕ, ◌≤◌, cond, List, [], ◌∷◌, ◌++◌, sym, subst, arith}
 use Rattle.std.proofs.lemmas.List.Sums.{fold-append}
 use Rattle.s4_types.specs.declared.request.Request.{Request}
 use Rattle.s4_types.specs.declared.request.Request.TheVariants.{Create, Delete, Read, Write, Append, Truncate, GetAttr, SetAttr, GetAclByUser, GetAclByIndex, SetAcl, PCreate, PDelete, PList, PMount, Flush, FlushO, SetWindow, SetBudget, ReadAudit}
 use Rattle.s4_types.specs.declared.record.Record.{Record}
 use Rattle.s4_types.specs.Base.{Base}
-use Rattle.s4_types.specs.declared.object.Purse.{Purse}
-use Rattle.s4_types.specs.Applied.{AgreeOn}
-use Rattle.s4_types.specs.Kinds.{is_accepted, is_wide, is_about, concerns, concerns_all}
+use Rattle.s4_types.specs.Kinds.{concerns_all}
 use Rattle.s4_types.specs.Horizon.{Guarded, horizon_of, windowed, windowed_by, guarded_after, guarded_at, horizon_at}
 use Rattle.s4_types.proofs.Booleans.{by_test}
-use Rattle.s4_types.proofs.OfPurse.{fold-filter}
-
-guarded-filter : (base : Base) (h : List Record) → guarded_at base (filter concerns_all h) ≡ guarded_at base h
-guarded-filter base h = fold-filter concerns_all guarded_after (λ guarded r e. ap (λ b. cond b (windowed_by r.moment r.request guarded) guarded) e) (record { window = base.window; floor = 0 }) h
-
-pub horizon_at-agree : (base : Base) (t : ℕ) (h k : List Record) → filter concerns_all h ≡ filter concerns_all k → horizon_at base h t ≡ horizon_at base k t
-horizon_at-agree base t h k e = ap (λ g. horizon_of g t) (sym (guarded-filter base h) ∙ ap (guarded_at base) e ∙ guarded-filter base k)
-
--- whatever concerns all purses concerns each of them
-all_or_one : (accepted wide about : Bool) → (accepted && (wide || about)) ≡ false → (wide && accepted) ≡ false
-all_or_one true true about e = cc
-all_or_one true false about e = refl
-all_or_one false true about e = refl
-all_or_one false false about e = refl
-
-guarded-in-purse : (base : Base) (purse : Purse) (h : List Record) → guarded_at base (filter (concerns purse) h) ≡ guarded_at base h
-guarded-in-purse base purse h = fold-filter (concerns purse) guarded_after
-    (λ guarded r e. ap (λ b. cond b (windowed_by r.moment r.request guarded) guarded) (all_or_one (is_accepted r) (is_wide r.caller r.request) (is_about purse r.caller r.request) e))
-    (record { window = base.window; floor = 0 }) h
-
--- so the records of one purse tell the horizon
-pub horizon_at-of-purse : (base : Base) (purse : Purse) (t : ℕ) (h k : List Record) → AgreeOn purse h k → horizon_at base h t ≡ horizon_at base k t
-horizon_at-of-purse base purse t h k e = ap (λ g. horizon_of g t) (sym (guarded-in-purse base purse h) ∙ ap (guarded_at base) e ∙ guarded-in-purse base purse k)
 
 -- the record after the others
 pub guarded-snoc : (base : Base) (h : List Record) (r : Record) → guarded_at base (h ++ r ∷ []) ≡ guarded_after (guarded_at base h) r
-guarded-snoc base h r = fold-append guarded_after (record { window = base.window; floor = 0 }) h (r ∷ [])
+guarded-snoc base h r = fold-append guarded_after (record { window = base.window; floor = base.floor }) h (r ∷ [])
 
 later-still : (g : Guarded) (t u : ℕ) → t ≤ u → horizon_of g t ≤ horizon_of g u
 later-still g t u e = omega (arith, e)

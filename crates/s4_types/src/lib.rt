@@ -5,7 +5,6 @@
 mod acl;
 mod audit;
 mod bytes;
-mod laws;
 mod memory;
 mod moment;
 mod name;
@@ -20,11 +19,6 @@ mod version;
 pub use acl::{Acl, AclEntry};
 pub use audit::{AuditLine, AuditLines, AuditPage};
 pub use bytes::Bytes;
-pub use laws::{
-    flushes_erase_the_past_alone, horizons_depend_on_wide_changes, horizons_never_go_back,
-    purses_depend_on_their_records, spending_depends_on_its_purse, strangers_change_nothing,
-    the_past_stays, values_are_applied_in_order,
-};
 pub use memory::NoMemory;
 pub use moment::Moment;
 pub use name::Name;

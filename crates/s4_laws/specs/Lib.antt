@@ -1,0 +1,6 @@
+pub mod Agree
+pub mod Bases
+pub mod Applied
+pub mod InForce
+pub mod Later
+pub mod Kept
