@@ -260,6 +260,16 @@ later_all horizon c (k ∷ cs) later above = (omega (arith, ends_by c k above.0)
 pub lasting-from : (horizon : ℕ) (c : Charge) (counts : List (Charge × ℕ)) → horizon < c.end → AllByRecursion (λ k. is_gt (charge_cmp c k) ≡ false) (keys_of counts) → lasting horizon (charges_of counts) ≡ charges_of counts
 lasting-from horizon c counts later above = lasting-later horizon counts (later_all horizon c (keys_of counts) later above)
 
+-- what holds of all holds of each
+all_has : (P : Charge → Type 0) (cs : List Charge) → AllByRecursion P cs → (c : Charge) → Contains cs c → P c
+all_has P [] all c has = absurd (omega (arith, has.1))
+all_has P (k ∷ cs) all c (zero, within, here) = subst P here all.0
+all_has P (k ∷ cs) all c (suc i, within, here) = all_has P cs all.1 c (i, omega arith, here)
+
+-- and where the first charge lasts, no place is of one that has ended
+pub places-later : (horizon : ℕ) (first : Charge) (cs : List Charge) → horizon < first.end → AllByRecursion (λ k. is_gt (charge_cmp first k) ≡ false) cs → (c : Charge) → Contains cs c → horizon < c.end
+places-later horizon first cs later above = all_has (λ k. horizon < k.end) cs (later_all horizon first cs later above)
+
 less_all : (c : Charge) (cs : List Charge) → AllByRecursion (λ k. charge_cmp c k ≡ Less) cs → AllByRecursion (λ k. is_gt (charge_cmp c k) ≡ false) cs
 less_all c [] above = _
 less_all c (k ∷ cs) above = (ap is_gt above.0, less_all c cs above.1)

@@ -57,6 +57,7 @@ impl Accounts {
     /// Opens an account for the purse, if it has none.
     pub fn open(&mut self, purse: &Purse) -> Result<(), NoMemory>
         ensures ok { OnOk result (has_budget purse.now (budgets_of self.new) ≡ true) }
+        ensures there { has_budget purse.now (budgets_of self.old) ≡ true → IsOk result }
         ensures still { (p : Purse) → has_budget p (budgets_of self.old) ≡ true → has_budget p (budgets_of self.new) ≡ true }
         ensures same { (p : Purse) → account_of p self.new ≡ account_of p self.old }
     {

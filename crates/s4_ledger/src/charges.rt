@@ -1,6 +1,6 @@
 //! How often each charge counts.
 
-ghost use Rattle.std.specs.Prelude.{◌≡◌, ◌+◌, ◌<◌, ◌≤◌, ◌^◌, ◌↔◌, [], ◌∷◌, Contains, OnOk, IfSome, IfNone, IsTrue};
+ghost use Rattle.std.specs.Prelude.{◌≡◌, ◌+◌, ◌<◌, ◌≤◌, ◌^◌, ◌↔◌, [], ◌∷◌, Contains, OnOk, IsOk, IfSome, IfNone, IsTrue};
 ghost use Rattle.std.specs.List.Sorted.{IsPermutation};
 ghost use Rattle.std.specs.Map.{keys_of};
 ghost use Rattle.s4_ledger.specs.declared.charge.Charge.{Charge};
@@ -45,6 +45,7 @@ impl Charges {
     /// Makes a place for the charge, if it has none.
     pub fn reserve(&mut self, charge: &Charge) -> Result<(), NoMemory>
         ensures ok { OnOk result (Contains (keys_of self.new) charge.now) }
+        ensures there { Contains (keys_of self.old) charge.now → IsOk result }
         ensures still { (c : Charge) → Contains (keys_of self.old) c → Contains (keys_of self.new) c }
         ensures fresh { (c : Charge) → Contains (keys_of self.new) c → Contains (charge.now ∷ keys_of self.old) c }
         ensures charges { charges_of self.new ≡ charges_of self.old }
@@ -94,6 +95,7 @@ impl Charges {
         ensures ended { IfSome result (λ e. e.0.end ≤ horizon) }
         ensures none { IfNone result (self.new ≡ self.old) }
         ensures lasting { IfNone result (lasting horizon (charges_of self.old) ≡ charges_of self.old) }
+        ensures above { IfNone result ((c : Charge) → Contains (keys_of self.old) c → horizon < c.end) }
     {
         let (first, _) = self.counts.first_key_value()?;
         if first.end > horizon {

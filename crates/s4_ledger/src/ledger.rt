@@ -63,9 +63,10 @@ impl Ledger {
     }
 
     /// Makes a place for charges of this purse, end and cost. Where memory is refused, nothing changes
-    /// that counts.
+    /// that counts; where there is such a place already, none is needed.
     pub fn reserve(&mut self, purse: &Purse, end: Moment, cost: u32) -> Result<(), NoMemory>
         ensures ok { OnOk result (Contains self.new.places (record { purse = purse.now; end = end; cost = cost })) }
+        ensures there { Contains self.old.places (record { purse = purse.now; end = end; cost = cost }) → IsOk result }
         ensures places { (c : Charge) → Contains self.old.places c → Contains self.new.places c }
         ensures horizon { self.new.horizon ≡ self.old.horizon }
         ensures charges { self.new.charges ≡ self.old.charges }
@@ -80,13 +81,15 @@ impl Ledger {
         })
     }
 
-    /// The charges whose end is at most the horizon no longer count. Takes no memory.
+    /// The charges whose end is at most the horizon no longer count, and their places are given up.
+    /// Takes no memory.
     pub fn advance(&mut self, horizon: Moment)
         requires { self.old.horizon ≤ horizon }
         ensures charges { self.new.charges ≡ lasting horizon self.old.charges }
         ensures horizon { self.new.horizon ≡ horizon }
         ensures budgets { self.new.budgets ≡ self.old.budgets }
         ensures places { (c : Charge) → horizon < c.end → Contains self.old.places c → Contains self.new.places c }
+        ensures gone { (c : Charge) → Contains self.new.places c → horizon < c.end }
     {
         while let Some((charge, count)) = self.charges.take_ended(horizon) {
             self.accounts.subtract(&charge.purse, count * charge.cost);
@@ -197,7 +200,9 @@ impl Ledger {
     /// no memory then.
     pub fn reserve_budget(&mut self, purse: &Purse) -> Result<(), NoMemory>
         ensures ok { OnOk result (has_budget purse.now self.new.budgets ≡ true) }
+        ensures there { has_budget purse.now self.old.budgets ≡ true → IsOk result }
         ensures budgets { (p : Purse) → budget_of p self.new.budgets ≡ budget_of p self.old.budgets }
+        ensures accounts { (p : Purse) → has_budget p self.old.budgets ≡ true → has_budget p self.new.budgets ≡ true }
         ensures horizon { self.new.horizon ≡ self.old.horizon }
         ensures charges { self.new.charges ≡ self.old.charges }
         ensures places { self.new.places ≡ self.old.places }
@@ -213,6 +218,7 @@ impl Ledger {
         ensures ok { OnOk result ((p : Purse) → budget_of p self.new.budgets
             ≡ (if same_purse purse.now p then budget else budget_of p self.old.budgets)) }
         ensures err { OnErr result (self.new.budgets ≡ self.old.budgets) }
+        ensures accounts { (p : Purse) → has_budget p self.old.budgets ≡ true → has_budget p self.new.budgets ≡ true }
         ensures horizon { self.new.horizon ≡ self.old.horizon }
         ensures charges { self.new.charges ≡ self.old.charges }
         ensures places { self.new.places ≡ self.old.places }

@@ -1,6 +1,6 @@
 //! How many serials each purse has drawn.
 
-ghost use Rattle.std.specs.Prelude.{◌≡◌, ◌≢◌, ◌+◌, ◌<◌, ◌↔◌, OnOk, OnErr, IfOk, IsErrOf, if◌then◌else◌};
+ghost use Rattle.std.specs.Prelude.{◌≡◌, ◌≢◌, ◌+◌, ◌<◌, ◌↔◌, OnOk, OnErr, IsOk, IfOk, IfSome, IsNone, IsErrOf, if◌then◌else◌};
 ghost use Rattle.s4_types.specs.declared.object.Purse.{Purse};
 ghost use Rattle.s4_types.specs.Names.{same_purse, object_in};
 ghost use Rattle.s4_names.specs.declared.names.DrawError.TheVariants as draw_error;
@@ -60,10 +60,24 @@ impl Names {
         self.drawn.get(purse).copied().unwrap_or(0)
     }
 
-    /// Makes room for the purse's next serial.
+    /// The object that the purse's next serial names, where one is left to draw.
+    pub fn next_object(&self, purse: &Purse) -> Option<ObjectId>
+        ensures some { IfSome result (λ o. o ≡ object_in purse.now (drawn_in self.now purse.now + 1)) }
+        ensures none { IsNone result ↔ (drawn_in self.now purse.now ≡ 65535) }
+    {
+        let serial = self.drawn(purse).checked_add(1).and_then(Serial::new)?;
+        Some(ObjectId {
+            purse: *purse,
+            serial,
+        })
+    }
+
+    /// Makes room for the purse's next serial. Where there is room already it takes no memory.
     pub fn reserve(&mut self, purse: &Purse) -> Result<(), NoMemory>
         ensures drawn { (p : Purse) → drawn_in self.new p ≡ drawn_in self.old p }
         ensures room { OnOk result (HasRoom self.new purse.now) }
+        ensures there { HasRoom self.old purse.now → IsOk result }
+        ensures still { (p : Purse) → HasRoom self.old p → HasRoom self.new p }
     {
         if self.drawn.contains_key(purse) {
             return Ok(());
@@ -81,18 +95,10 @@ impl Names {
         ensures err { OnErr result ((p : Purse) → drawn_in self.new p ≡ drawn_in self.old p) }
         ensures spent { IsErrOf result DrawError.NamesSpent ↔ (drawn_in self.old purse.now ≡ 65535) }
         ensures room { HasRoom self.old purse.now → result ≢ Err DrawError.NoMemory }
+        ensures still { (p : Purse) → HasRoom self.old p → HasRoom self.new p }
     {
-        let drawn = self.drawn(purse);
-        if drawn == u16::MAX {
-            return Err(DrawError::NamesSpent);
-        }
-        let Some(serial) = Serial::new(drawn + 1) else {
-            return Err(DrawError::NamesSpent);
-        };
-        self.drawn.insert(*purse, drawn + 1)?;
-        Ok(ObjectId {
-            purse: *purse,
-            serial,
-        })
+        let object = self.next_object(purse).ok_or(DrawError::NamesSpent)?;
+        self.drawn.insert(*purse, object.serial.number())?;
+        Ok(object)
     }
 }

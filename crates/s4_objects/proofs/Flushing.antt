@@ -13,7 +13,7 @@ use Rattle.s4_types.specs.Spending.{sum_to}
 use Rattle.s4_types.proofs.Booleans.{by_test, both, not_both, &&-false}
 use Rattle.s4_types.proofs.SameNames.{object_is, object_self, purse_is}
 use Rattle.s4_store.specs.Counts.{item_count-more}
-use Rattle.s4_store.specs.Chains.{Chains, items_of, StillOpen, item_count}
+use Rattle.s4_store.specs.Chains.{Chains, items_of, IsOpen, StillOpen, item_count}
 use Rattle.s4_store.specs.Laws.{items_here, items_elsewhere, insert_twice, StillOpen-insert}
 use Rattle.s4_tracks.specs.declared.eraser.Eraser.{Eraser}
 use Rattle.s4_tracks.specs.Chain.{is_within, erased, flushed_one, flushed, is_erasable, told, first_told, with_first_erased}
@@ -25,6 +25,7 @@ use Rattle.s4_objects.specs.declared.flushes.Refund.{Refund}
 use Rattle.s4_objects.specs.Chains.{chain_of, held, Chained}
 use Rattle.s4_objects.specs.Flushes.{flushed_on, past_weight, track_weight, refunded, refund_to, refunds_of, erasable_count, Flushes}
 use Rattle.s4_objects.proofs.Counting.{count_next, told_count, told_none}
+use Rattle.s4_objects.proofs.Standing.{open_before}
 use Rattle.s4_objects.proofs.Weighing.{refunded_other, refunded_track, refunded_both, sums_alike, sum_less}
 
 pub turned : (a b : ℕ) → (a == b) ≡ false → (b == a) ≡ false
@@ -100,6 +101,11 @@ module _ (m a b : Chains Version) (d t from to : ℕ) (apart : (t == d) ≡ fals
     pub others_after : (c : ℕ) → (c == d) ≡ false → (c == t) ≡ false → items_of b c ≡ items_of m c
     others_after c e f = ap (λ x. items_of x c) second ∙ items_elsewhere a t c (flushed from to (items_of a t)) f ∙ ap (λ x. items_of x c) first ∙ items_elsewhere m d c (flushed from to (items_of m d)) e
 
+    pub none_opened : IsOpen m d → IsOpen m t → StillOpen b m
+    none_opened od ot c opened =
+        let mid : StillOpen m a = StillOpen-insert m a d (flushed from to (items_of m d)) first in
+        open_before m a d (flushed from to (items_of m d)) first od c (open_before a b t (flushed from to (items_of a t)) second (mid t ot) c opened)
+
     pub both_open : StillOpen m b
     both_open c opened = StillOpen-insert a b t (flushed from to (items_of a t)) second c (StillOpen-insert m a d (flushed from to (items_of m d)) first c opened)
 
@@ -133,6 +139,7 @@ module _ {found : ObjectId → Option Kept} (from to : ℕ) where
     tracks = λ o w. refl;
     others = λ c foreign. refl;
     still = λ c opened. opened;
+    unopened = λ c opened. opened;
     used = refl;
     weights = λ weight p n high. omega arith;
   }
@@ -143,6 +150,7 @@ module _ {found : ObjectId → Option Kept} (from to : ℕ) where
     tracks = λ o w. f.tracks o w ∙ of o w (found o) refl;
     others = f.others;
     still = f.still;
+    unopened = f.unopened;
     used = f.used;
     weights = f.weights;
   }
@@ -161,6 +169,7 @@ module _ {found : ObjectId → Option Kept} (from to : ℕ) where
     tracks = λ o w. h.tracks o w ∙ join (asked o) (more o) w (held m (found o) w) (held a (found o) w) (f.tracks o w);
     others = λ c foreign. h.others c foreign ∙ f.others c foreign;
     still = λ c opened. h.still c (f.still c opened);
+    unopened = λ c opened. f.unopened c (h.unopened c opened);
     used = h.used ∙ f.used;
     weights = λ weight p n high.
         let first : sum_to n (λ s. past_weight weight a (found (object_in p s))) + refunded weight p rs ≡ sum_to n (λ s. past_weight weight m (found (object_in p s))) = f.weights weight p n high in
@@ -180,7 +189,7 @@ module _ {found : ObjectId → Option Kept} (from to : ℕ) where
       (data' : items_of new k.data.chain ≡ flushed from to (items_of m k.data.chain))
       (attributes : items_of new k.attributes.chain ≡ flushed from to (items_of m k.attributes.chain))
       (others : (d : ℕ) → (d == k.data.chain) ≡ false → (d == k.attributes.chain) ≡ false → items_of new d ≡ items_of m d)
-      (still : StillOpen m new) (used : item_count new ≡ item_count m) where
+      (still : StillOpen m new) (unopened : StillOpen new m) (used : item_count new ≡ item_count m) where
     -- chains of other tracks are other chains
     chain-apart : (q : ObjectId) (l : Kept) (w u : Which) → found q ≡ Some l → ((o ≡ q) × (w ≡ u) → ⊥) → (chain_of u l == chain_of w k) ≡ false
     chain-apart q l w u got other = by_test (chain_of u l == chain_of w k) (λ e. absurd (other (c.apart o q k l w u kept got (sym (eqb-true (chain_of u l) (chain_of w k) e))))) (λ e. e)
@@ -265,6 +274,7 @@ module _ {found : ObjectId → Option Kept} (from to : ℕ) where
       tracks = one-tracks;
       others = λ d foreign. others d (foreign o k which.Data kept) (foreign o k which.Attributes kept);
       still = still;
+      unopened = unopened;
       used = used;
       weights = one-weights;
     }

@@ -22,10 +22,10 @@ use Rattle.s4_objects.specs.Chains.{same_which, chain_of, held, Chained}
 use Rattle.s4_objects.specs.Ends.{is_of, ends_of, all_ends, all_by, IsRising, HasEnds, is_any}
 use Rattle.s4_objects.specs.Flushes.{flushed_on, Flushes}
 use Rattle.s4_objects.specs.Opening.{Begins, first_on, IsHollow, without}
-use Rattle.s4_objects.specs.Table.{holds_any, HoldsFor, SparesOthers, Frees}
+use Rattle.s4_objects.specs.Table.{holds_any, HoldsFor, SparesOthers, LeavesNone, Frees}
 use Rattle.s4_objects.proofs.Flushing.{flushed_chained}
-use Rattle.s4_objects.proofs.Opening.{items_without, open_without}
-use Rattle.s4_objects.proofs.Standing.{which_self, which_is, chained_still, held_now}
+use Rattle.s4_objects.proofs.Opening.{items_without, open_without, open_within}
+use Rattle.s4_objects.proofs.Standing.{which_self, which_is, open_before, chained_still, held_now}
 use Rattle.s4_objects.proofs.Queueing.{rising_more, all_ends_more, ends_more, flushed_has, flushed_any, freed_has, freed_any, freed_swept, none_wait}
 
 same-kept : (k l : Kept) → Some k ≡ Some l → k ≡ l
@@ -53,6 +53,13 @@ spares_then s t = record {
   foreign = λ x o u. t.foreign x (s.still x o u) (s.foreign x o u);
 }
 
+-- neither leaves a chain behind
+pub leaves_none : (m : Chains Version) (found : ObjectId → Option Kept) → LeavesNone m m found found
+leaves_none m found c o u = (o, u)
+
+pub leaves_then : {a b c : Chains Version} {f g h : ObjectId → Option Kept} → LeavesNone a b f g → LeavesNone b c g h → LeavesNone a c f h
+leaves_then s t x o u = let mid = t x o u in s x mid.0 mid.1
+
 -- ONE CHAIN IS CHANGED
 
 module _ {chains new : Chains Version} {found : ObjectId → Option Kept} (c : Chained chains found) (o : ObjectId) (k : Kept) (kept : found o ≡ Some k) (w : Which) (f : List Version → List Version)
@@ -73,6 +80,9 @@ module _ {chains new : Chains Version} {found : ObjectId → Option Kept} (c : C
     items = λ x opened u. ap (λ m. items_of m x) changed ∙ items_elsewhere chains (chain_of w k) x (f (items_of chains (chain_of w k))) (u o k w kept);
     foreign = λ x opened u. u;
   }
+
+  pub leaves_by : LeavesNone chains new found found
+  leaves_by x opened u = (open_before chains new (chain_of w k) (f (items_of chains (chain_of w k))) changed (c.opened o k w kept) x opened, u)
 
   -- what was held on a track is still there, where the change leaves something
   any-by : is_any (f (items_of chains (chain_of w k))) ≡ true → (q : ObjectId) (l : Kept) → found q ≡ Some l → holds_any chains l ≡ true → holds_any new l ≡ true
@@ -141,6 +151,10 @@ module _ {chains new : Chains Version} {found : ObjectId → Option Kept} {queue
   pub holds_either : {A E : Type 0} (asked : ObjectId → Bool) (told : A → List Refund) (r : Result A E) → IfOk r (λ rs. Flushes chains new found asked from to (told rs)) → OnErr r (new ≡ chains) → HoldsFor new found queue
   holds_either asked told (Ok rs) f e = holds_flushed f
   holds_either asked told (Err x) f e = subst (λ m. HoldsFor m found queue) (sym e) h
+
+  pub leaves_either : {A E : Type 0} (asked : ObjectId → Bool) (told : A → List Refund) (r : Result A E) → IfOk r (λ rs. Flushes chains new found asked from to (told rs)) → OnErr r (new ≡ chains) → LeavesNone chains new found found
+  leaves_either asked told (Ok rs) f e c o u = (f.unopened c o, u)
+  leaves_either asked told (Err x) f e c o u = (subst (λ m. IsOpen m c) e o, u)
 
 -- AN OBJECT IS MADE
 
@@ -217,6 +231,17 @@ module _ {chains new : Chains Version} {found found' : ObjectId → Option Kept}
         (λ e. u q l w (sym (there q e) ∙ got));
   }
 
+  pub leaves_made : LeavesNone chains new found found'
+  leaves_made c opened u = (
+    b.only c opened (λ w. u o k w (here o (object_self o))),
+    λ q l w got. by_test (same_object o q)
+        (λ e. absurd (differ l (sym fresh ∙ ap found (object_is o q e) ∙ got)))
+        (λ e. u q l w (there q e ∙ got)),
+  )
+    where
+      differ : (l : Kept) → None ≡ Some l → ⊥
+      differ l e = cc
+
 -- A VALUE IS FREED
 
 nothing : (vs : List Version) → is_any vs ≡ false → vs ≡ []
@@ -288,6 +313,15 @@ module _ {mid : Chains Version} {found : ObjectId → Option Kept} (c : Chained 
       foreign = λ x opened u q l w got. u q l w (gone_kept q l got);
     }
 
+    pub gone_leaves : LeavesNone mid new found found'
+    gone_leaves x opened u =
+        let within = open_within mid k x (subst (λ m. IsOpen m x) closed opened) in (
+          within.1,
+          λ q l w got. by_test (same_object o q)
+              (λ e. subst (λ y. (x == chain_of w y) ≡ false) (same-kept k l (sym kept ∙ ap found (object_is o q e) ∙ got)) (within.0 w))
+              (λ e. u q l w (gone-there q e ∙ got)),
+        )
+
     gone-none : (l : Kept) → found' o ≡ Some l → ⊥
     gone-none l got = differ (sym (gone-here o (object_self o)) ∙ got)
       where
@@ -302,6 +336,7 @@ module _ {mid : Chains Version} {found : ObjectId → Option Kept} (c : Chained 
       kept = gone_kept;
       living = λ l got. absurd (gone-none l got);
       others = spares_then (spares_by before o k kept w (drop 1) changed) gone_spares;
+      leaves = leaves_then (leaves_by before o k kept w (drop 1) changed) gone_leaves;
     }
 
 -- some value is left
@@ -312,6 +347,7 @@ frees_one {chains} {new} c o k kept w changed some = record {
   kept = λ q l got. got;
   living = λ l got. subst (λ x. holds_any new x ≡ true) (same-kept k l (sym kept ∙ got)) some;
   others = spares_by c o k kept w (drop 1) changed;
+  leaves = leaves_by c o k kept w (drop 1) changed;
 }
 
 -- the value whose end waits first

@@ -7,3 +7,4 @@ pub mod Standing
 pub mod Queueing
 pub mod Holding
 pub mod Using
+pub mod Fitting

@@ -1,6 +1,6 @@
 -- The chains of a new object.
-use Rattle.std.proofs.Common.{◌≡◌, ℕ, false, List, [], ◌∷◌, ◌++◌, refl, sym, ◌∙◌, ap, subst}
-use Rattle.std.specs.Prelude.{◌==◌}
+use Rattle.std.proofs.Common.{◌≡◌, ℕ, false, cond, None, List, [], ◌∷◌, ◌++◌, refl, sym, ◌∙◌, ap, subst}
+use Rattle.std.specs.Prelude.{◌==◌, is_some}
 use Rattle.std.specs.FinMap as finmap
 use Rattle.std.proofs.lemmas.Bool.{eqb-true, eq-eqb}
 use Rattle.s4_types.specs.declared.acl.AclEntry.{AclEntry}
@@ -9,7 +9,7 @@ use Rattle.s4_types.specs.declared.version.Item.TheVariants as item
 use Rattle.s4_types.specs.Acl.{first_acl}
 use Rattle.s4_types.proofs.Booleans.{by_test, not_both}
 use Rattle.s4_store.specs.Chains.{Chains, items_of, IsOpen}
-use Rattle.s4_store.specs.Laws.{items_here, open_here, items_elsewhere, open_still, fresh_differs, remove-insert, open_elsewhere-remove, items_elsewhere-remove}
+use Rattle.s4_store.specs.Laws.{get-remove, get_elsewhere, get_elsewhere-remove, fresh_is_closed, items_here, open_here, items_elsewhere, open_still, fresh_differs, remove-insert, open_elsewhere-remove, items_elsewhere-remove}
 use Rattle.s4_tracks.specs.Chain.{begun}
 use Rattle.s4_objects.specs.declared.kept.Which.{Which}
 use Rattle.s4_objects.specs.declared.kept.Which.TheVariants as which
@@ -19,6 +19,15 @@ use Rattle.s4_objects.specs.Opening.{Opens, Begins, first_on, IsHollow, without}
 
 turned : (a b : ℕ) → (a == b) ≡ false → (b == a) ≡ false
 turned a b e = by_test (b == a) (λ f. absurd (not_both _ (eq-eqb a b (sym (eqb-true b a f))) e)) (λ f. f)
+
+-- a change of one chain opens no other, nor does closing one
+before_insert : (m : Chains Version) (c d : ℕ) (xs : List Version) → (d == c) ≡ false → IsOpen (finmap.insert m c xs) d → IsOpen m d
+before_insert m c d xs e o = record { is_open = ap is_some (sym (get_elsewhere m c d xs e)) ∙ o.is_open }
+
+before_remove : (m : Chains Version) (c d : ℕ) → IsOpen (finmap.remove m c) d → ((d == c) ≡ false) × IsOpen m d
+before_remove m c d o = by_test (d == c)
+    (λ e. absurd (fresh_is_closed (finmap.remove m c) d (get-remove m c d ∙ ap (λ b. cond b None (finmap.get m d)) e) o))
+    (λ e. (e, record { is_open = ap is_some (sym (get_elsewhere-remove m c d e)) ∙ o.is_open }))
 
 module _ {chains new : Chains Version} {k : Kept} (p : Opens chains new k) where
   one : Chains Version
@@ -65,6 +74,11 @@ module _ {chains new : Chains Version} {k : Kept} (p : Opens chains new k) where
 
   pub old_open : (c : ℕ) → IsOpen chains c → IsOpen new c
   old_open c o = subst (λ m. IsOpen m c) (sym p.two.opened) (open_still _ k.acl.chain c [] (open_still _ k.attributes.chain c [] (open_still chains k.data.chain c [] o)))
+
+  -- a chain that is open and none of them was open
+  was_open : (c : ℕ) → IsOpen new c → ((w : Which) → (c == chain_of w k) ≡ false) → IsOpen chains c
+  was_open c o apart = before_insert chains k.data.chain c [] (apart which.Data) (before_insert _ k.attributes.chain c [] (apart which.Attributes)
+      (before_insert _ k.acl.chain c [] (apart which.Acl) (subst (λ m. IsOpen m c) p.two.opened o)))
 
   old_items : (c : ℕ) → IsOpen chains c → items_of new c ≡ items_of chains c
   old_items c o = ap (λ m. items_of m c) p.two.opened ∙ items_elsewhere _ k.acl.chain c [] (isnt_new which.Acl c o)
@@ -117,7 +131,12 @@ module _ {chains new : Chains Version} {k : Kept} (p : Opens chains new k) where
       opened = λ w. still (chain_of w k) (new_open w);
       others = λ d o. through d (isnt_new which.Data d o) (isnt_new which.Attributes d o) (isnt_new which.Acl d o) ∙ old_items d o;
       still = λ d o. still d (old_open d o);
+      only = λ d o apart. was_open d (begun-only d o apart) apart;
     }
+      where
+        begun-only : (d : ℕ) → IsOpen c d → ((w : Which) → (d == chain_of w k) ≡ false) → IsOpen new d
+        begun-only d o apart = before_insert new k.data.chain d _ (apart which.Data) (subst (λ m. IsOpen m d) e (before_insert a k.attributes.chain d _ (apart which.Attributes)
+            (subst (λ m. IsOpen m d) f (before_insert b k.acl.chain d _ (apart which.Acl) (subst (λ m. IsOpen m d) g o)))))
 
 -- CHAINS THAT HOLD NOTHING ARE CLOSED
 
@@ -158,6 +177,19 @@ module _ {chains : Chains Version} {k : Kept} (h : IsHollow chains k) where
       pub data_empty : items_of n k.data.chain ≡ []
       data_empty = ap (λ x. items_of x k.data.chain) second ∙ items_elsewhere-remove m k.attributes.chain k.data.chain data-attributes
           ∙ ap (λ x. items_of x k.data.chain) first ∙ items_elsewhere-remove chains k.acl.chain k.data.chain data-acl ∙ h.empty which.Data
+
+-- a chain that is open still is none of those that were closed, and was open
+pub open_within : (chains : Chains Version) (k : Kept) (c : ℕ) → IsOpen (without k chains) c → ((w : Which) → (c == chain_of w k) ≡ false) × IsOpen chains c
+open_within chains k c o =
+    let third = before_remove (finmap.remove (finmap.remove chains k.acl.chain) k.attributes.chain) k.data.chain c o in
+    let second = before_remove (finmap.remove chains k.acl.chain) k.attributes.chain c third.1 in
+    let first = before_remove chains k.acl.chain c second.1 in
+    (apart third.0 second.0 first.0, first.1)
+  where
+    apart : (c == k.data.chain) ≡ false → (c == k.attributes.chain) ≡ false → (c == k.acl.chain) ≡ false → (w : Which) → (c == chain_of w k) ≡ false
+    apart d a l which.Data = d
+    apart d a l which.Attributes = a
+    apart d a l which.Acl = l
 
 -- what a chain holds that is none of those that were closed
 module _ (chains : Chains Version) (k : Kept) (c : ℕ) (apart : (w : Which) → (c == chain_of w k) ≡ false) where

@@ -1,6 +1,6 @@
 -- What is held once one chain was changed.
-use Rattle.std.proofs.Common.{◌≡◌, true, false, Option, Some, None, List, refl, sym, ◌∙◌, ap, subst}
-use Rattle.std.specs.Prelude.{◌&&◌, ◌==◌, if◌then◌else◌}
+use Rattle.std.proofs.Common.{◌≡◌, ℕ, true, false, Option, Some, None, List, refl, sym, ◌∙◌, ap, subst}
+use Rattle.std.specs.Prelude.{◌&&◌, ◌==◌, is_some, if◌then◌else◌}
 use Rattle.std.specs.FinMap as finmap
 use Rattle.std.proofs.lemmas.Bool.{eqb-true}
 use Rattle.s4_types.specs.declared.object.ObjectId.{ObjectId}
@@ -8,8 +8,8 @@ use Rattle.s4_types.specs.declared.version.Version.{Version}
 use Rattle.s4_types.specs.Names.{same_object}
 use Rattle.s4_types.proofs.Booleans.{by_test, both, not_both}
 use Rattle.s4_types.proofs.SameNames.{object_is, object_self}
-use Rattle.s4_store.specs.Chains.{Chains, items_of}
-use Rattle.s4_store.specs.Laws.{items_here, items_elsewhere, StillOpen-insert}
+use Rattle.s4_store.specs.Chains.{Chains, items_of, IsOpen, StillOpen}
+use Rattle.s4_store.specs.Laws.{get_elsewhere, items_here, items_elsewhere, StillOpen-insert}
 use Rattle.s4_objects.specs.declared.kept.Which.{Which}
 use Rattle.s4_objects.specs.declared.kept.Which.TheVariants as which
 use Rattle.s4_objects.specs.declared.kept.Kept.{Kept}
@@ -30,6 +30,12 @@ which_is which.Attributes which.Data e = cc
 which_is which.Attributes which.Acl e = cc
 which_is which.Acl which.Data e = cc
 which_is which.Acl which.Attributes e = cc
+
+-- a change of an open chain opens none
+pub open_before : (m n : Chains Version) (c : ℕ) (xs : List Version) → n ≡ finmap.insert m c xs → IsOpen m c → StillOpen n m
+open_before m n c xs changed opened d o = by_test (d == c)
+    (λ e. subst (IsOpen m) (sym (eqb-true d c e)) opened)
+    (λ e. let now : IsOpen (finmap.insert m c xs) d = subst (λ x. IsOpen x d) changed o in record { is_open = ap is_some (sym (get_elsewhere m c d xs e)) ∙ now.is_open })
 
 -- the chains of the objects that are kept, once one chain was changed
 module _ {chains new : Chains Version} {found : ObjectId → Option Kept} (c : Chained chains found) (o : ObjectId) (k : Kept) (kept : found o ≡ Some k) (w : Which) (xs : List Version) (changed : new ≡ finmap.insert chains (chain_of w k) xs) where

@@ -75,6 +75,8 @@ pub record Flushes (before after : Chains Version) (found : ObjectId → Option 
   -- a chain that is none of an object's
   pub others : (c : ℕ) → ((o : ObjectId) (k : Kept) (w : Which) → found o ≡ Some k → (c == chain_of w k) ≡ false) → items_of after c ≡ items_of before c
   pub still : StillOpen before after
+  -- no chain was opened
+  pub unopened : StillOpen after before
   -- an erased value is held still
   pub used : item_count after ≡ item_count before
   -- what a purse's past weighs less is what is refunded

@@ -36,6 +36,8 @@ pub record Begins (old new : Chains Version) (k : Kept) (m creator : ℕ) : Type
   pub opened : (w : Which) → IsOpen new (chain_of w k)
   pub others : (c : ℕ) → IsOpen old c → items_of new c ≡ items_of old c
   pub still : StillOpen old new
+  -- no other chain was opened
+  pub only : (c : ℕ) → IsOpen new c → ((w : Which) → (c == chain_of w k) ≡ false) → IsOpen old c
 
 -- the tracks' chains are open, hold nothing, and are three
 pub record IsHollow (chains : Chains Version) (k : Kept) : Type 0 where

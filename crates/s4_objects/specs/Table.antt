@@ -68,6 +68,13 @@ pub record SparesOthers (old new : Chains Version) (before after : ObjectId → 
 abbrev pub KeepsOthers : Chains Version → Chains Version → Objects → Objects → Type 0
 KeepsOthers old new before after = SparesOthers old new (found_in before) (found_in after)
 
+-- a chain that is open then and no track's was open before, and no track's: so no chain is left behind
+abbrev pub LeavesNone : Chains Version → Chains Version → (ObjectId → Option Kept) → (ObjectId → Option Kept) → Type 0
+LeavesNone old new before after = (c : ℕ) → IsOpen new c → IsUnused after c → IsOpen old c × IsUnused before c
+
+abbrev pub LeavesNoChain : Chains Version → Chains Version → Objects → Objects → Type 0
+LeavesNoChain old new before after = LeavesNone old new (found_in before) (found_in after)
+
 -- WHAT FREEING A VALUE DOES
 
 -- the oldest value of a track is gone, and an object without values too
@@ -77,3 +84,5 @@ pub record Frees (old new : Chains Version) (before after : ObjectId → Option 
   pub kept : (q : ObjectId) (k : Kept) → after q ≡ Some k → before q ≡ Some k
   pub living : (k : Kept) → after o ≡ Some k → holds_any new k ≡ true
   pub others : SparesOthers old new before after
+  -- so the chains of an object that goes are closed
+  pub leaves : LeavesNone old new before after

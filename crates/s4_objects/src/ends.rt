@@ -1,6 +1,7 @@
 //! The ends of past values, in the order in which they came.
 
-ghost use Rattle.std.specs.Prelude.{◌≡◌, ◌∷◌, IfSome, IfNone, true, false, take};
+ghost use Rattle.std.specs.Prelude.{◌≡◌, ◌+◌, ◌-◌, ◌∷◌, IfSome, IfNone, OnSome, true, false, take};
+ghost use Rattle.std.specs.VecDeque.{deque_len, deque_capacity};
 ghost use Rattle.std.specs.List.{list_any};
 ghost use Rattle.s4_objects.specs.Ends.{is_gone, all_ends};
 
@@ -22,6 +23,8 @@ pub fn take_gone(ends: &mut VecDeque<Ended>, horizon: Moment) -> Option<Ended>
     ensures gone { IfSome result (λ e. is_gone horizon e.end ≡ true) }
     ensures none { IfNone result (list_any (is_gone horizon) (take 1 (all_ends ends.old.items)) ≡ false) }
     ensures same { IfNone result (ends.new.items ≡ ends.old.items) }
+    ensures room { OnSome result (deque_capacity ends.new - deque_len ends.new ≡ deque_capacity ends.old - deque_len ends.old + 1) }
+    ensures same_room { IfNone result (deque_capacity ends.new - deque_len ends.new ≡ deque_capacity ends.old - deque_len ends.old) }
 {
     if begins_gone(ends, horizon) {
         ends.pop_front()
@@ -35,7 +38,7 @@ fn begins_gone(ends: &VecDeque<Ended>, horizon: Moment) -> bool
     ensures { result ≡ list_any (is_gone horizon) (take 1 (all_ends ends.now.items)) }
 {
     match ends.front() {
-        Some(ended) => ended.end.tick() <= horizon.tick(),
+        Some(ended) => ended.end <= horizon,
         None => false,
     }
 }

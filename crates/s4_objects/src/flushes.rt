@@ -14,7 +14,7 @@ use crate::kept::Kept;
 use s4_store::Store;
 use s4_tracks::{Eraser, Track};
 use s4_types::{Moment, NoMemory, ObjectId, Purse, Version};
-use std::alloc::{AllocError, Global};
+use std::alloc::Global;
 use std::collections::BTreeMap;
 
 /// What a flush takes back of a purse's charges: those for one value, which had that end and that
@@ -41,7 +41,7 @@ pub fn flush<S: Store<Version>>(
     ensures err { OnErr result (S.chains store.new ≡ S.chains store.old) }
     ensures room { S.room store.new ≡ S.room store.old }
 {
-    let count = count_all(store, objects, from, to)?;
+    let count = count_all(store, objects, from, to);
     let mut refunds = Vec::with_capacity(alloc, count)?;
     for (object, kept) in objects {
         flush_kept(store, &object.purse, kept, from, to, &mut refunds);
@@ -68,7 +68,7 @@ pub fn flush_object<S: Store<Version>>(
     let Some(kept) = objects.get(object) else {
         return Ok(Vec::new(alloc));
     };
-    let count = count_kept(store, kept, from, to)?;
+    let count = count_kept(store, kept, from, to);
     let mut refunds = Vec::with_capacity(alloc, count)?;
     flush_kept(store, &object.purse, kept, from, to, &mut refunds);
     Ok(refunds)
@@ -80,39 +80,39 @@ fn count_all<S: Store<Version>>(
     objects: &BTreeMap<ObjectId, Kept>,
     from: Moment,
     to: Moment,
-) -> Result<usize, NoMemory>
+) -> usize
     requires { Chained (S.chains store.now) (get object_cmp objects.now) }
-    ensures { IfOk result (λ count. count ≡ erasable_in (S.chains store.now) from to objects.now.entries) }
+    ensures { result ≡ erasable_in (S.chains store.now) from to objects.now.entries }
 {
     let mut count: usize = 0;
     for (_, kept) in objects {
-        let more = count_kept(store, kept, from, to)?;
-        count = added(count, more)?;
+        let more = count_kept(store, kept, from, to);
+        count = added(store, count, more);
     }
-    Ok(count)
+    count
 }
 
 // How many values of one object a flush erases.
-fn count_kept<S: Store<Version>>(
-    store: &S,
-    kept: &Kept,
-    from: Moment,
-    to: Moment,
-) -> Result<usize, NoMemory>
+fn count_kept<S: Store<Version>>(store: &S, kept: &Kept, from: Moment, to: Moment) -> usize
     requires data { IsOpen (S.chains store.now) kept.now.data.chain }
     requires attributes { IsOpen (S.chains store.now) kept.now.attributes.chain }
-    ensures { IfOk result (λ count. count ≡ erasable_count (S.chains store.now) from to kept.now) }
+    requires apart { (kept.now.attributes.chain == kept.now.data.chain) ≡ false }
+    ensures { result ≡ erasable_count (S.chains store.now) from to kept.now }
 {
     let data = count_track(store, kept.data, from, to);
     let attributes = count_track(store, kept.attributes, from, to);
-    added(data, attributes)
+    added(store, data, attributes)
 }
 
-// The sum of two counts. No memory holds as many as are above the greatest number.
-fn added(a: usize, b: usize) -> Result<usize, NoMemory>
-    ensures { IfOk result (λ sum. sum ≡ a + b) }
+// The sum of two counts of values that the store holds. The store counts all that it holds, so no
+// such sum is too great.
+fn added<S: Store<Version>>(store: &S, a: usize, b: usize) -> usize
+    requires { a + b ≤ item_count (S.chains store.now) }
+    ensures { result ≡ a + b }
 {
-    a.checked_add(b).ok_or(AllocError)
+    let held = store.used();
+    prove!(a <= held && b <= held - a);
+    a + b
 }
 
 // How many values of one track a flush erases.
@@ -136,7 +136,7 @@ fn is_erasable(version: &Version, from: Moment, to: Moment) -> bool
     let Some(end) = version.end else {
         return false;
     };
-    from.tick() <= version.begin.tick() && end.tick() <= to.tick() && version.item.is_some()
+    from <= version.begin && end <= to && version.item.is_some()
 }
 
 // Flushes one object, and adds the refunds in room that was reserved. Takes no memory.
@@ -156,6 +156,7 @@ fn flush_kept<S: Store<Version>>(
     ensures attributes { items_of (S.chains store.new) kept.now.attributes.chain ≡ flushed from to (items_of (S.chains store.old) kept.now.attributes.chain) }
     ensures others { (c : ℕ) → (c == kept.now.data.chain) ≡ false → (c == kept.now.attributes.chain) ≡ false → items_of (S.chains store.new) c ≡ items_of (S.chains store.old) c }
     ensures still { StillOpen (S.chains store.old) (S.chains store.new) }
+    ensures unopened { StillOpen (S.chains store.new) (S.chains store.old) }
     ensures used { item_count (S.chains store.new) ≡ item_count (S.chains store.old) }
     ensures refunds { refunds.new.items ≡ refunds.old.items ++ (refunds_of purse.now from to (items_of (S.chains store.old) kept.now.data.chain) ++ refunds_of purse.now from to (items_of (S.chains store.old) kept.now.attributes.chain)) }
     ensures capacity { vec_capacity refunds.new ≡ vec_capacity refunds.old }

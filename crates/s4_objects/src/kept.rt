@@ -4,7 +4,7 @@ ghost use Rattle.std.specs.Prelude.{◌≡◌};
 
 use s4_tracks::Track;
 
-/// One of the tracks of an object.
+/// An object has a track for its data, one for its attributes and one for its ACL.
 #[derive(Clone, Copy, Debug, PartialEq, Eq)]
 pub enum Which {
     Data,
@@ -12,7 +12,7 @@ pub enum Which {
     Acl,
 }
 
-/// The tracks of an object.
+/// The tracks of an object that is kept, each on a chain of its own.
 #[derive(Clone, Copy, Debug, PartialEq, Eq)]
 pub struct Kept {
     pub data: Track,

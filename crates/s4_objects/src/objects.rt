@@ -16,7 +16,7 @@ ghost use Rattle.s4_objects.specs.Keys.{object_cmp};
 ghost use Rattle.s4_objects.specs.Ends.{is_gone, all_by};
 ghost use Rattle.s4_objects.specs.Opening.{first_on};
 ghost use Rattle.s4_objects.specs.Flushes.{Flushes};
-ghost use Rattle.s4_objects.specs.Table.{found_in, kept_in, held_in, ends_in, room_in, Holds, KeepsOthers};
+ghost use Rattle.s4_objects.specs.Table.{found_in, kept_in, held_in, ends_in, room_in, Holds, KeepsOthers, LeavesNoChain};
 
 use crate::begin::{begin, close, open};
 use crate::ends::{Ended, take_gone};
@@ -54,6 +54,7 @@ impl Objects {
     /// Makes room for so many ends. Room in the store is reserved apart.
     pub fn reserve(&mut self, ends: usize) -> Result<(), NoMemory>
         ensures room { OnOk result (ends ≤ room_in self.new) }
+        ensures grown { room_in self.old ≤ room_in self.new }
         ensures kept { (o : ObjectId) → found_in self.new o ≡ found_in self.old o }
         ensures ends { ends_in self.new ≡ ends_in self.old }
         ensures holds { (chains : Chains Version) → Holds chains self.old → Holds chains self.new }
@@ -79,6 +80,8 @@ impl Objects {
             ≡ (if same_object object.now o then first_on w moment object.now.purse.creator ∷ [] else held_in (S.chains store.old) self.old o w)) }
         ensures ends { ends_in self.new ≡ ends_in self.old }
         ensures others { KeepsOthers (S.chains store.old) (S.chains store.new) self.old self.new }
+        ensures leaves { LeavesNoChain (S.chains store.old) (S.chains store.new) self.old self.new }
+        ensures room { room_in self.new ≡ room_in self.old }
         ensures used { OnOk result (item_count (S.chains store.new) ≡ item_count (S.chains store.old) + 3) }
         ensures store_room { OnOk result (S.room store.new + 3 ≡ S.room store.old) }
         ensures refused { OnErr result (S.chains store.new ≡ S.chains store.old) }
@@ -146,7 +149,9 @@ impl Objects {
             ≡ (if same_object object.now o && same_which which w then with_put moment item (held_in (S.chains store.old) self.old o w) else held_in (S.chains store.old) self.old o w) }
         ensures ends { ends_in self.new ≡ ends_in self.old ++ moment ∷ [] }
         ensures by_now { all_by moment (ends_in self.new) ≡ true }
+        ensures room { room_in self.new + 1 ≡ room_in self.old }
         ensures others { KeepsOthers (S.chains store.old) (S.chains store.new) self.old self.new }
+        ensures leaves { LeavesNoChain (S.chains store.old) (S.chains store.new) self.old self.new }
         ensures used { item_count (S.chains store.new) ≡ item_count (S.chains store.old) + 1 }
         ensures store_room { S.room store.new + 1 ≡ S.room store.old }
     {
@@ -172,7 +177,9 @@ impl Objects {
             ≡ (if same_object object.now o then with_end moment (held_in (S.chains store.old) self.old o w) else held_in (S.chains store.old) self.old o w) }
         ensures ends { ends_in self.new ≡ ends_in self.old ++ moment ∷ moment ∷ moment ∷ [] }
         ensures by_now { all_by moment (ends_in self.new) ≡ true }
+        ensures room { room_in self.new + 3 ≡ room_in self.old }
         ensures others { KeepsOthers (S.chains store.old) (S.chains store.new) self.old self.new }
+        ensures leaves { LeavesNoChain (S.chains store.old) (S.chains store.new) self.old self.new }
         ensures used { item_count (S.chains store.new) ≡ item_count (S.chains store.old) }
         ensures store_room { S.room store.new ≡ S.room store.old }
     {
@@ -201,6 +208,7 @@ impl Objects {
         ensures by_now { all_by moment (ends_in self.new) ≡ true }
         ensures room { room_in self.new + 1 ≡ room_in self.old }
         ensures others { KeepsOthers (S.chains store.old) (S.chains store.new) self.old self.new }
+        ensures leaves { LeavesNoChain (S.chains store.old) (S.chains store.new) self.old self.new }
         ensures used { item_count (S.chains store.new) ≡ item_count (S.chains store.old) }
         ensures store_room { S.room store.new ≡ S.room store.old }
     {
@@ -227,6 +235,7 @@ impl Objects {
         ensures ok { IfOk result (λ refunds. Flushes (S.chains store.old) (S.chains store.new) (found_in self.now) (λ o. true) from to refunds.items) }
         ensures err { OnErr result (S.chains store.new ≡ S.chains store.old) }
         ensures holds { Holds (S.chains store.new) self.now }
+        ensures leaves { LeavesNoChain (S.chains store.old) (S.chains store.new) self.now self.now }
         ensures room { S.room store.new ≡ S.room store.old }
     {
         flushes::flush(alloc, store, &self.kept, from, to)
@@ -247,6 +256,7 @@ impl Objects {
         ensures ok { IfOk result (λ refunds. Flushes (S.chains store.old) (S.chains store.new) (found_in self.now) (same_object object.now) from to refunds.items) }
         ensures err { OnErr result (S.chains store.new ≡ S.chains store.old) }
         ensures holds { Holds (S.chains store.new) self.now }
+        ensures leaves { LeavesNoChain (S.chains store.old) (S.chains store.new) self.now self.now }
         ensures room { S.room store.new ≡ S.room store.old }
     {
         flushes::flush_object(alloc, store, &self.kept, object, from, to)
@@ -264,10 +274,13 @@ impl Objects {
         ensures held { (o : ObjectId) (w : Which) → IsSwept horizon (held_in (S.chains store.new) self.new o w) (held_in (S.chains store.old) self.old o w) }
         ensures kept { (o : ObjectId) → kept_in self.new o ≡ true → kept_in self.old o ≡ true }
         ensures holds { Holds (S.chains store.new) self.new }
+        ensures room { room_in self.new ≡ room_in self.old + result }
         ensures others { KeepsOthers (S.chains store.old) (S.chains store.new) self.old self.new }
+        ensures leaves { LeavesNoChain (S.chains store.old) (S.chains store.new) self.old self.new }
         ensures used { item_count (S.chains store.new) + result ≡ item_count (S.chains store.old) }
         ensures store_room { S.room store.new ≡ S.room store.old + result }
     {
+        // Ends wait as values ended, each track's in its chain's order: the first is its oldest's.
         for freed in 0..most {
             let Some(ended) = take_gone(&mut self.ends, horizon) else {
                 return freed;

@@ -15,7 +15,7 @@ use Rattle.s4_tracks.specs.Swept.{IsSwept}
 use Rattle.s4_tracks.proofs.Sweeping.{swept_none, swept_through, swept_current}
 use Rattle.s4_parts.specs.declared.ends.Ended.{Ended}
 use Rattle.s4_parts.specs.declared.parts.Parts.{Parts}
-use Rattle.s4_parts.specs.Table.{shelf_of, names_on, chain_at, bindings_in, names_in, is_any, object_of, serial_now, IsForeign, KeepsForeign}
+use Rattle.s4_parts.specs.Table.{shelf_of, names_on, chain_at, bindings_in, names_in, is_any, object_of, serial_now, IsForeign, KeepsForeign, LeavesNoChain}
 use Rattle.s4_parts.specs.Waiting.{is_of, ends_of, is_gone, IsRising, HasEnds, waiting_in, bound_in, Waits, Sweeps}
 use Rattle.s4_parts.proofs.Queueing.{freed-has, freed-any, freed-swept}
 use Rattle.s4_parts.proofs.Freeing.{filter-filter, any-drop}
@@ -28,6 +28,7 @@ sweeps-none hz chains parts = record {
   names = λ p. sym (filter-filter (λ n. is_any (bindings_in chains parts p n)) (λ n. is_any (bindings_in chains parts p n)) (λ n e. e) (names_on (shelf_of parts p)));
   own = λ p n c got. got;
   others = record { still = λ c open' foreign. open'; items = λ c open' foreign. refl };
+  leaves = λ c open' foreign. (open', foreign);
   used = omega arith;
 }
 
@@ -83,8 +84,8 @@ module _ (hz : ℕ) {chains : Chains Version} {before : Parts} (new : Chains Ver
   pub sweeps-more : (first : Chains Version) (start : Parts) (k : ℕ) (s : Sweeps hz first chains start before k)
       → ((q : Purse) → names_in new after q ≡ filter (λ m. is_any (bindings_in new after q m)) (names_in chains before q))
       → ((q : Purse) (m : List ℕ) (c : ℕ) → chain_at after q m ≡ Some c → chain_at before q m ≡ Some c)
-      → KeepsForeign chains new before → item_count new + 1 ≡ item_count chains → Sweeps hz first new start after (k + 1)
-  sweeps-more first start k s names own others used = record {
+      → KeepsForeign chains new before → LeavesNoChain chains new before after → item_count new + 1 ≡ item_count chains → Sweeps hz first new start after (k + 1)
+  sweeps-more first start k s names own others leaves used = record {
     waiting = ap (drop 1) (sym is) ∙ ap (drop 1) s.waiting ∙ drop-drop 1 k (waiting_in start);
     bindings = λ q m. swept_through hz (bindings_in new after q m) (bindings_in chains before q m) (bindings_in first start q m) (swept-one q m) (s.bindings q m);
     names = λ q. names q ∙ ap (filter (λ m. is_any (bindings_in new after q m))) (s.names q)
@@ -94,6 +95,7 @@ module _ (hz : ℕ) {chains : Chains Version} {before : Parts} (new : Chains Ver
       still = λ c open' foreign. others.still c (s.others.still c open' foreign) (still-foreign c foreign);
       items = λ c open' foreign. others.items c (s.others.still c open' foreign) (still-foreign c foreign) ∙ s.others.items c open' foreign;
     };
+    leaves = λ c open' foreign. let was = leaves c open' foreign in s.leaves c was.0 was.1;
     used = let before' = s.used in omega arith;
   }
     where

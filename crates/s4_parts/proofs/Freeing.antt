@@ -7,7 +7,7 @@ use Rattle.std.specs.Ordering.{is_eq}
 use Rattle.std.specs.Option.{option_map}
 use Rattle.std.specs.FinMap as finmap
 use Rattle.std.specs.BTreeMap.{get, keys}
-use Rattle.std.proofs.lemmas.Bool.{eqb-true}
+use Rattle.std.proofs.lemmas.Bool.{eqb-true, eq-eqb}
 use Rattle.std.proofs.lemmas.List.Sums.{length-filter}
 use Rattle.s4_types.specs.declared.object.Purse.{Purse}
 use Rattle.s4_types.specs.declared.version.Version.{Version}
@@ -19,10 +19,11 @@ use Rattle.s4_store.specs.Chains.{Chains, items_of, IsOpen}
 use Rattle.s4_store.specs.Laws.{items_here, items_elsewhere, open_still, items_elsewhere-remove, open_elsewhere-remove}
 use Rattle.s4_parts.specs.declared.parts.Parts.{Parts}
 use Rattle.s4_parts.specs.declared.shelf.Shelf.{Shelf}
-use Rattle.s4_parts.specs.Table.{shelf_of, chain_at, chain_on, names_on, serials_on, items_on, bindings_in, names_in, is_any, serial_now, passes, HoldsFor, Holds, IsForeign, KeepsForeign}
+use Rattle.s4_parts.specs.Table.{shelf_of, chain_at, chain_on, names_on, serials_on, items_on, bindings_in, names_in, is_any, serial_now, passes, HoldsFor, Holds, IsForeign, KeepsForeign, LeavesNoChain}
 use Rattle.s4_parts.specs.Shelf.{KeepsName, GivesUp, Frees}
 use Rattle.s4_parts.proofs.Ordered.{tally}
 use Rattle.s4_parts.proofs.Shelving.{alike, shelf-here, shelf-there, found-at, named-on}
+use Rattle.s4_parts.proofs.Leaving.{open-changed, open-removed}
 use Rattle.s4_parts.proofs.Standing.{changed-at, holds-changed}
 use Rattle.s4_parts.proofs.Rebinding.{moved}
 
@@ -40,6 +41,9 @@ any-drop (v ∷ vs) e = cc
 none-left : (vs : List Version) → is_any vs ≡ false → vs ≡ []
 none-left [] e = refl
 none-left (v ∷ vs) e = cc
+
+some_is : (x y : ℕ) → Some x ≡ Some y → x ≡ y
+some_is x y e = cc
 
 -- A CHAIN WITHOUT BINDINGS IS CLOSED
 
@@ -159,6 +163,12 @@ module _ (chains new : Chains Version) (before after : Parts) (s : Holds chains 
     kept-others : (d : ℕ) → IsOpen chains d → (d == g.chain) ≡ false → IsOpen new d × (items_of new d ≡ items_of chains d)
     kept-others d open' e = (subst (λ x. IsOpen x d) (sym k.chains) (open_still chains g.chain d left open'), ap (λ x. items_of x d) k.chains ∙ items_elsewhere chains g.chain d left e)
 
+    kept-leaves : LeavesNoChain chains new before after
+    kept-leaves d open' foreign = (
+      open-changed chains g.chain left (s.opened purse name g.chain has) d (subst (λ x. IsOpen x d) k.chains open'),
+      λ q m got. foreign q m (own-kept q m ∙ got),
+    )
+
   -- where none is left
   module _ (k : GivesUp chains new shelf w name g.chain) (none : is_any left ≡ false) where
     closed : new ≡ finmap.remove mid g.chain
@@ -202,6 +212,21 @@ module _ (chains new : Chains Version) (before after : Parts) (s : Holds chains 
       subst (λ x. IsOpen x d) (sym closed) (open_elsewhere-remove mid g.chain d e (open_still chains g.chain d left open')),
       ap (λ x. items_of x d) closed ∙ items_elsewhere-remove mid g.chain d e ∙ items_elsewhere chains g.chain d left e,
     )
+
+    gone-leaves : LeavesNoChain chains new before after
+    gone-leaves d open' foreign =
+        let was = open-removed mid g.chain d (subst (λ x. IsOpen x d) closed open') in (
+          open-changed chains g.chain left (s.opened purse name g.chain has) d was.1,
+          λ q m got. by_test (same_purse purse q && same_name name m)
+              (λ e. let parts = both (same_purse purse q) (same_name name m) e in
+              let here : chain_at before q m ≡ Some g.chain = subst (λ x. chain_at before x m ≡ Some g.chain) (purse_is purse q parts.0) (subst (λ y. chain_at before purse y ≡ Some g.chain) (name_is name m parts.1) has) in
+              let same : d ≡ g.chain = some_is d g.chain (sym got ∙ here) in
+              absurd (not_both (d == g.chain) (eq-eqb d g.chain same) was.0))
+              (λ e. foreign q m (chains-gone q m ∙ ap (λ b. if b then None else chain_at before q m) e ∙ got)),
+        )
+
+  pub freed-leaves : LeavesNoChain chains new before after
+  freed-leaves = by_test (is_any left) (λ e. kept-leaves (g.kept e)) (λ e. gone-leaves (g.given e) e)
 
   pub freed-holds : Holds new after
   freed-holds = by_test (is_any left) (λ e. kept-holds (g.kept e)) (λ e. gone-holds (g.given e) e)

@@ -1,6 +1,8 @@
 pub mod Ordered
 pub mod Counting
 pub mod Shelving
+pub mod Rooming
+pub mod Leaving
 pub mod Standing
 pub mod Rebinding
 pub mod Reserving

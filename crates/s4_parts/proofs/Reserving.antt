@@ -1,5 +1,5 @@
 -- A name was given a chain, where it had none, and its shelf has room.
-use Rattle.std.proofs.Common.{◌≡◌, ℕ, ◌<◌, true, cond, Option, Some, None, List, refl, sym, ◌∙◌, ap, filter, vec_len, vec_capacity}
+use Rattle.std.proofs.Common.{◌≡◌, ℕ, ◌<◌, true, false, cond, Option, Some, None, List, refl, sym, ◌∙◌, ap, filter, vec_len, vec_capacity}
 use Rattle.std.specs.Prelude.{is_some}
 use Rattle.std.specs.Ordering.{is_eq}
 use Rattle.s4_types.specs.declared.object.Purse.{Purse}
@@ -10,10 +10,10 @@ use Rattle.s4_store.specs.Chains.{Chains, items_of, item_count, IsOpen, StillOpe
 use Rattle.s4_store.specs.Counts.{item_count-open}
 use Rattle.s4_parts.specs.declared.parts.Parts.{Parts}
 use Rattle.s4_parts.specs.declared.shelf.Shelf.{Shelf}
-use Rattle.s4_parts.specs.Table.{shelf_of, chain_at, chain_on, names_on, serials_on, items_on, bindings_in, names_in, is_any, Holds, HasRoom}
+use Rattle.s4_parts.specs.Table.{shelf_of, chain_at, chain_on, names_on, serials_on, items_on, bindings_in, names_in, is_any, Holds, HasRoom, LeavesNoChain, OpensFor}
 use Rattle.s4_parts.specs.Shelf.{Grows, with_chain}
 use Rattle.s4_parts.proofs.Shelving.{shelf-here, named-on, grown-chains, grown-names, grown-sorted, grown-serials}
-use Rattle.s4_parts.proofs.Standing.{items-kept, still-open, bindings-kept, own-old, names-kept, holds-opened}
+use Rattle.s4_parts.proofs.Standing.{items-kept, still-open, bindings-kept, own-old, own-kept, there-are, leaves-opened, names-kept, holds-opened}
 use Rattle.s4_parts.proofs.Rebinding.{moved}
 
 module _ (chains new : Chains Version) (before mid after : Parts) (s : Holds chains before)
@@ -44,6 +44,30 @@ module _ (chains new : Chains Version) (before mid after : Parts) (s : Holds cha
 
   pub reserved-own : (p : Purse) (n : List ℕ) (c : ℕ) → chain_at after p n ≡ Some c → IsOpen chains c → chain_at before p n ≡ Some c
   reserved-own p n c got open' = sym (chains-are p n) ∙ own-old at-mid purse name g.fresh g.unopened new g.opened (chain_at after) (grown-chains mid after purse shelf w found replaced chains new name g) p n c got open'
+
+  pub reserved-asked : OpensFor before after purse name
+  reserved-asked = record {
+    others = λ q n e. there-are at-mid purse name g.fresh g.unopened new g.opened (chain_at after) (grown-chains mid after purse shelf w found replaced chains new name g) q n e ∙ chains-are q n;
+    kept = λ some. of some (chain_at mid purse name) refl;
+  }
+    where
+      of : is_some (chain_at before purse name) ≡ true → (f : Option ℕ) → chain_at mid purse name ≡ f → chain_at after purse name ≡ chain_at before purse name
+      of some None got = let none : is_some (chain_at before purse name) ≡ false = ap is_some (sym (chains-are purse name) ∙ got) in cc
+      of some (Some c) got = own-kept at-mid purse name g.fresh g.unopened new g.opened (chain_at after) (grown-chains mid after purse shelf w found replaced chains new name g) purse name c got ∙ sym got ∙ chains-are purse name
+
+  -- a name that had a chain has one
+  pub reserved-chain : (q : Purse) (n : List ℕ) → is_some (chain_at before q n) ≡ true → is_some (chain_at after q n) ≡ true
+  reserved-chain q n some = of (chain_at mid q n) refl
+    where
+      of : (f : Option ℕ) → chain_at mid q n ≡ f → is_some (chain_at after q n) ≡ true
+      of None got = let none : is_some (chain_at before q n) ≡ false = ap is_some (sym (chains-are q n) ∙ got) in cc
+      of (Some c) got = ap is_some (own-kept at-mid purse name g.fresh g.unopened new g.opened (chain_at after) (grown-chains mid after purse shelf w found replaced chains new name g) q n c got)
+
+  pub reserved-leaves : LeavesNoChain chains new before after
+  reserved-leaves c open' foreign =
+      let was = leaves-opened at-mid purse name g.fresh g.unopened new g.opened (chain_at after) (grown-chains mid after purse shelf w found replaced chains new name g)
+      (λ some. g.needed (ap (λ x. is_some (chain_on x name)) (sym found) ∙ some)) c open' foreign in
+      (was.0, λ q n got. was.1 q n (chains-are q n ∙ got))
 
   pub reserved-room : 0 < after.ends.spare → is_some (chain_on (Some w) name) ≡ true → vec_len w.bound < vec_capacity w.bound → HasRoom after purse name
   reserved-room ends there room =

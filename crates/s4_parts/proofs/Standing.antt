@@ -1,6 +1,6 @@
 -- A table stands over a store of which one chain was changed, or which has one chain more.
 use Rattle.std.proofs.Common.{◌≡◌, ℕ, ◌+◌, Bool, true, false, Option, Some, None, List, [], refl, sym, ◌∙◌, ap, subst, arith, filter, length, ◌⊎◌, inl, inr}
-use Rattle.std.specs.Prelude.{◌&&◌, ◌==◌, is_some, count_by, if◌then◌else◌}
+use Rattle.std.specs.Prelude.{◌≢◌, ◌&&◌, ◌==◌, is_some, count_by, if◌then◌else◌}
 use Rattle.std.specs.List.{list_any}
 use Rattle.std.specs.List.Sorted.{IsStrictlySortedBy}
 use Rattle.std.specs.FinMap as finmap
@@ -17,6 +17,7 @@ use Rattle.s4_store.specs.Chains.{Chains, items_of, IsOpen, StillOpen}
 use Rattle.s4_store.specs.Laws.{items_here, items_elsewhere, open_here, fresh_differs, fresh_is_closed, StillOpen-insert}
 use Rattle.s4_parts.specs.Table.{items_on, is_any, serial_now, passes, HoldsFor}
 use Rattle.s4_parts.specs.Shelf.{or_else, with_chain}
+use Rattle.s4_parts.proofs.Leaving.{open-elsewhere}
 use Rattle.s4_parts.proofs.Ordered.{tally, count-one, filter-one}
 
 some_is : {A : Type 0} (x y : A) → Some x ≡ Some y → x ≡ y
@@ -133,8 +134,28 @@ module _ {chains : Chains Version} {chain : Purse → List ℕ → Option ℕ} {
       chains-are q m ∙ ap (λ b. if b then or_else (chain p n) fresh else chain q m) e
       ∙ ap (λ x. or_else (chain x n) fresh) (purse_is p q parts.0) ∙ ap (λ y. or_else (chain q y) fresh) (name_is n m parts.1)
 
-  there-are : (q : Purse) (m : List ℕ) → (same_purse p q && same_name n m) ≡ false → chain' q m ≡ chain q m
+  pub there-are : (q : Purse) (m : List ℕ) → (same_purse p q && same_name n m) ≡ false → chain' q m ≡ chain q m
   there-are q m e = chains-are q m ∙ ap (λ b. if b then or_else (chain p n) fresh else chain q m) e
+
+  -- a name that had a chain has it still
+  pub own-kept : (q : Purse) (m : List ℕ) (d : ℕ) → chain q m ≡ Some d → chain' q m ≡ Some d
+  own-kept q m d got = by_test (same_purse p q && same_name n m)
+      (λ e. here-are q m e ∙ ap (λ x. or_else x fresh) got)
+      (λ e. there-are q m e ∙ got)
+
+  -- a chain that is no name's was open, where the new one is the name's
+  pub leaves-opened : (is_some (chain p n) ≡ true → fresh ≡ None) → (c : ℕ) → IsOpen new c → ((q : Purse) (m : List ℕ) → chain' q m ≢ Some c) → IsOpen chains c × ((q : Purse) (m : List ℕ) → chain q m ≢ Some c)
+  leaves-opened needed c open' foreign = (of fresh refl, λ q m got. foreign q m (own-kept q m c got))
+    where
+      here : (d : ℕ) → fresh ≡ Some d → (f : Option ℕ) → chain p n ≡ f → chain' p n ≡ Some d
+      here d e None got = here-are p n (rw (purse_self p, name_self n) refl) ∙ ap (λ x. or_else x fresh) got ∙ e
+      here d e (Some x) got = let none : None ≡ Some d = sym (needed (ap is_some got)) ∙ e in cc
+
+      of : (f : Option ℕ) → fresh ≡ f → IsOpen chains c
+      of None e = subst (λ m. IsOpen m c) (opened ∙ ap (with_chain chains) e) open'
+      of (Some d) e = by_test (c == d)
+          (λ same. absurd (foreign p n (here d e (chain p n) refl ∙ ap (λ x. Some x) (sym (eqb-true c d same)))))
+          (λ other. open-elsewhere chains d [] c other (subst (λ m. IsOpen m c) (opened ∙ ap (with_chain chains) e) open'))
 
   -- each name keeps its bindings
   pub bindings-kept : (q : Purse) (m : List ℕ) → items_on new (chain' q m) ≡ items_on chains (chain q m)

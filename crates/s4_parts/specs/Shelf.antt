@@ -1,5 +1,5 @@
 -- What making room for a name, and freeing a binding of it, does to its shelf and to the store.
-use Rattle.std.specs.Prelude.{◌≡◌, ℕ, Bool, true, false, Option, Some, None, List, [], drop, filter, if◌then◌else◌}
+use Rattle.std.specs.Prelude.{◌≡◌, ℕ, Bool, true, false, is_some, Option, Some, None, List, [], drop, filter, if◌then◌else◌}
 use Rattle.std.specs.List.Sorted.{IsStrictlySortedBy}
 use Rattle.std.specs.FinMap as finmap
 use Rattle.s4_types.specs.declared.version.Version.{Version}
@@ -21,6 +21,8 @@ with_chain chains (Some c) = finmap.insert chains c []
 pub record Grows (old new : Chains Version) (before after : Shelf) (name : List ℕ) : Type 0 where
   -- the chain that was opened, if any
   pub fresh : Option ℕ
+  -- none is where the name had one
+  pub needed : is_some (chain_on (Some before) name) ≡ true → fresh ≡ None
   pub unopened : (c : ℕ) → fresh ≡ Some c → finmap.get old c ≡ None
   pub opened : new ≡ with_chain old fresh
   pub chains : (n : List ℕ) → chain_on (Some after) n ≡ (if same_name name n then or_else (chain_on (Some before) name) fresh else chain_on (Some before) n)

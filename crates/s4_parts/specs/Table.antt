@@ -1,5 +1,5 @@
 -- The table of partitions, as its callers see it: the names of each purse, and the bindings of each name.
-use Rattle.std.specs.Prelude.{◌≡◌, ◌≢◌, ℕ, Bool, true, false, ◌+◌, ◌<◌, is_some, Option, Some, None, List, [], ◌∷◌, length, filter, count_by}
+use Rattle.std.specs.Prelude.{◌≡◌, ◌≢◌, ℕ, Bool, true, false, ◌+◌, ◌-◌, ◌<◌, ◌≤◌, ◌&&◌, is_some, Option, Some, None, List, [], ◌∷◌, length, filter, count_by}
 use Rattle.std.specs.List.{list_any}
 use Rattle.std.specs.List.Sorted.{IsStrictlySortedBy}
 use Rattle.std.specs.Option.{option_map}
@@ -10,7 +10,7 @@ use Rattle.s4_types.specs.declared.object.ObjectId.{ObjectId}
 use Rattle.s4_types.specs.declared.version.Version.{Version}
 use Rattle.s4_types.specs.declared.version.Item.{Item}
 use Rattle.s4_types.specs.declared.version.Item.TheVariants.{Bind}
-use Rattle.s4_types.specs.Names.{purse_cmp}
+use Rattle.s4_types.specs.Names.{same_purse, purse_cmp}
 use Rattle.s4_types.specs.Name.{same_name, name_cmp}
 use Rattle.s4_store.specs.Chains.{Chains, items_of, IsOpen, StillOpen}
 use Rattle.s4_tracks.specs.Chain.{current_of}
@@ -104,6 +104,37 @@ pub record HasRoom (parts : Parts) (p : Purse) (name : List ℕ) : Type 0 where
   pub serials : vec_len shelf.bound < vec_capacity shelf.bound
   pub ends : 0 < parts.ends.spare
 
+-- for how many more serials there is room on a shelf
+abbrev pub serials_spare : Option Shelf → ℕ
+serials_spare None = 0
+serials_spare (Some shelf) = vec_capacity shelf.bound - vec_len shelf.bound
+
+-- how many more names of the purse can be bound in the room that its shelf has
+abbrev pub names_room : Parts → Purse → ℕ
+names_room parts p = serials_spare (shelf_of parts p)
+
+-- how many more names of all purses can be bound in the room that there is for the ends of their bindings
+abbrev pub ends_room : Parts → ℕ
+ends_room parts = parts.ends.spare
+
+-- no room is lost
+pub record KeepsRoom (before after : Parts) : Type 0 where
+  pub names : (p : Purse) → names_room before p ≤ names_room after p
+  pub ends : ends_room before ≤ ends_room after
+
+-- a name of the purse was bound: the room for one on its shelf is taken, and the room for one end
+pub record TakesRoom (before after : Parts) (p : Purse) : Type 0 where
+  pub here : names_room after p + 1 ≡ names_room before p
+  pub others : (q : Purse) → same_purse p q ≡ false → names_room after q ≡ names_room before q
+  pub ends : ends_room after + 1 ≡ ends_room before
+  -- a name that had room has it still, where there was room for two
+  pub rooms : (q : Purse) (n : List ℕ) → HasRoom before q n → 1 < ends_room before → (same_purse p q ≡ true → 1 < names_room before q) → HasRoom after q n
+
+-- only the name has another chain than before, and only where it had none
+pub record OpensFor (before after : Parts) (p : Purse) (name : List ℕ) : Type 0 where
+  pub others : (q : Purse) (n : List ℕ) → (same_purse p q && same_name name n) ≡ false → chain_at after q n ≡ chain_at before q n
+  pub kept : is_some (chain_at before p name) ≡ true → chain_at after p name ≡ chain_at before p name
+
 -- no name has the chain
 abbrev pub IsForeign : Parts → ℕ → Type 0
 IsForeign parts c = (p : Purse) (n : List ℕ) → chain_at parts p n ≢ Some c
@@ -117,3 +148,7 @@ pub record KeepsOthers (old new : Chains Version) (parts : Parts) : Type 0 where
 pub record KeepsForeign (old new : Chains Version) (parts : Parts) : Type 0 where
   pub still : (c : ℕ) → IsOpen old c → IsForeign parts c → IsOpen new c
   pub items : (c : ℕ) → IsOpen old c → IsForeign parts c → items_of new c ≡ items_of old c
+
+-- a chain that is open after the call and no name's was open before it, and no name's then
+abbrev pub LeavesNoChain : Chains Version → Chains Version → Parts → Parts → Type 0
+LeavesNoChain old new before after = (c : ℕ) → IsOpen new c → IsForeign after c → IsOpen old c × IsForeign before c

@@ -10,7 +10,7 @@ use Rattle.s4_tracks.specs.Swept.{IsSwept}
 use Rattle.s4_parts.specs.declared.ends.Ended.{Ended}
 use Rattle.s4_parts.specs.declared.shelf.Shelf.{Shelf}
 use Rattle.s4_parts.specs.declared.parts.Parts.{Parts}
-use Rattle.s4_parts.specs.Table.{bindings_in, names_in, chain_at, is_any, object_of, KeepsForeign}
+use Rattle.s4_parts.specs.Table.{bindings_in, names_in, chain_at, is_any, object_of, KeepsForeign, LeavesNoChain}
 
 -- whether the binding was one of that name in the purse
 abbrev pub is_of : Purse → List ℕ → Ended → Bool
@@ -80,4 +80,5 @@ pub record Sweeps (horizon : ℕ) (old new : Chains Version) (before after : Par
   -- a name's chain is the one that it had
   pub own : (p : Purse) (n : List ℕ) (c : ℕ) → chain_at after p n ≡ Some c → chain_at before p n ≡ Some c
   pub others : KeepsForeign old new before
+  pub leaves : LeavesNoChain old new before after
   pub used : item_count new + freed ≡ item_count old

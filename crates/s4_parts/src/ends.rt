@@ -1,11 +1,11 @@
 //! The ends of bindings, in the order in which they came.
 
-ghost use Rattle.std.specs.Prelude.{◌≡◌, ◌+◌, ◌<◌, ◌≤◌, [], ◌∷◌, ◌++◌, OnOk, IfSome, IfNone, true, false, take};
+ghost use Rattle.std.specs.Prelude.{◌≡◌, ◌+◌, ◌<◌, ◌≤◌, [], ◌∷◌, ◌++◌, OnOk, IsOk, IfSome, IfNone, true, false, take};
 ghost use Rattle.std.specs.List.{list_any};
 ghost use Rattle.s4_parts.specs.Waiting.{is_gone};
 
 use s4_types::{Moment, Name, NoMemory, Purse};
-use std::alloc::{AllocError, Global};
+use std::alloc::Global;
 use std::collections::VecDeque;
 use std::marker::Model;
 
@@ -64,16 +64,24 @@ impl Ends {
         }
     }
 
-    /// Makes room for one more than are awaited.
+    /// Makes room for one more than are awaited. Where there is none it asks for twice what all need,
+    /// so that the ends that wait are seldom moved, and where that is refused for what they need.
     pub fn make_room(&mut self) -> Result<(), NoMemory>
         ensures ok { OnOk result (0 < self.new.spare) }
+        ensures there { 0 < self.old.spare → IsOk result }
+        ensures grown { self.old.spare ≤ self.new.spare }
         ensures ended { self.new.ended ≡ self.old.ended }
         ensures awaited { self.new.awaited ≡ self.old.awaited }
     {
-        let Some(count) = self.awaited.checked_add(1) else {
-            return Err(AllocError);
-        };
-        self.entries.reserve(count)
+        let awaited = self.awaited + 1;
+        let needed = self.entries.len() + awaited;
+        if needed <= self.entries.capacity() {
+            return Ok(());
+        }
+        if self.entries.reserve(needed.saturating_add(awaited)).is_ok() {
+            return Ok(());
+        }
+        self.entries.reserve_exact(awaited)
     }
 
     /// Awaits one more end. Takes no memory.
@@ -81,6 +89,7 @@ impl Ends {
         requires { 0 < self.old.spare }
         ensures ended { self.new.ended ≡ self.old.ended }
         ensures awaited { self.new.awaited ≡ self.old.awaited + 1 }
+        ensures spare { self.new.spare + 1 ≡ self.old.spare }
     {
         self.awaited += 1;
     }
@@ -90,6 +99,7 @@ impl Ends {
         requires { 0 < self.old.awaited }
         ensures ended { self.new.ended ≡ self.old.ended ++ ended ∷ [] }
         ensures awaited { self.new.awaited + 1 ≡ self.old.awaited }
+        ensures spare { self.new.spare ≡ self.old.spare }
     {
         self.awaited -= 1;
         self.entries.push_back_reserved(ended);
@@ -102,6 +112,7 @@ impl Ends {
         ensures none { IfNone result (list_any (is_gone horizon) (take 1 self.old.ended) ≡ false) }
         ensures same { IfNone result (self.new.ended ≡ self.old.ended) }
         ensures awaited { self.new.awaited ≡ self.old.awaited }
+        ensures spare { self.old.spare ≤ self.new.spare }
     {
         if begins_gone(&self.entries, horizon) {
             self.entries.pop_front()

@@ -1,6 +1,6 @@
 //! The table of partitions.
 
-ghost use Rattle.std.specs.Prelude.{◌≡◌, ◌<◌, ◌+◌, ◌==◌, ◌&&◌, ℕ, true, IfSome, slice_get, Some, None, List, [], ◌∷◌, ◌++◌, OnOk, is_some, count_by, min, drop, filter, if◌then◌else◌};
+ghost use Rattle.std.specs.Prelude.{◌≡◌, ◌<◌, ◌≤◌, ◌+◌, ◌==◌, ◌&&◌, ℕ, true, IfSome, slice_get, Some, None, List, [], ◌∷◌, ◌++◌, OnOk, IsOk, is_some, count_by, min, drop, filter, if◌then◌else◌};
 ghost use Rattle.std.specs.List.{list_any};
 ghost use Rattle.s4_types.specs.declared.object.Purse.{Purse};
 ghost use Rattle.s4_types.specs.declared.version.Version.{Version};
@@ -9,7 +9,7 @@ ghost use Rattle.s4_types.specs.Name.{same_name};
 ghost use Rattle.s4_types.specs.Names.{same_purse};
 ghost use Rattle.s4_store.specs.Chains.{Chains, items_of, item_count, IsOpen, StillOpen};
 ghost use Rattle.s4_tracks.specs.Chain.{current_of, version_in, with_end};
-ghost use Rattle.s4_parts.specs.Table.{bindings_in, binding, chain_at, names_in, names_on, object_of, serial_now, serials_on, shelf_of, is_any, HasRoom, Holds, KeepsOthers, KeepsForeign};
+ghost use Rattle.s4_parts.specs.Table.{bindings_in, binding, chain_at, names_in, names_on, object_of, serial_now, serials_on, shelf_of, is_any, names_room, HasRoom, KeepsRoom, TakesRoom, Holds, KeepsOthers, KeepsForeign, LeavesNoChain, OpensFor};
 ghost use Rattle.s4_parts.specs.Waiting.{waiting_in, all_by, bound_in, is_gone, Waits, Sweeps};
 ghost use Rattle.s4_parts.specs.Telling.{TellsSame};
 
@@ -46,7 +46,8 @@ impl Parts {
         }
     }
 
-    /// Makes room for the next binding of a name in the purse. Room in the store is reserved apart.
+    /// Makes room for the next binding of a name in the purse, and opens a chain for the name where it
+    /// has none. Where there is room already it takes no memory. Room in the store is reserved apart.
     pub fn reserve<S: Store<Version>>(
         &mut self,
         store: &mut S,
@@ -61,9 +62,14 @@ impl Parts {
         ensures names { (p : Purse) → names_in (S.chains store.new) self.new p ≡ names_in (S.chains store.old) self.old p }
         ensures bindings { (p : Purse) (n : List ℕ) → bindings_in (S.chains store.new) self.new p n ≡ bindings_in (S.chains store.old) self.old p n }
         ensures room { OnOk result (HasRoom self.new purse.now name.now) }
+        ensures there { HasRoom self.old purse.now name.now → IsOk result }
+        ensures rooms { (p : Purse) (n : List ℕ) → HasRoom self.old p n → HasRoom self.new p n }
+        ensures keeps_room { KeepsRoom self.old self.new }
         ensures others { (c : ℕ) → IsOpen (S.chains store.old) c → items_of (S.chains store.new) c ≡ items_of (S.chains store.old) c }
         ensures still { StillOpen (S.chains store.old) (S.chains store.new) }
         ensures own { (p : Purse) (n : List ℕ) (c : ℕ) → chain_at self.new p n ≡ Some c → IsOpen (S.chains store.old) c → chain_at self.old p n ≡ Some c }
+        ensures asked { OpensFor self.old self.new purse.now name.now }
+        ensures leaves { LeavesNoChain (S.chains store.old) (S.chains store.new) self.old self.new }
         ensures used { item_count (S.chains store.new) ≡ item_count (S.chains store.old) }
         ensures store_room { S.room store.new ≡ S.room store.old }
     {
@@ -79,6 +85,8 @@ impl Parts {
         ensures names { (p : Purse) → names_on (shelf_of self.new p) ≡ names_on (shelf_of self.old p) }
         ensures serials { (p : Purse) → serials_on (shelf_of self.new p) ≡ serials_on (shelf_of self.old p) }
         ensures there { OnOk result (is_some (shelf_of self.new purse.now) ≡ true) }
+        ensures known { is_some (shelf_of self.old purse.now) ≡ true → IsOk result }
+        ensures room { (p : Purse) → names_room self.old p ≤ names_room self.new p }
         ensures bound { bound_in self.new ≡ bound_in self.old }
         ensures ends { self.new.ends ≡ self.old.ends }
     {
@@ -90,7 +98,8 @@ impl Parts {
     }
 
     /// Binds a name to an object, in the object's purse, from the moment on, in room that was
-    /// reserved here and in the store. Takes no memory.
+    /// reserved here and in the store. Takes no memory. Another name that has room keeps it, where there
+    /// was room for two.
     pub fn bind<S: Store<Version>>(
         &mut self,
         store: &mut S,
@@ -112,6 +121,8 @@ impl Parts {
             ≡ (if same_purse object.now.purse p && same_name name.now n then bindings_in (S.chains store.old) self.old p n ++ binding moment name.now object.now ∷ [] else bindings_in (S.chains store.old) self.old p n) }
         ensures others { KeepsOthers (S.chains store.old) (S.chains store.new) self.old }
         ensures own { (p : Purse) (n : List ℕ) → chain_at self.new p n ≡ chain_at self.old p n }
+        ensures leaves { LeavesNoChain (S.chains store.old) (S.chains store.new) self.old self.new }
+        ensures rooms { TakesRoom self.old self.new object.now.purse }
         ensures used { item_count (S.chains store.new) ≡ item_count (S.chains store.old) + 1 }
         ensures store_room { S.room store.new + 1 ≡ S.room store.old }
     {
@@ -149,6 +160,9 @@ impl Parts {
             ≡ (if same_purse purse.now p && same_name name.now n then with_end moment (bindings_in (S.chains store.old) self.old p n) else bindings_in (S.chains store.old) self.old p n) }
         ensures others { KeepsOthers (S.chains store.old) (S.chains store.new) self.old }
         ensures own { (p : Purse) (n : List ℕ) → chain_at self.new p n ≡ chain_at self.old p n }
+        ensures leaves { LeavesNoChain (S.chains store.old) (S.chains store.new) self.old self.new }
+        ensures rooms { (p : Purse) (n : List ℕ) → HasRoom self.old p n → HasRoom self.new p n }
+        ensures keeps_room { KeepsRoom self.old self.new }
         ensures used { item_count (S.chains store.new) ≡ item_count (S.chains store.old) }
         ensures store_room { S.room store.new ≡ S.room store.old }
     {
@@ -170,6 +184,8 @@ impl Parts {
         requires waits { Waits (S.chains store.old) self.old }
         ensures freed { result ≡ min most (count_by (is_gone horizon) (waiting_in self.old)) }
         ensures sweeps { Sweeps horizon (S.chains store.old) (S.chains store.new) self.old self.new result }
+        ensures rooms { (p : Purse) (n : List ℕ) → is_some (chain_at self.new p n) ≡ true → HasRoom self.old p n → HasRoom self.new p n }
+        ensures keeps_room { KeepsRoom self.old self.new }
         ensures tells { TellsSame horizon (S.chains store.old) (S.chains store.new) self.old self.new }
         ensures holds { Holds (S.chains store.new) self.new }
         ensures waits { Waits (S.chains store.new) self.new }
@@ -195,6 +211,8 @@ impl Parts {
         ensures names { (p : Purse) → names_in (S.chains store.new) self.new p ≡ filter (λ n. is_any (bindings_in (S.chains store.new) self.new p n)) (names_in (S.chains store.old) self.old p) }
         ensures own { (p : Purse) (n : List ℕ) (c : ℕ) → chain_at self.new p n ≡ Some c → chain_at self.old p n ≡ Some c }
         ensures others { KeepsForeign (S.chains store.old) (S.chains store.new) self.old }
+        ensures leaves { LeavesNoChain (S.chains store.old) (S.chains store.new) self.old self.new }
+        ensures keeps_room { KeepsRoom self.old self.new }
         ensures bound { bound_in self.new ≡ bound_in self.old }
         ensures ends { self.new.ends ≡ self.old.ends }
         ensures room { S.room store.new ≡ S.room store.old + 1 }

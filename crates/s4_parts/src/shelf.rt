@@ -1,9 +1,9 @@
 //! The names of one purse.
 
-ghost use Rattle.std.specs.Prelude.{◌≡◌, ℕ, ◌+◌, ◌<◌, true, is_some, Some, List, [], OnOk, vec_len, vec_capacity};
+ghost use Rattle.std.specs.Prelude.{◌≡◌, ℕ, ◌+◌, ◌<◌, ◌≤◌, true, is_some, Some, List, [], OnOk, IsOk, vec_len, vec_capacity};
 ghost use Rattle.std.specs.Option.{option_map};
 ghost use Rattle.s4_store.specs.Chains.{items_of, item_count, IsOpen};
-ghost use Rattle.s4_parts.specs.Table.{chain_on, is_any};
+ghost use Rattle.s4_parts.specs.Table.{chain_on, is_any, serials_spare};
 ghost use Rattle.s4_parts.specs.Shelf.{Grows, Frees};
 
 use s4_store::Store;
@@ -45,6 +45,8 @@ impl Shelf {
         ensures grows { Grows (S.chains store.old) (S.chains store.new) self.old self.new name.now }
         ensures chain { OnOk result (is_some (chain_on (Some self.new) name.now) ≡ true) }
         ensures serials { OnOk result (vec_len self.new.bound < vec_capacity self.new.bound) }
+        ensures spare { serials_spare (Some self.old) ≤ serials_spare (Some self.new) }
+        ensures there { is_some (chain_on (Some self.old) name.now) ≡ true → 0 < serials_spare (Some self.old) → IsOk result }
         ensures room { S.room store.new ≡ S.room store.old }
     {
         self.bound.reserve(1)?;
@@ -69,6 +71,7 @@ impl Shelf {
         requires open { (c : ℕ) → chain_on (Some self.old) name.now ≡ Some c → IsOpen (S.chains store.old) c }
         requires any { (c : ℕ) → chain_on (Some self.old) name.now ≡ Some c → is_any (items_of (S.chains store.old) c) ≡ true }
         ensures frees { Frees (S.chains store.old) (S.chains store.new) self.old self.new name.now }
+        ensures bound { self.new.bound ≡ self.old.bound }
         ensures room { S.room store.new ≡ S.room store.old + 1 }
         ensures used { item_count (S.chains store.new) + 1 ≡ item_count (S.chains store.old) }
     {

@@ -31,7 +31,7 @@ loop-object-init g c =
       flushed = subst (λ rs. Flushes m m found (λ o. false) c.args.from c.args.to rs) (sym c.in_ok-refunds.ensures.items) (flushes_none c.args.from c.args.to m);
       left = λ o k got e. ap (is_among o) all ∙ found_among o k c.args.objects.now.entries got;
       mapped = subst (All (λ e. found e.0 ≡ Some e.1)) (sym all) c.into_iter-object-iterator.ensures.into_iter_gives.6;
-      fits = omega (arith, c.in_ok-refunds.ensures.capacity, c.in_ok-count.ensures);
+      fits = omega (arith, c.in_ok-refunds.ensures.capacity, c.count_all-count.ensures);
       room = refl;
     }
 
@@ -74,7 +74,7 @@ loop-object-preserved g c =
     let first : List Refund = refunds_of o.purse c.args.from c.args.to (items_of now k.data.chain) in
     let second : List Refund = refunds_of o.purse c.args.from c.args.to (items_of now k.attributes.chain) in
     let one : Flushes now new found (same_object o) c.args.from c.args.to (first ++ second) =
-    flushes_one c.args.from c.args.to (chained-next g at.In-Some) o k (kept-next g at.In-Some) c.flush_kept.ensures.data c.flush_kept.ensures.attributes c.flush_kept.ensures.others c.flush_kept.ensures.still c.flush_kept.ensures.used in
+    flushes_one c.args.from c.args.to (chained-next g at.In-Some) o k (kept-next g at.In-Some) c.flush_kept.ensures.data c.flush_kept.ensures.attributes c.flush_kept.ensures.others c.flush_kept.ensures.still c.flush_kept.ensures.unopened c.flush_kept.ensures.used in
     let longer : length c.flush_kept.new.refunds.items ≡ length c.loop-object.refunds.items + length (first ++ second) = ap length c.flush_kept.ensures.refunds ∙ length-append c.loop-object.refunds.items (first ++ second) in
     let both : length (first ++ second) ≡ length first + length second = length-append first second in
     let told' : length (first ++ second) ≡ erasable_count now c.args.from c.args.to k = omega (arith, refunds_count c.args.from c.args.to o.purse (items_of now k.data.chain), refunds_count c.args.from c.args.to o.purse (items_of now k.attributes.chain)) in

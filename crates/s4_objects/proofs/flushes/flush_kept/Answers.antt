@@ -4,7 +4,7 @@ use Rattle.s4_store.specs.Chains.{items_of}
 use Rattle.s4_store.specs.Laws.{StillOpen-insert}
 use Rattle.s4_tracks.specs.Chain.{is_erasable}
 use Rattle.s4_objects.specs.Flushes.{refunds_of}
-use Rattle.s4_objects.proofs.Flushing.{second_before, first_after, second_after, others_after, both_open, used_still, refunds_count}
+use Rattle.s4_objects.proofs.Flushing.{second_before, first_after, second_after, others_after, none_opened, both_open, used_still, refunds_count}
 use Rattle.s4_objects.proofs.flushes.flush_kept.Goals as goal
 
 pub flush_track-requires-2-clause-open : goal.flush_track-requires-2-clause-open
@@ -33,6 +33,9 @@ returns-clause-others g c = others_after (g.S.Store.chains c.args.store.now) (g.
 
 pub returns-clause-still : goal.returns-clause-still
 returns-clause-still g c = both_open (g.S.Store.chains c.args.store.now) (g.S.Store.chains c.flush_track.new.store) (g.S.Store.chains c.flush_track-2.new.store) c.args.kept.now.data.chain c.args.kept.now.attributes.chain c.args.from c.args.to c.requires.apart c.flush_track.ensures.chains c.flush_track-2.ensures.chains
+
+pub returns-clause-unopened : goal.returns-clause-unopened
+returns-clause-unopened g c = none_opened (g.S.Store.chains c.args.store.now) (g.S.Store.chains c.flush_track.new.store) (g.S.Store.chains c.flush_track-2.new.store) c.args.kept.now.data.chain c.args.kept.now.attributes.chain c.args.from c.args.to c.requires.apart c.flush_track.ensures.chains c.flush_track-2.ensures.chains c.requires.data c.requires.attributes
 
 pub returns-clause-used : goal.returns-clause-used
 returns-clause-used g c =

@@ -1,8 +1,9 @@
 use Rattle.std.proofs.Common.{◌≡◌, ◌∷◌, Option, Some, None, false, refl, sym, ap, subst, ◌∙◌, Contains}
 use Rattle.std.specs.Prelude.{is_some}
 use Rattle.std.specs.Map.{keys_of}
+use Rattle.s4_types.proofs.Booleans.{not_both}
 use Rattle.s4_ledger.specs.Counts.{charges_of}
-use Rattle.s4_ledger.proofs.Counting.{behind, placed_at, charges-insert, place-here, place-still, place-fresh}
+use Rattle.s4_ledger.proofs.Counting.{behind, counted_at, placed_at, charges-insert, place-here, place-still, place-fresh}
 use Rattle.s4_ledger.proofs.charges.Charges.reserve.Goals as goal
 
 isnt_some : {A : Type 0} (o : Option A) → is_some o ≡ false → o ≡ None
@@ -36,3 +37,9 @@ pub returns-clause-charges : goal.returns-clause-charges
 returns-clause-charges c =
     ap charges_of c.in_ok-insert.ensures.entries
     ∙ charges-insert c.self.inside.counts.entries c.args.charge.now (isnt_some _ (sym c.contains_key.ensures ∙ c.if-contains_key.false)) ∙ ap charges_of c.self.view_is
+
+-- only a new place needs memory
+pub returns-in_err-insert-clause-there : goal.returns-in_err-insert-clause-there
+returns-in_err-insert-clause-there c has =
+    let place = subst (λ xs. Contains (keys_of xs) c.args.charge.now) (sym c.self.view_is) has in
+    absurd (not_both _ (counted_at c.self.inside.counts.entries c.args.charge.now place) (ap is_some c.in_err-insert.ensures.absent))

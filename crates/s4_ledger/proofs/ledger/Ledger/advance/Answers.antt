@@ -59,3 +59,6 @@ returns-clause-charges c =
 
 pub returns-clause-budgets : goal.returns-clause-budgets
 returns-clause-budgets c = c.loop-charge.invariant.budgets ∙ ap (λ (b : Books). b.budgets) c.self.view_is
+
+pub returns-clause-gone : goal.returns-clause-gone
+returns-clause-gone c q has = c.in_default.ensures.above q (subst (λ es. Contains (keys_of es) q) c.in_default.ensures.none has)

@@ -6,6 +6,7 @@ use Rattle.s4_types.specs.Names.{same_purse, purse_cmp}
 use Rattle.s4_types.proofs.Booleans.{by_test}
 use Rattle.s4_types.proofs.SameNames.{purse_is}
 use Rattle.s4_types.proofs.SameNames.{at_purse}
+use Rattle.s4_names.proofs.Keeping.{still_some}
 use Rattle.s4_names.proofs.names.Names.reserve.Goals as goal
 
 isnt_some : {A : Type 0} (o : Option A) → is_some o ≡ false → o ≡ None
@@ -22,3 +23,6 @@ returns-clause-drawn c p =
     ap (λ x. unwrap_or x 0) by ∙ by_test (same_purse c.args.purse.now p)
     (λ e. ap (λ b. unwrap_or (cond b (Some 0) (get purse_cmp before p)) 0) e ∙ ap (λ x. unwrap_or x 0) (sym old) ∙ ap (λ q. unwrap_or (get purse_cmp before q) 0) (purse_is _ p e))
     (λ e. ap (λ b. unwrap_or (cond b (Some 0) (get purse_cmp before p)) 0) e)
+
+pub returns-clause-still : goal.returns-clause-still
+returns-clause-still c p room = record { is_there = ap is_some (c.in_ok-insert.ensures.updates.0 p) ∙ still_some _ _ _ room.is_there }

@@ -2,9 +2,9 @@ use Rattle.std.proofs.Common.{◌≡◌, ℕ, false, Option, Some, None, sym, ap
 use Rattle.std.specs.Prelude.{is_some}
 use Rattle.std.specs.BTreeMap.{get}
 use Rattle.s4_objects.specs.Keys.{object_cmp}
-use Rattle.s4_objects.specs.Table.{HoldsFor, SparesOthers, found_in}
+use Rattle.s4_objects.specs.Table.{HoldsFor, SparesOthers, LeavesNone, found_in}
 use Rattle.s4_objects.proofs.Opening.{hollow, closed}
-use Rattle.s4_objects.proofs.Holding.{holds_made, spares_none}
+use Rattle.s4_objects.proofs.Holding.{holds_made, leaves_made, spares_none, leaves_none}
 use Rattle.s4_objects.proofs.Using.{used_open}
 use Rattle.s4_objects.proofs.objects.Objects.create.Goals as goal
 
@@ -34,3 +34,12 @@ returns-in-Err-clause-others g c =
 
 pub returns-in-Ok-clause-used : goal.returns-in-Ok-clause-used
 returns-in-Ok-clause-used g c = let opened = used_open c.in_ok-kept.ensures.ok in omega (arith, opened, c.begin.ensures.used)
+
+pub returns-in-Ok-clause-leaves : goal.returns-in-Ok-clause-leaves
+returns-in-Ok-clause-leaves g c =
+    leaves_made c.requires.holds c.args.object.now (isnt_some _ c.requires.fresh) (c.begin.ensures.begins (g.S.Store.chains c.args.store.now) c.in_ok-kept.ensures.ok) c.in-Ok.ensures.ok
+
+pub returns-in-Err-clause-leaves : goal.returns-in-Err-clause-leaves
+returns-in-Err-clause-leaves g c =
+    subst (λ m. LeavesNone (g.S.Store.chains c.args.store.now) m (found_in c.args.self.now) (get object_cmp c.keep.new.objects)) (sym (c.close.ensures.chains ∙ closed c.in_ok-kept.ensures.ok))
+    (subst (λ f. LeavesNone (g.S.Store.chains c.args.store.now) (g.S.Store.chains c.args.store.now) (found_in c.args.self.now) f) (λ i q. sym (c.in-Err.ensures.err q) i) (leaves_none (g.S.Store.chains c.args.store.now) (found_in c.args.self.now)))

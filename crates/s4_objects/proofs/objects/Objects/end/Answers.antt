@@ -6,7 +6,7 @@ use Rattle.s4_objects.specs.Chains.{chain_of}
 use Rattle.s4_objects.specs.Ends.{all_ends, all_by}
 use Rattle.s4_objects.specs.Table.{HoldsFor, found_in, held_in, ends_in}
 use Rattle.s4_objects.proofs.Queueing.{by_more, all_ends_more, ended_has, ended_any}
-use Rattle.s4_objects.proofs.Holding.{held_by, spares_by, holds_more}
+use Rattle.s4_objects.proofs.Holding.{held_by, spares_by, leaves_by, holds_more}
 use Rattle.s4_objects.proofs.Using.{used_ended}
 use Rattle.s4_objects.proofs.objects.Objects.end.Given.{Over}
 use Rattle.s4_objects.proofs.objects.Objects.end.Goals as goal
@@ -41,3 +41,8 @@ returns-clause-by_now g c = ap (λ es. all_by c.args.moment (all_ends es)) c.pus
 
 pub returns-clause-used : goal.returns-clause-used
 returns-clause-used g c = used_ended _ _ _ c.args.moment (changed g (goal.at.returns-clause-used g c).After-push_back_reserved)
+
+pub returns-clause-leaves : goal.returns-clause-leaves
+returns-clause-leaves g c =
+    let at = (goal.at.returns-clause-leaves g c).After-push_back_reserved in
+    leaves_by c.requires.holds.chained c.args.object.now c.unwrap-kept.result (found g at) c.args.which (with_end c.args.moment) (changed g at)

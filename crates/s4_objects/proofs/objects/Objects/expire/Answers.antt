@@ -10,7 +10,7 @@ use Rattle.s4_objects.specs.declared.kept.Kept.{Kept}
 use Rattle.s4_objects.specs.Ends.{is_gone, all_ends}
 use Rattle.s4_objects.specs.Table.{HoldsFor, found_in, held_in, ends_in}
 use Rattle.s4_objects.proofs.Queueing.{by_left, rising_count}
-use Rattle.s4_objects.proofs.Holding.{spares_none, spares_then, first_any, holds_drained, swept_drained}
+use Rattle.s4_objects.proofs.Holding.{spares_none, spares_then, leaves_none, leaves_then, first_any, holds_drained, swept_drained}
 use Rattle.s4_objects.proofs.objects.Objects.expire.Given.{Over}
 use Rattle.s4_objects.proofs.objects.Objects.expire.Goals as goal
 use Rattle.s4_objects.proofs.objects.Objects.expire.Goals.{In-Some}
@@ -27,6 +27,8 @@ loop-freed-init g c = record {
   held = λ o w. swept_none c.args.horizon (held_in (g.S.Store.chains c.args.store.now) c.args.self.now o w);
   kept = λ o k got. got;
   others = spares_none (g.S.Store.chains c.args.store.now) (found_in c.args.self.now);
+  leaves = leaves_none (g.S.Store.chains c.args.store.now) (found_in c.args.self.now);
+  ends_room = omega arith;
   used = omega arith;
   room = omega arith;
 }
@@ -58,6 +60,8 @@ loop-freed-preserved g c =
       held = λ o w. swept_through c.args.horizon _ _ _ (swept_drained e h c.free.ensures.frees c.args.horizon c.in-Some.ensures.gone o w) (i.held o w);
       kept = λ o k got. i.kept o k (c.free.ensures.frees.kept o k got);
       others = spares_then i.others c.free.ensures.frees.others;
+      leaves = leaves_then i.leaves c.free.ensures.frees.leaves;
+      ends_room = omega (arith, i.ends_room, c.in-Some.ensures.room);
       used = omega (arith, i.used, c.free.ensures.used);
       room = omega (arith, i.room, c.free.ensures.room);
     }

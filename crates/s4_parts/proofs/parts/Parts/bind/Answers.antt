@@ -1,4 +1,4 @@
-use Rattle.std.proofs.Common.{◌≡◌, ◌+◌, Some, None, List, [], ◌∷◌, ◌++◌, refl, sym, ◌∙◌, ap, length, arith}
+use Rattle.std.proofs.Common.{◌≡◌, ◌+◌, ◌<◌, Some, None, List, [], ◌∷◌, ◌++◌, refl, sym, ◌∙◌, ap, subst, length, arith}
 use Rattle.std.specs.Prelude.{is_some}
 use Rattle.std.specs.Option.{option_copied_mut, option_map}
 use Rattle.std.specs.FinMap as finmap
@@ -8,7 +8,7 @@ use Rattle.s4_store.specs.Chains.{items_of, item_count}
 use Rattle.s4_store.specs.Counts.{item_count-more}
 use Rattle.s4_parts.specs.declared.parts.Parts.{Parts}
 use Rattle.s4_parts.specs.declared.shelf.Shelf.{Shelf}
-use Rattle.s4_parts.specs.Table.{shelf_of, chain_on, items_on, object_of, binding}
+use Rattle.s4_parts.specs.Table.{shelf_of, chain_on, items_on, object_of, binding, serials_spare}
 use Rattle.s4_parts.proofs.Rebinding.{own, rebound-bindings, rebound-more, rebound-holds, rebound-others, bound-counted, any-snoc}
 use Rattle.s4_tracks.specs.Chain.{current_of}
 use Rattle.std.specs.BTreeMap.{is_at}
@@ -18,6 +18,8 @@ use Rattle.s4_types.specs.Names.{purse_cmp}
 use Rattle.s4_parts.specs.Waiting.{bound_on, bound_in}
 use Rattle.s4_parts.proofs.Totals.{bound-set}
 use Rattle.s4_parts.proofs.Awaiting.{waits-bound}
+use Rattle.s4_parts.proofs.Leaving.{leaves-changed}
+use Rattle.s4_parts.proofs.Rooming.{names-of, room-taken}
 use Rattle.s4_parts.proofs.parts.Parts.bind.Goals as goal
 
 pub returns-clause-holds : goal.returns-clause-holds
@@ -88,3 +90,20 @@ returns-clause-used g c =
     let m = g.S.Store.chains c.args.store.now in
     let d = c.unwrap-track.result.chain in
     ap item_count c.push.ensures.chains ∙ item_count-more m d 1 _ (length-append (items_of m d) _)
+
+pub returns-clause-leaves : goal.returns-clause-leaves
+returns-clause-leaves g c =
+    let w : Shelf = record { tracks = c.unwrap-shelf.result.now.tracks; bound = c.push_reserved.new.self } in
+    let found : shelf_of c.args.self.now (c.args.object.now.purse) ≡ Some c.unwrap-shelf.result.now = sym c.get_mut.ensures.value ∙ ap option_copied_mut c.unwrap-shelf.ensures in
+    let track : chain_on (Some c.unwrap-shelf.result.now) c.args.name.now ≡ Some c.unwrap-track.result.chain = sym c.track.ensures ∙ ap (option_map (λ t. t.chain)) c.unwrap-track.ensures in
+    leaves-changed (g.S.Store.chains c.args.store.now) (g.S.Store.chains c.push.new.self) c.args.self.now (record { alloc = c.args.self.now.alloc; shelves = c.get_mut.follows.lender w; ends = c.await_one.new.self }) c.unwrap-track.result.chain _
+    (c.requires.holds.opened c.args.object.now.purse c.args.name.now c.unwrap-track.result.chain (ap (λ x. chain_on x c.args.name.now) found ∙ track)) c.push.ensures.chains (returns-clause-own g c)
+
+pub returns-clause-rooms : goal.returns-clause-rooms
+returns-clause-rooms g c =
+    let shelf : Shelf = c.unwrap-shelf.result.now in
+    let w : Shelf = record { tracks = shelf.tracks; bound = c.push_reserved.new.self } in
+    let found : shelf_of c.args.self.now (c.args.object.now.purse) ≡ Some shelf = sym c.get_mut.ensures.value ∙ ap option_copied_mut c.unwrap-shelf.ensures in
+    let some : 0 < serials_spare (Some shelf) = subst (λ x. 0 < serials_spare x) found (names-of c.requires.reserved) in
+    room-taken c.args.self.now (record { alloc = c.args.self.now.alloc; shelves = c.get_mut.follows.lender w; ends = c.await_one.new.self }) c.args.object.now.purse shelf w found ((c.get_mut.follows.holds w).3 (ap is_some found)).0
+    (omega (arith, some, c.push_reserved.ensures.len, c.push_reserved.ensures.capacity)) c.await_one.ensures.spare (returns-clause-own g c)

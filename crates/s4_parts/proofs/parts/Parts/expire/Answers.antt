@@ -3,10 +3,13 @@ use Rattle.std.specs.Prelude.{◌||◌}
 use Rattle.std.specs.List.{list_any, prefix_len}
 use Rattle.std.proofs.Math.Nat.{min-eq_left, min-eq_right}
 use Rattle.s4_tracks.proofs.Expiring.{one_more, no_more}
+use Rattle.s4_parts.specs.declared.parts.Parts.{Parts}
 use Rattle.s4_parts.specs.Ends.{Queue}
+use Rattle.s4_parts.specs.Table.{KeepsRoom}
 use Rattle.s4_parts.specs.Waiting.{is_gone, waiting_in}
 use Rattle.s4_parts.proofs.Queueing.{rising-count}
 use Rattle.s4_parts.proofs.Draining.{sweeps-none, sweeps-more, waits-drained, first-current}
+use Rattle.s4_parts.proofs.Rooming.{keeps-through, room-kept}
 use Rattle.s4_parts.proofs.Telling.{tells_same}
 use Rattle.s4_parts.proofs.parts.Parts.expire.Goals as goal
 
@@ -15,6 +18,7 @@ loop-freed-init g c = record {
   holds = c.requires.holds;
   waits = c.requires.waits;
   sweeps = sweeps-none c.args.horizon (g.S.Store.chains c.args.store.now) c.args.self.now;
+  keeps = record { names = λ p. omega arith; ends = omega arith };
   gone = omega arith;
   room = omega arith;
 }
@@ -47,7 +51,8 @@ loop-freed-preserved g c =
       holds = c.free.ensures.holds;
       waits = waits-drained c.args.horizon (g.S.Store.chains c.free.new.store) c.free.new.self c.loop-freed.invariant.waits c.in-Some.ended is c.in-Some.ensures.gone c.free.ensures.bindings c.free.ensures.bound (ap (λ (q : Queue). q.awaited) c.free.ensures.ends ∙ c.in-Some.ensures.awaited);
       sweeps = sweeps-more c.args.horizon (g.S.Store.chains c.free.new.store) c.free.new.self c.loop-freed.invariant.waits c.in-Some.ended is c.in-Some.ensures.gone c.free.ensures.bindings
-          (g.S.Store.chains c.args.store.now) c.args.self.now c.loop-freed.freed s c.free.ensures.names c.free.ensures.own (record { still = c.free.ensures.others.still; items = c.free.ensures.others.items }) c.free.ensures.used;
+          (g.S.Store.chains c.args.store.now) c.args.self.now c.loop-freed.freed s c.free.ensures.names c.free.ensures.own (record { still = c.free.ensures.others.still; items = c.free.ensures.others.items }) c.free.ensures.leaves c.free.ensures.used;
+      keeps = keeps-through c.loop-freed.invariant.keeps (record { names = c.free.ensures.keeps_room.names; ends = omega (arith, c.in-Some.ensures.spare, c.free.ensures.keeps_room.ends) });
       gone = one_more gone c.loop-freed.freed old c.loop-freed.invariant.gone go;
       room = omega (arith, c.loop-freed.invariant.room, c.free.ensures.room);
     }
@@ -62,3 +67,12 @@ returns-clause-freed g c =
 
 pub returns-clause-tells : goal.returns-clause-tells
 returns-clause-tells g c = tells_same c.loop-freed.invariant.sweeps
+
+pub returns-in_default-clause-rooms : goal.returns-in_default-clause-rooms
+returns-in_default-clause-rooms g c p n there has =
+    let last : Parts = record { alloc = c.loop-freed.self.alloc; shelves = c.loop-freed.self.shelves; ends = c.take_gone.new.self } in
+    let kept : KeepsRoom c.loop-freed.self last = record { names = λ q. omega arith; ends = c.in_default.ensures.spare } in
+    room-kept (keeps-through c.loop-freed.invariant.keeps kept) p n there has
+
+pub returns-clause-rooms : goal.returns-clause-rooms
+returns-clause-rooms g c p n there has = room-kept c.loop-freed.invariant.keeps p n there has

@@ -6,6 +6,7 @@ use Rattle.std.specs.BTreeMap.{is_at}
 use Rattle.s4_types.specs.Name.{name_cmp}
 use Rattle.s4_parts.specs.Table.{shelf_of, chain_on, names_on, serials_on}
 use Rattle.s4_parts.proofs.Shelving.{shelved}
+use Rattle.s4_parts.proofs.Rooming.{room-shelved}
 use Rattle.std.specs.BTreeMap.{insert_entry}
 use Rattle.s4_types.specs.Names.{purse_cmp}
 use Rattle.s4_parts.specs.Waiting.{bound_on}
@@ -38,3 +39,7 @@ returns-clause-bound c =
     let nothing : length c.new.result.bound.items ≡ 0 = ap length c.new.ensures.bound in
     let is : bound_on c.insert.new.self.entries ≡ bound_on (insert_entry purse_cmp c.args.self.now.shelves.entries c.args.purse.now c.new.result) = ap bound_on c.in_ok-insert.ensures.entries in
     omega arith
+
+pub returns-clause-room : goal.returns-clause-room
+returns-clause-room c p =
+    room-shelved c.args.self.now (record { alloc = c.args.self.now.alloc; shelves = c.insert.new.self; ends = c.args.self.now.ends }) c.args.purse.now c.new.result (isnt_some _ (sym c.contains_key.ensures ∙ c.if-contains_key.false)) c.in_ok-insert.ensures.updates.0 p

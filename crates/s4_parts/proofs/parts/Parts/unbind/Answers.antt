@@ -16,6 +16,8 @@ use Rattle.s4_parts.specs.declared.ends.Ended.{Ended}
 use Rattle.s4_parts.specs.Waiting.{waiting_in, bound_on, bound_in}
 use Rattle.s4_parts.proofs.Totals.{bound-set}
 use Rattle.s4_parts.proofs.Awaiting.{waits-unbound, same-ended}
+use Rattle.s4_parts.proofs.Leaving.{leaves-changed}
+use Rattle.s4_parts.proofs.Rooming.{room-kept, room-replaced}
 use Rattle.s4_parts.proofs.parts.Parts.unbind.Given.{Over}
 use Rattle.s4_parts.proofs.parts.Parts.unbind.Goals.{After-new}
 use Rattle.s4_parts.proofs.parts.Parts.unbind.Goals as goal
@@ -109,3 +111,25 @@ returns-clause-waits g c =
 
 pub returns-clause-used : goal.returns-clause-used
 returns-clause-used g c = unbound-used (g.S.Store.chains c.args.store.now) c.unwrap-track.result.chain c.args.moment c.end.ensures.chains
+
+pub returns-clause-leaves : goal.returns-clause-leaves
+returns-clause-leaves g c =
+    let found : shelf_of c.args.self.now c.args.purse.now ≡ Some c.unwrap-shelf.result.now = sym c.get_mut.ensures.value ∙ ap option_copied_mut c.unwrap-shelf.ensures in
+    let track : chain_on (Some c.unwrap-shelf.result.now) c.args.name.now ≡ Some c.unwrap-track.result.chain = sym c.track.ensures ∙ ap (option_map (λ t. t.chain)) c.unwrap-track.ensures in
+    let w : Shelf = record { tracks = c.unwrap-shelf.result.now.tracks; bound = c.remove.new.self } in
+    leaves-changed (g.S.Store.chains c.args.store.now) (g.S.Store.chains c.end.new.store) c.args.self.now (record { alloc = c.args.self.now.alloc; shelves = c.get_mut.follows.lender w; ends = c.put.new.self }) c.unwrap-track.result.chain _
+    (c.requires.holds.opened c.args.purse.now c.args.name.now c.unwrap-track.result.chain (ap (λ x. chain_on x c.args.name.now) found ∙ track)) c.end.ensures.chains (returns-clause-own g c)
+
+pub returns-clause-keeps_room : goal.returns-clause-keeps_room
+returns-clause-keeps_room g c =
+    let shelf : Shelf = c.unwrap-shelf.result.now in
+    let found : shelf_of c.args.self.now c.args.purse.now ≡ Some shelf = sym c.get_mut.ensures.value ∙ ap option_copied_mut c.unwrap-shelf.ensures in
+    let w : Shelf = record { tracks = shelf.tracks; bound = c.remove.new.self } in
+    record {
+      names = room-replaced c.args.self.now (record { alloc = c.args.self.now.alloc; shelves = c.get_mut.follows.lender w; ends = c.put.new.self }) c.args.purse.now shelf w found ((c.get_mut.follows.holds w).3 (ap is_some found)).0
+          (omega (arith, c.remove.ensures.len, c.remove.ensures.capacity));
+      ends = omega (arith, c.put.ensures.spare);
+    }
+
+pub returns-clause-rooms : goal.returns-clause-rooms
+returns-clause-rooms g c p n has = room-kept (returns-clause-keeps_room g c) p n (ap is_some (returns-clause-own g c p n) ∙ has.chain) has

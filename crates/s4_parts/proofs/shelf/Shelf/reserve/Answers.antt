@@ -1,4 +1,4 @@
-use Rattle.std.proofs.Common.{◌≡◌, ℕ, false, cond, Option, Some, None, List, refl, sym, ◌∙◌, ap, subst}
+use Rattle.std.proofs.Common.{◌≡◌, ℕ, true, false, cond, Option, Some, None, List, refl, sym, ◌∙◌, ap, subst}
 use Rattle.std.specs.Prelude.{is_some}
 use Rattle.std.specs.Option.{option_map}
 use Rattle.std.specs.FinMap as finmap
@@ -20,6 +20,10 @@ isnt_some : {A : Type 0} (x : Option A) → is_some x ≡ false → x ≡ None
 isnt_some None e = refl
 isnt_some (Some y) e = cc
 
+none-some : {A B : Type 0} (f : A → B) (x : Option A) → x ≡ None → is_some (option_map f x) ≡ true → ⊥
+none-some f None none some = cc
+none-some f (Some y) none some = cc
+
 some_is : {A : Type 0} (x y : A) → Some x ≡ Some y → x ≡ y
 some_is x y e = cc
 
@@ -35,6 +39,7 @@ returns-in-Ok-clause-grows g c =
     let none : get name_cmp before.tracks name ≡ None = isnt_some _ (sym c.contains_key.ensures ∙ c.if-contains_key.false) in
     record {
       fresh = Some chain;
+      needed = λ some. absurd (none-some (λ t. t.chain) (get name_cmp before.tracks name) none some);
       unopened = λ d e. subst (λ x. finmap.get (g.S.Store.chains c.args.store.now) x ≡ None) (some_is chain d e) c.in_ok-chain.ensures.fresh;
       opened = c.in_ok-chain.ensures.opened;
       chains = λ n. ap (option_map (λ t. t.chain)) (c.in-Ok.ensures.updates.0 n ∙ ap (λ k. cond (Rattle.std.specs.Ordering.is_eq (name_cmp k n)) (Some (record { chain = chain })) (get name_cmp before.tracks n)) key
@@ -56,6 +61,7 @@ returns-in-Err-clause-grows g c =
     let same : Rattle.std.specs.BTreeMap.BTreeMap.entries c.insert.new.self ≡ before.tracks.entries = c.in-Err.ensures.err in
     record {
       fresh = None;
+      needed = λ some. refl;
       unopened = λ d e. cc;
       opened = c.close.ensures.chains ∙ ap (λ m. finmap.remove m c.in_ok-chain.chain) c.in_ok-chain.ensures.opened ∙ remove-insert _ _ _ c.in_ok-chain.ensures.fresh;
       chains = λ n. ap (λ es. option_map (λ t. t.chain) (Rattle.std.specs.Map.lookup (Rattle.std.specs.BTreeMap.is_at (name_cmp n)) es)) same
