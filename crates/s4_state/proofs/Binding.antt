@@ -42,16 +42,16 @@ use Rattle.s4_objects.specs.Laws.{KeepsObjects, held_still, holds_still}
 use Rattle.s4_objects.specs.Table.{found_in, ends_in}
 use Rattle.s4_parts.specs.declared.parts.Parts.{Parts as Table}
 use Rattle.s4_parts.specs.Waiting.{waiting_in, all_by, Waits}
-use Rattle.s4_parts.specs.Table.{Holds, chain_at, names_in, bindings_in, binding, object_of, serial_now, is_any, IsForeign, KeepsOthers}
+use Rattle.s4_parts.specs.Table.{Holds, chain_at, names_in, bindings_in, binding, object_of, serial_now, is_any, IsForeign, KeepsOthers, LeavesNoChain}
 use Rattle.s4_state.specs.Counts.{made_by, values_ended_by, bindings_ended_by, counted}
 use Rattle.s4_state.specs.Laid.{laid, laid_by, version_by, versions_on, bindings_on}
 use Rattle.s4_state.specs.Sound.{IsSound, IsNext, EndsBy, BindingsStand}
-use Rattle.s4_state.specs.Stands.{horizon_now, ObjectsStand, NamesStand, StandsFor, MakesNone}
+use Rattle.s4_state.specs.Stands.{horizon_now, ObjectsStand, NamesStand, IsTidy, StandsFor, MakesNone}
 use Rattle.s4_state.proofs.Reading.{in_force-laid}
 use Rattle.s4_state.proofs.Living.{all_by-up}
 use Rattle.s4_state.proofs.Naming.{bindings-snoc, names_of-snoc}
 use Rattle.s4_state.proofs.Waiting.{ends-by, no-more, waiting_by, waiting_same, waiting_next}
-use Rattle.s4_state.proofs.Left.{serial-none, any-more, any-end, count-filter, any-filter, filter-with, names-sorted}
+use Rattle.s4_state.proofs.Left.{serial-none, any-more, any-end, count-filter, any-filter, filter-with}
 use Rattle.s4_state.proofs.Granting.{told as told-of, told-asked, accepted-asked, bound-done, unbound-done, was_unbound, was_bound, window-done, budget-done}
 use Rattle.s4_state.proofs.Standing.{swept_as, swept_if, horizon_up, objects_next, stands_on, stands_still}
 use Rattle.s4_state.proofs.Effects.{makes-none, idle}
@@ -81,54 +81,60 @@ current-bound p n last t (v ∷ past) l s =
     of None b = refl
     of (Some end) b = let over : nat_le end t ≡ true = grind arith in sym (ap (λ x. option_map (as_version p n) (if x then None else Some v)) over)
 
-module _ {window freed : ℕ} {chains : Chains Version} {kept : Objects} {serials : Purse → ℕ} {table : Table} {h : List Record} (s : StandsFor window freed chains kept serials table h) where
+module _ {base : Base} {freed : ℕ} {chains : Chains Version} {kept : Objects} {serials : Purse → ℕ} {table : Table} {h : List Record} (s : StandsFor base freed chains kept serials table h) where
   -- now, or at a moment that isn't below the horizon
-  pub bound-in : (p : Purse) (n : List ℕ) (t : ℕ) → last_of h ≤ t → (at : Option ℕ) → IsFrom (horizon_now window h) at → object_of (version_in at (bindings_in chains table p n)) ≡ option_map (object_in p) (bound_at p n (moment_of t at) h)
-  bound-in p n t l at from = ap object_of (swept_version_in (horizon_now window h) at (bindings_in chains table p n) (bindings_on p n h) from (s.partitions.bindings p n)) ∙ all at
+  pub bound-in : (p : Purse) (n : List ℕ) (t : ℕ) → last_of h ≤ t → (at : Option ℕ) → IsFrom (horizon_now base h) at → object_of (version_in at (bindings_in chains table p n)) ≡ option_map (object_in p) (bound_at base p n (moment_of t at) h)
+  bound-in p n t l at from = ap object_of (swept_version_in (horizon_now base h) at (bindings_in chains table p n) (bindings_on base p n h) from (s.partitions.bindings p n)) ∙ all at
     where
-      all : (at : Option ℕ) → object_of (version_in at (bindings_on p n h)) ≡ option_map (object_in p) (bound_at p n (moment_of t at) h)
-      all None = ap object_of (current-bound p n (last_of h) t (bindings p n h) l (s.sound.bindings p n)) ∙ object-laid p n (in_force_by t (bindings p n h))
-      all (Some m) = ap object_of (in_force-laid (λ serial. 64 + length n) (λ v. Some (item.Bind (object_in p v.value))) m (bindings p n h)) ∙ object-laid p n (in_force_by m (bindings p n h))
+      all : (at : Option ℕ) → object_of (version_in at (bindings_on base p n h)) ≡ option_map (object_in p) (bound_at base p n (moment_of t at) h)
+      all None = ap object_of (current-bound p n (last_of h) t (bindings base p n h) l (s.sound.bindings p n)) ∙ object-laid p n (in_force_by t (bindings base p n h))
+      all (Some m) = ap object_of (in_force-laid (λ serial. 64 + length n) (λ v. Some (item.Bind (object_in p v.value))) m (bindings base p n h)) ∙ object-laid p n (in_force_by m (bindings base p n h))
 
-  pub serial-now : (p : Purse) (n : List ℕ) (t : ℕ) → last_of h ≤ t → serial_now (bindings_in chains table p n) ≡ bound_at p n t h
-  serial-now p n t l = ap (option_map (λ o. o.serial)) (bound-in p n t l None tt) ∙ of (bound_at p n t h)
+  pub serial-now : (p : Purse) (n : List ℕ) (t : ℕ) → last_of h ≤ t → serial_now (bindings_in chains table p n) ≡ bound_at base p n t h
+  serial-now p n t l = ap (option_map (λ o. o.serial)) (bound-in p n t l None tt) ∙ of (bound_at base p n t h)
     where
       of : (x : Option ℕ) → option_map (λ o. o.serial) (option_map (object_in p) x) ≡ x
       of None = refl
       of (Some serial) = refl
 
   -- how many names are bound, and whether an object has one
-  pub count-now : (p : Purse) (t : ℕ) → last_of h ≤ t → count_by (λ n. is_some (serial_now (bindings_in chains table p n))) (names_in chains table p) ≡ bound_count p t h
+  pub count-now : (p : Purse) (t : ℕ) → last_of h ≤ t → count_by (λ n. is_some (serial_now (bindings_in chains table p n))) (names_in chains table p) ≡ bound_count base p t h
   count-now p t l = ap (count_by (λ n. is_some (serial_now (bindings_in chains table p n)))) (s.partitions.names p)
-      ∙ count-filter _ _ (names_of p h) (λ n e. ap is_some (serial-none (bindings_in chains table p n) e))
-      ∙ ap (λ f. count_by f (names_of p h)) (λ i n. is_some (serial-now p n t l i))
+      ∙ count-filter _ _ (names_of base p h) (λ n e. ap is_some (serial-none (bindings_in chains table p n) e))
+      ∙ ap (λ f. count_by f (names_of base p h)) (λ i n. is_some (serial-now p n t l i))
 
-  pub named-now : (o : ObjectId) (t : ℕ) → last_of h ≤ t → list_any (λ n. is_serial o.serial (serial_now (bindings_in chains table o.purse n))) (names_in chains table o.purse) ≡ has_name o t h
+  pub named-now : (o : ObjectId) (t : ℕ) → last_of h ≤ t → list_any (λ n. is_serial o.serial (serial_now (bindings_in chains table o.purse n))) (names_in chains table o.purse) ≡ has_name base o t h
   named-now o t l = ap (list_any (λ n. is_serial o.serial (serial_now (bindings_in chains table o.purse n)))) (s.partitions.names o.purse)
-      ∙ any-filter _ _ (names_of o.purse h) (λ n e. ap (is_serial o.serial) (serial-none (bindings_in chains table o.purse n) e))
-      ∙ ap (λ f. list_any f (names_of o.purse h)) (λ i n. is_serial o.serial (serial-now o.purse n t l i))
+      ∙ any-filter _ _ (names_of base o.purse h) (λ n e. ap (is_serial o.serial) (serial-none (bindings_in chains table o.purse n) e))
+      ∙ ap (λ f. list_any f (names_of base o.purse h)) (λ i n. is_serial o.serial (serial-now o.purse n t l i))
+
+-- OPEN CHAINS
+
+-- a change of names that leaves no chain behind
+pub tidy_named : {chains new : Chains Version} {kept : Objects} {table table' : Table} → IsTidy chains kept table → LeavesNoChain chains new table table' → IsTidy new kept table'
+tidy_named tidy leaves = record { none_else = λ c o f g. let before = leaves c o g in tidy.none_else c before.0 f before.1 }
 
 -- ROOM FOR A NAME
 
 -- what is kept of objects, where the chains of their tracks are as before
-pub objects_beside : {hz : ℕ} {chains new : Chains Version} {kept : Objects} {h : List Record} → ObjectsStand hz chains kept h → KeepsObjects chains new kept → ObjectsStand hz new kept h
-objects_beside {hz} {h = h} s keeps = record {
+pub objects_beside : {hz : ℕ} {chains new : Chains Version} {kept : Objects} {base : Base} {h : List Record} → ObjectsStand base hz chains kept h → KeepsObjects chains new kept → ObjectsStand base hz new kept h
+objects_beside {hz} {base = base} {h = h} s keeps = record {
   holds = holds_still keeps s.holds;
   made = s.made;
-  tracks = λ o w. subst (λ vs. IsSwept hz vs (versions_on w o h)) (sym (held_still keeps o w)) (s.tracks o w);
+  tracks = λ o w. subst (λ vs. IsSwept hz vs (versions_on base w o h)) (sym (held_still keeps o w)) (s.tracks o w);
   ends = s.ends;
 }
 
 -- no chain of an object is one of a name
-pub strange : {hz : ℕ} {chains : Chains Version} {kept : Objects} {table : Table} {h : List Record} → NamesStand hz chains kept table h → (o : ObjectId) (k : Kept) (w : Which) → found_in kept o ≡ Some k → IsForeign table (chain_of w k)
+pub strange : {hz : ℕ} {chains : Chains Version} {kept : Objects} {table : Table} {base : Base} {h : List Record} → NamesStand base hz chains kept table h → (o : ObjectId) (k : Kept) (w : Which) → found_in kept o ≡ Some k → IsForeign table (chain_of w k)
 strange s o k w got p n has = not_both _ (eq-eqb (chain_of w k) (chain_of w k) refl) (s.apart p n (chain_of w k) has o k w got)
 
-module _ {window freed : ℕ} {chains : Chains Version} {kept : Objects} {serials : Purse → ℕ} {table : Table} {h : List Record} (s : StandsFor window freed chains kept serials table h) (new : Chains Version) (table' : Table) where
+module _ {base : Base} {freed : ℕ} {chains : Chains Version} {kept : Objects} {serials : Purse → ℕ} {table : Table} {h : List Record} (s : StandsFor base freed chains kept serials table h) (new : Chains Version) (table' : Table) where
   pub stands_reserved : Holds new table' → Waits new table' → waiting_in table' ≡ waiting_in table → ((p : Purse) → names_in new table' p ≡ names_in chains table p) → ((p : Purse) (n : List ℕ) → bindings_in new table' p n ≡ bindings_in chains table p n)
       → ((c : ℕ) → IsOpen chains c → items_of new c ≡ items_of chains c) → StillOpen chains new
-      → ((p : Purse) (n : List ℕ) (c : ℕ) → chain_at table' p n ≡ Some c → IsOpen chains c → chain_at table p n ≡ Some c) → item_count new ≡ item_count chains
-      → StandsFor window freed new kept serials table' h
-  stands_reserved holds waits waiting names bindings others still own same = record {
+      → ((p : Purse) (n : List ℕ) (c : ℕ) → chain_at table' p n ≡ Some c → IsOpen chains c → chain_at table p n ≡ Some c) → LeavesNoChain chains new table table' → item_count new ≡ item_count chains
+      → StandsFor base freed new kept serials table' h
+  stands_reserved holds waits waiting names bindings others still own leaves same = record {
     sound = s.sound;
     objects = objects_beside s.objects (record {
       opened = λ o k w got. still (chain_of w k) (s.objects.holds.chained.opened o k w got);
@@ -138,42 +144,43 @@ module _ {window freed : ℕ} {chains : Chains Version} {kept : Objects} {serial
     partitions = record {
       holds = holds;
       waits = waits;
-      bindings = λ p n. subst (λ vs. IsSwept (horizon_now window h) vs (bindings_on p n h)) (sym (bindings p n)) (s.partitions.bindings p n);
-      names = λ p. names p ∙ s.partitions.names p ∙ ap (λ f. filter f (names_of p h)) (λ i n. is_any (sym (bindings p n) i));
+      bindings = λ p n. subst (λ vs. IsSwept (horizon_now base h) vs (bindings_on base p n h)) (sym (bindings p n)) (s.partitions.bindings p n);
+      names = λ p. names p ∙ s.partitions.names p ∙ ap (λ f. filter f (names_of base p h)) (λ i n. is_any (sym (bindings p n) i));
       ends = waiting_same (ap (map (λ e. e.end)) waiting) refl s.partitions.ends;
       apart = λ p n c has o k w got. by_test (c == chain_of w k)
           (λ e. let is : c ≡ chain_of w k = eqb-true c (chain_of w k) e in
           absurd (strange s.partitions o k w got p n (own p n c has (subst (IsOpen chains) (sym is) (s.objects.holds.chained.opened o k w got)) ∙ ap (λ x. Some x) is)))
           (λ e. e);
     };
+    tidy = tidy_named s.tidy leaves;
     used = ap (λ n. n + freed) same ∙ s.used;
     ended = s.ended ∙ ap (λ es. freed + length (ends_in kept) + length es) (sym waiting);
   }
 
   -- A RECORD ABOUT A NAME
 
-  stands_named : (r : Record) (sound : IsSound (h ++ r ∷ [])) → MakesNone r → counted values_ended_by r ≡ 0 → ((o : ObjectId) (w : Which) → versions_on w o (h ++ r ∷ []) ≡ versions_on w o h)
+  stands_named : (r : Record) (sound : IsSound base (h ++ r ∷ [])) → MakesNone r → counted values_ended_by r ≡ 0 → ((o : ObjectId) (w : Which) → versions_on base w o (h ++ r ∷ []) ≡ versions_on base w o h)
       → Holds new table' → Waits new table' → map (λ e. e.end) (waiting_in table') ≡ map (λ e. e.end) (waiting_in table) ++ replicate (counted bindings_ended_by r) r.moment
       → KeepsOthers chains new table → ((p : Purse) (n : List ℕ) → chain_at table' p n ≡ chain_at table p n)
-      → ((p : Purse) → names_in new table' p ≡ filter (λ n. is_any (bindings_in new table' p n)) (names_of p (h ++ r ∷ [])))
-      → ((p : Purse) (n : List ℕ) → IsSwept (horizon_now window h) (bindings_in new table' p n) (bindings_on p n (h ++ r ∷ [])))
-      → item_count new ≡ item_count chains + counted made_by r → StandsFor window freed new kept serials table' (h ++ r ∷ [])
-  stands_named r sound none unended tracks holds waits waiting others own names bindings made = stands_on s r sound none objects (record {
+      → ((p : Purse) → names_in new table' p ≡ filter (λ n. is_any (bindings_in new table' p n)) (names_of base p (h ++ r ∷ [])))
+      → ((p : Purse) (n : List ℕ) → IsSwept (horizon_now base h) (bindings_in new table' p n) (bindings_on base p n (h ++ r ∷ [])))
+      → LeavesNoChain chains new table table' → item_count new ≡ item_count chains + counted made_by r → StandsFor base freed new kept serials table' (h ++ r ∷ [])
+  stands_named r sound none unended tracks holds waits waiting others own names bindings leaves made = stands_on s r sound none objects (record {
     holds = holds;
     waits = waits;
-    bindings = λ p n. swept_up (horizon_now window h) (horizon_now window (h ++ r ∷ [])) _ _ (horizon_up s r sound) (bindings p n);
+    bindings = λ p n. swept_up (horizon_now base h) (horizon_now base (h ++ r ∷ [])) _ _ (horizon_up s r sound) (bindings p n);
     names = names;
     ends = waiting_next (horizon_up s r sound) bindings_ended_by h r waiting s.partitions.ends;
     apart = λ p n c has. s.partitions.apart p n c (sym (own p n) ∙ has);
-  }) made (no-more (ends_in kept) r.moment unended) waiting
+  }) (tidy_named s.tidy leaves) made (no-more (ends_in kept) r.moment unended) waiting
     where
-      beside : ObjectsStand (horizon_now window h) new kept h
+      beside : ObjectsStand base (horizon_now base h) new kept h
       beside = objects_beside s.objects (record {
         opened = λ o k w got. others.still (chain_of w k) (s.objects.holds.chained.opened o k w got);
         items = λ o k w got. others.items (chain_of w k) (s.objects.holds.chained.opened o k w got) (strange s.partitions o k w got);
       })
 
-      objects : ObjectsStand (horizon_now window (h ++ r ∷ [])) new kept (h ++ r ∷ [])
+      objects : ObjectsStand base (horizon_now base (h ++ r ∷ [])) new kept (h ++ r ∷ [])
       objects = objects_next s r sound beside.holds (λ o. refl) none (λ q u. swept_as refl (tracks q u) (beside.tracks q u))
           (no-more (ends_in kept) r.moment unended)
 
@@ -198,16 +205,16 @@ twice-alone true x y = refl
 twice-alone false x y = refl
 
 -- the versions on each track, where a request is about a purse but about none of its objects
-module _ (h : List Record) (t : ℕ) (caller : Caller) (o : ObjectId) (request : Request) (about : (p : Purse) → concerns p (record { moment = t; caller = caller; request = request; reply = Done }) ≡ same_purse o.purse p)
+module _ (base : Base) (h : List Record) (t : ℕ) (caller : Caller) (o : ObjectId) (request : Request) (about : (p : Purse) → concerns p (record { moment = t; caller = caller; request = request; reply = Done }) ≡ same_purse o.purse p)
     (kind : is_create request ≡ false) (plain : (q : ObjectId) → model.span_of q request ≡ None) (undeleted : (q : ObjectId) → model.is_deleted q request ≡ false)
     (keeps-data : (q : ObjectId) (old : List ℕ) → model.data_effect q request old ≡ None) (keeps-attributes : (q : ObjectId) (old : List ℕ) → model.attribute_effect q request old ≡ None) (keeps-acl : (q : ObjectId) (old : List AclEntry) → model.acl_effect q request old ≡ None) where
   abbrev told : Record
   told = record { moment = t; caller = caller; request = request; reply = Done }
 
-  pub tracks-idle : (q : ObjectId) (w : Which) → versions_on w q (h ++ told ∷ []) ≡ versions_on w q h
-  tracks-idle q which.Data = ap (laid model.data_track item.Data) (idle h told o about (λ q. refl) kind plain model.data_track q (undeleted q) (keeps-data q))
-  tracks-idle q which.Attributes = ap (laid model.attribute_track item.Attr) (idle h told o about (λ q. refl) kind plain model.attribute_track q (undeleted q) (keeps-attributes q))
-  tracks-idle q which.Acl = ap (laid model.acl_track item.Acl) (idle h told o about (λ q. refl) kind plain model.acl_track q (undeleted q) (keeps-acl q))
+  pub tracks-idle : (q : ObjectId) (w : Which) → versions_on base w q (h ++ told ∷ []) ≡ versions_on base w q h
+  tracks-idle q which.Data = ap (laid model.data_track item.Data) (idle base h told o about (λ q. refl) kind plain model.data_track q (undeleted q) (keeps-data q))
+  tracks-idle q which.Attributes = ap (laid model.attribute_track item.Attr) (idle base h told o about (λ q. refl) kind plain model.attribute_track q (undeleted q) (keeps-attributes q))
+  tracks-idle q which.Acl = ap (laid model.acl_track item.Acl) (idle base h told o about (λ q. refl) kind plain model.acl_track q (undeleted q) (keeps-acl q))
 
 -- A NAME IS BOUND
 
@@ -218,7 +225,7 @@ bound-laid m name o p n old e f =
     ap (λ w. laid_by (λ serial. 64 + length n) (λ v. Some (item.Bind (object_in p v.value))) old ++ w ∷ [])
     (λ i. record { begin = m; end = None; item = Some (item.Bind (sym is i)); cost = 64 + length (name_is name n f i) })
 
-module _ {window freed : ℕ} {chains : Chains Version} {kept : Objects} {serials : Purse → ℕ} {table : Table} {h : List Record} (s : StandsFor window freed chains kept serials table h) {base : Base} {r : Record} (n : IsNext base h r) (granted : is_refused r.reply ≡ false) where
+module _ {base : Base} {freed : ℕ} {chains : Chains Version} {kept : Objects} {serials : Purse → ℕ} {table : Table} {h : List Record} (s : StandsFor base freed chains kept serials table h) {r : Record} (n : IsNext base h r) (granted : is_refused r.reply ≡ false) where
   -- no binding that waits ended later than the record
   pub later_then : all_by r.moment (waiting_in table) ≡ true
   later_then = sym (list_all-map (λ end. nat_le end r.moment) (λ e. e.end) (waiting_in table)) ∙ waiting_by r.moment (ends-by bindings_ended_by r.moment h (all_by-up (last_of h) r.moment h n.later s.sound.moments)) s.partitions.ends
@@ -235,27 +242,27 @@ module _ {window freed : ℕ} {chains : Chains Version} {kept : Objects} {serial
         let told' : r.reply ≡ Done = told-asked n granted (PCreate name o) asked ∙ bound-done base h r.moment r.caller name o bound-accepted in
         λ i. record { moment = r.moment; caller = r.caller; request = asked i; reply = told' i }
 
-    bound-on : (p : Purse) (m : List ℕ) → bindings_on p m (h ++ bound-record ∷ []) ≡ (if same_purse o.purse p && same_name name m then bindings_on p m h ++ binding r.moment name o ∷ [] else bindings_on p m h)
-    bound-on p m = ap (laid-on p m) (bindings-snoc p m h bound-record ∙ twice (same_purse o.purse p) (same_name name m) (model.begun r.moment o.serial ∷ bindings p m h) (bindings p m h))
+    bound-on : (p : Purse) (m : List ℕ) → bindings_on base p m (h ++ bound-record ∷ []) ≡ (if same_purse o.purse p && same_name name m then bindings_on base p m h ++ binding r.moment name o ∷ [] else bindings_on base p m h)
+    bound-on p m = ap (laid-on p m) (bindings-snoc p m base h bound-record ∙ twice (same_purse o.purse p) (same_name name m) (model.begun r.moment o.serial ∷ bindings base p m h) (bindings base p m h))
         ∙ by_test (same_purse o.purse p && same_name name m)
         (λ e. let parts = both (same_purse o.purse p) (same_name name m) e in
-        ap (λ b. laid-on p m (cond b (model.begun r.moment o.serial ∷ bindings p m h) (bindings p m h))) e
-        ∙ sym (bound-laid r.moment name o p m (bindings p m h) parts.0 parts.1)
-        ∙ sym (ap (λ b. if b then bindings_on p m h ++ binding r.moment name o ∷ [] else bindings_on p m h) e))
-        (λ e. ap (λ b. laid-on p m (cond b (model.begun r.moment o.serial ∷ bindings p m h) (bindings p m h))) e
-        ∙ sym (ap (λ b. if b then bindings_on p m h ++ binding r.moment name o ∷ [] else bindings_on p m h) e))
+        ap (λ b. laid-on p m (cond b (model.begun r.moment o.serial ∷ bindings base p m h) (bindings base p m h))) e
+        ∙ sym (bound-laid r.moment name o p m (bindings base p m h) parts.0 parts.1)
+        ∙ sym (ap (λ b. if b then bindings_on base p m h ++ binding r.moment name o ∷ [] else bindings_on base p m h) e))
+        (λ e. ap (λ b. laid-on p m (cond b (model.begun r.moment o.serial ∷ bindings base p m h) (bindings base p m h))) e
+        ∙ sym (ap (λ b. if b then bindings_on base p m h ++ binding r.moment name o ∷ [] else bindings_on base p m h) e))
 
-    bound-names : (p : Purse) → names_of p (h ++ bound-record ∷ []) ≡ cond (same_purse o.purse p) (with_name name (names_of p h)) (names_of p h)
-    bound-names p = names_of-snoc p h bound-record ∙ twice-alone (same_purse o.purse p) (with_name name (names_of p h)) (names_of p h)
+    bound-names : (p : Purse) → names_of base p (h ++ bound-record ∷ []) ≡ cond (same_purse o.purse p) (with_name name (names_of base p h)) (names_of base p h)
+    bound-names p = names_of-snoc p base h bound-record ∙ twice-alone (same_purse o.purse p) (with_name name (names_of base p h)) (names_of base p h)
 
-    pub stands_bound : IsSound (h ++ r ∷ []) → (new : Chains Version) (table' : Table) → Holds new table' → Waits new table' → waiting_in table' ≡ waiting_in table → KeepsOthers chains new table → ((p : Purse) (m : List ℕ) → chain_at table' p m ≡ chain_at table p m)
+    pub stands_bound : IsSound base (h ++ r ∷ []) → (new : Chains Version) (table' : Table) → Holds new table' → Waits new table' → waiting_in table' ≡ waiting_in table → KeepsOthers chains new table → ((p : Purse) (m : List ℕ) → chain_at table' p m ≡ chain_at table p m)
         → ((p : Purse) → names_in new table' p ≡ (if same_purse o.purse p then with_name name (names_in chains table p) else names_in chains table p))
         → ((p : Purse) (m : List ℕ) → bindings_in new table' p m ≡ (if same_purse o.purse p && same_name name m then bindings_in chains table p m ++ binding r.moment name o ∷ [] else bindings_in chains table p m))
-        → item_count new ≡ item_count chains + 1 → StandsFor window freed new kept serials table' (h ++ r ∷ [])
-    stands_bound sound new table' holds waits waiting others own names held made = subst (λ x. StandsFor window freed new kept serials table' (h ++ x ∷ [])) (sym bound-is)
-        (stands_named s new table' bound-record (subst (λ x. IsSound (h ++ x ∷ [])) bound-is sound)
-        (makes-none h bound-record o (λ p. refl) (λ q. refl) refl) refl
-        (tracks-idle h r.moment r.caller o (PCreate name o) (λ p. refl) refl (λ q. refl) (λ q. refl) (λ q old. refl) (λ q old. refl) (λ q old. refl))
+        → LeavesNoChain chains new table table' → item_count new ≡ item_count chains + 1 → StandsFor base freed new kept serials table' (h ++ r ∷ [])
+    stands_bound sound new table' holds waits waiting others own names held leaves made = subst (λ x. StandsFor base freed new kept serials table' (h ++ x ∷ [])) (sym bound-is)
+        (stands_named s new table' bound-record (subst (λ x. IsSound base (h ++ x ∷ [])) bound-is sound)
+        (makes-none base h bound-record o (λ p. refl) (λ q. refl) refl) refl
+        (tracks-idle base h r.moment r.caller o (PCreate name o) (λ p. refl) refl (λ q. refl) (λ q. refl) (λ q old. refl) (λ q old. refl) (λ q old. refl))
         holds waits (ap (map (λ e. e.end)) waiting ∙ no-more (map (λ e. e.end) (waiting_in table)) r.moment refl) others own
         (λ p. by_test (same_purse o.purse p)
         (λ e. names p ∙ ap (λ b. if b then with_name name (names_in chains table p) else names_in chains table p) e ∙ ap (with_name name) (s.partitions.names p)
@@ -264,17 +271,17 @@ module _ {window freed : ℕ} {chains : Chains Version} {kept : Objects} {serial
         ∙ ap (λ b. if b then bindings_in chains table p m ++ binding r.moment name o ∷ [] else bindings_in chains table p m) (&&-false (same_purse o.purse p))))
         (ap is_any (held p name ∙ ap (λ b. if b && same_name name name then bindings_in chains table p name ++ binding r.moment name o ∷ [] else bindings_in chains table p name) e
         ∙ ap (λ b. if b then bindings_in chains table p name ++ binding r.moment name o ∷ [] else bindings_in chains table p name) (name_self name)) ∙ any-more (bindings_in chains table p name) (binding r.moment name o))
-        (names_of p h) (names-sorted p h)
-        ∙ ap (filter (λ m. is_any (bindings_in new table' p m))) (sym (bound-names p ∙ ap (λ b. cond b (with_name name (names_of p h)) (names_of p h)) e)))
+        (names_of base p h) (s.sound.sorted p)
+        ∙ ap (filter (λ m. is_any (bindings_in new table' p m))) (sym (bound-names p ∙ ap (λ b. cond b (with_name name (names_of base p h)) (names_of base p h)) e)))
         (λ e. names p ∙ ap (λ b. if b then with_name name (names_in chains table p) else names_in chains table p) e ∙ s.partitions.names p
-        ∙ ap (λ f. filter f (names_of p h)) (λ i m. is_any (sym (held p m ∙ ap (λ b. if b && same_name name m then bindings_in chains table p m ++ binding r.moment name o ∷ [] else bindings_in chains table p m) e) i))
-        ∙ ap (filter (λ m. is_any (bindings_in new table' p m))) (sym (bound-names p ∙ ap (λ b. cond b (with_name name (names_of p h)) (names_of p h)) e))))
-        (λ p m. swept_as (held p m) (bound-on p m) (swept_if (same_purse o.purse p && same_name name m) (swept_more (horizon_now window h) (binding r.moment name o) _ _ (s.partitions.bindings p m)) (s.partitions.bindings p m))) made)
+        ∙ ap (λ f. filter f (names_of base p h)) (λ i m. is_any (sym (held p m ∙ ap (λ b. if b && same_name name m then bindings_in chains table p m ++ binding r.moment name o ∷ [] else bindings_in chains table p m) e) i))
+        ∙ ap (filter (λ m. is_any (bindings_in new table' p m))) (sym (bound-names p ∙ ap (λ b. cond b (with_name name (names_of base p h)) (names_of base p h)) e))))
+        (λ p m. swept_as (held p m) (bound-on p m) (swept_if (same_purse o.purse p && same_name name m) (swept_more (horizon_now base h) (binding r.moment name o) _ _ (s.partitions.bindings p m)) (s.partitions.bindings p m))) leaves made)
 
     -- it wasn't bound, so what is held of it isn't current
     pub unbound_before : object_of (current_of (bindings_in chains table o.purse name)) ≡ None
     unbound_before = bound-in s o.purse name r.moment n.later None tt
-        ∙ none (bound_at o.purse name r.moment h) (was_unbound base h r.moment r.caller name o bound-accepted)
+        ∙ none (bound_at base o.purse name r.moment h) (was_unbound base h r.moment r.caller name o bound-accepted)
       where
         none : (x : Option ℕ) → is_some x ≡ false → option_map (object_in o.purse) x ≡ None
         none None e = refl
@@ -302,7 +309,7 @@ module _ {window freed : ℕ} {chains : Chains Version} {kept : Objects} {serial
     ended-laid [] b e = refl
     ended-laid (v ∷ past) b e =
         with_end-snoc r.moment (laid_by (λ serial. 64 + length name) (λ v. Some (item.Bind (object_in purse v.value))) past) (as_version purse name v)
-        ∙ ap (λ x. laid_by (λ serial. 64 + length name) (λ v. Some (item.Bind (object_in purse v.value))) past ++ record { begin = v.begin; end = x; item = Some (item.Bind (object_in purse v.value)); cost = 64 + length name } ∷ []) (ap (end_at r.moment) current)
+        ∙ ap (λ x. laid_by (λ serial. 64 + length name) (λ v. Some (item.Bind (object_in purse v.value))) past ++ record { begin = v.begin; end = x; item = Some (item.Bind (object_in purse v.value)); cost = 64 + length name } ∷ []) (ap (end_at r.moment) current ∙ sym (ap (model.end_at r.moment) current))
       where
         open-end : (x : Option ℕ) → EndsBy (last_of h) x → v.end ≡ x → v.end ≡ None
         open-end None y f = f
@@ -318,35 +325,35 @@ module _ {window freed : ℕ} {chains : Chains Version} {kept : Objects} {serial
         current : v.end ≡ None
         current = open-end v.end b.1 refl
 
-    unbound-on : (p : Purse) (m : List ℕ) → bindings_on p m (h ++ unbound-record ∷ []) ≡ (if same_purse purse p && same_name name m then with_end r.moment (bindings_on p m h) else bindings_on p m h)
-    unbound-on p m = ap (laid-on p m) (bindings-snoc p m h unbound-record ∙ twice (same_purse purse p) (same_name name m) (model.with_end r.moment (bindings p m h)) (bindings p m h))
+    unbound-on : (p : Purse) (m : List ℕ) → bindings_on base p m (h ++ unbound-record ∷ []) ≡ (if same_purse purse p && same_name name m then with_end r.moment (bindings_on base p m h) else bindings_on base p m h)
+    unbound-on p m = ap (laid-on p m) (bindings-snoc p m base h unbound-record ∙ twice (same_purse purse p) (same_name name m) (model.with_end r.moment (bindings base p m h)) (bindings base p m h))
         ∙ by_test (same_purse purse p && same_name name m)
         (λ e. let parts = both (same_purse purse p) (same_name name m) e in
-        ap (λ b. laid-on p m (cond b (model.with_end r.moment (bindings p m h)) (bindings p m h))) e
-        ∙ subst (λ x. laid-on x m (model.with_end r.moment (bindings x m h)) ≡ with_end r.moment (bindings_on x m h)) (purse_is purse p parts.0)
-        (subst (λ y. laid-on purse y (model.with_end r.moment (bindings purse y h)) ≡ with_end r.moment (bindings_on purse y h)) (name_is name m parts.1)
-        (sym (ended-laid (bindings purse name h) (s.sound.bindings purse name) (was_bound base h r.moment r.caller purse name unbound-accepted))))
-        ∙ sym (ap (λ b. if b then with_end r.moment (bindings_on p m h) else bindings_on p m h) e))
-        (λ e. ap (λ b. laid-on p m (cond b (model.with_end r.moment (bindings p m h)) (bindings p m h))) e
-        ∙ sym (ap (λ b. if b then with_end r.moment (bindings_on p m h) else bindings_on p m h) e))
+        ap (λ b. laid-on p m (cond b (model.with_end r.moment (bindings base p m h)) (bindings base p m h))) e
+        ∙ subst (λ x. laid-on x m (model.with_end r.moment (bindings base x m h)) ≡ with_end r.moment (bindings_on base x m h)) (purse_is purse p parts.0)
+        (subst (λ y. laid-on purse y (model.with_end r.moment (bindings base purse y h)) ≡ with_end r.moment (bindings_on base purse y h)) (name_is name m parts.1)
+        (sym (ended-laid (bindings base purse name h) (s.sound.bindings purse name) (was_bound base h r.moment r.caller purse name unbound-accepted))))
+        ∙ sym (ap (λ b. if b then with_end r.moment (bindings_on base p m h) else bindings_on base p m h) e))
+        (λ e. ap (λ b. laid-on p m (cond b (model.with_end r.moment (bindings base p m h)) (bindings base p m h))) e
+        ∙ sym (ap (λ b. if b then with_end r.moment (bindings_on base p m h) else bindings_on base p m h) e))
 
-    pub stands_unbound : IsSound (h ++ r ∷ []) → (new : Chains Version) (table' : Table) → Holds new table' → Waits new table' → waiting_in table' ≡ waiting_in table ++ record { end = r.moment; purse = purse; name = name } ∷ [] → KeepsOthers chains new table → ((p : Purse) (m : List ℕ) → chain_at table' p m ≡ chain_at table p m)
+    pub stands_unbound : IsSound base (h ++ r ∷ []) → (new : Chains Version) (table' : Table) → Holds new table' → Waits new table' → waiting_in table' ≡ waiting_in table ++ record { end = r.moment; purse = purse; name = name } ∷ [] → KeepsOthers chains new table → ((p : Purse) (m : List ℕ) → chain_at table' p m ≡ chain_at table p m)
         → ((p : Purse) → names_in new table' p ≡ names_in chains table p)
         → ((p : Purse) (m : List ℕ) → bindings_in new table' p m ≡ (if same_purse purse p && same_name name m then with_end r.moment (bindings_in chains table p m) else bindings_in chains table p m))
-        → item_count new ≡ item_count chains → StandsFor window freed new kept serials table' (h ++ r ∷ [])
-    stands_unbound sound new table' holds waits waiting others own names held made = subst (λ x. StandsFor window freed new kept serials table' (h ++ x ∷ [])) (sym unbound-is)
-        (stands_named s new table' unbound-record (subst (λ x. IsSound (h ++ x ∷ [])) unbound-is sound)
-        (makes-none h unbound-record (object_in purse 0) (λ p. refl) (λ q. refl) refl) refl
-        (tracks-idle h r.moment r.caller (object_in purse 0) (PDelete purse name) (λ p. refl) refl (λ q. refl) (λ q. refl) (λ q old. refl) (λ q old. refl) (λ q old. refl))
+        → LeavesNoChain chains new table table' → item_count new ≡ item_count chains → StandsFor base freed new kept serials table' (h ++ r ∷ [])
+    stands_unbound sound new table' holds waits waiting others own names held leaves made = subst (λ x. StandsFor base freed new kept serials table' (h ++ x ∷ [])) (sym unbound-is)
+        (stands_named s new table' unbound-record (subst (λ x. IsSound base (h ++ x ∷ [])) unbound-is sound)
+        (makes-none base h unbound-record (object_in purse 0) (λ p. refl) (λ q. refl) refl) refl
+        (tracks-idle base h r.moment r.caller (object_in purse 0) (PDelete purse name) (λ p. refl) refl (λ q. refl) (λ q. refl) (λ q old. refl) (λ q old. refl) (λ q old. refl))
         holds waits (ap (map (λ e. e.end)) waiting ∙ map-append (λ e. e.end) (waiting_in table) (record { end = r.moment; purse = purse; name = name } ∷ [])) others own
         (λ p. names p ∙ s.partitions.names p
-        ∙ ap (λ f. filter f (names_of p h)) (λ i m. sym (ap is_any (held p m) ∙ any-end r.moment (same_purse purse p && same_name name m) (bindings_in chains table p m)) i)
-        ∙ ap (filter (λ m. is_any (bindings_in new table' p m))) (sym (names_of-snoc p h unbound-record ∙ unmoved (same_purse purse p) (names_of p h))))
-        (λ p m. swept_as (held p m) (unbound-on p m) (swept_if (same_purse purse p && same_name name m) (swept_end (horizon_now window h) r.moment _ _ (s.partitions.bindings p m)) (s.partitions.bindings p m))) (made ∙ same-count (item_count chains) (counted made_by unbound-record) refl))
+        ∙ ap (λ f. filter f (names_of base p h)) (λ i m. sym (ap is_any (held p m) ∙ any-end r.moment (same_purse purse p && same_name name m) (bindings_in chains table p m)) i)
+        ∙ ap (filter (λ m. is_any (bindings_in new table' p m))) (sym (names_of-snoc p base h unbound-record ∙ unmoved (same_purse purse p) (names_of base p h))))
+        (λ p m. swept_as (held p m) (unbound-on p m) (swept_if (same_purse purse p && same_name name m) (swept_end (horizon_now base h) r.moment _ _ (s.partitions.bindings p m)) (s.partitions.bindings p m))) leaves (made ∙ same-count (item_count chains) (counted made_by unbound-record) refl))
 
 -- THE ADMINISTRATOR'S RECORDS
 
-module _ {window freed : ℕ} {chains : Chains Version} {kept : Objects} {serials : Purse → ℕ} {table : Table} {h : List Record} (s : StandsFor window freed chains kept serials table h) {base : Base} {r : Record} (n : IsNext base h r) (granted : is_refused r.reply ≡ false) where
+module _ {base : Base} {freed : ℕ} {chains : Chains Version} {kept : Objects} {serials : Purse → ℕ} {table : Table} {h : List Record} (s : StandsFor base freed chains kept serials table h) {r : Record} (n : IsNext base h r) (granted : is_refused r.reply ≡ false) where
   abbrev done-of : Request → Record
   done-of request = record { moment = r.moment; caller = r.caller; request = request; reply = Done }
 
@@ -354,19 +361,19 @@ module _ {window freed : ℕ} {chains : Chains Version} {kept : Objects} {serial
   done-is request asked told' = λ i. record { moment = r.moment; caller = r.caller; request = asked i; reply = (told-asked n granted request asked ∙ told') i }
 
   -- a record that sets a budget changes nothing of objects and names
-  pub stands_budget : {purse : Purse} {budget : ℕ} → r.request ≡ SetBudget purse budget → IsSound (h ++ r ∷ []) → StandsFor window freed chains kept serials table (h ++ r ∷ [])
+  pub stands_budget : {purse : Purse} {budget : ℕ} → r.request ≡ SetBudget purse budget → IsSound base (h ++ r ∷ []) → StandsFor base freed chains kept serials table (h ++ r ∷ [])
   stands_budget {purse} {budget} asked sound =
       let set : Record = done-of (SetBudget purse budget) in
       let is : r ≡ set = done-is (SetBudget purse budget) asked (budget-done base h r.moment r.caller purse budget (accepted-asked n granted (SetBudget purse budget) asked)) in
-      subst (λ x. StandsFor window freed chains kept serials table (h ++ x ∷ [])) (sym is)
-      (stands_still s set (subst (λ x. IsSound (h ++ x ∷ [])) is sound) (λ q. refl) refl (λ q. refl) (λ q. refl) (λ q old. refl) (λ q old. refl) (λ q old. refl)
+      subst (λ x. StandsFor base freed chains kept serials table (h ++ x ∷ [])) (sym is)
+      (stands_still s set (subst (λ x. IsSound base (h ++ x ∷ [])) is sound) (λ q. refl) refl (λ q. refl) (λ q. refl) (λ q old. refl) (λ q old. refl) (λ q old. refl)
       (record { bindings = λ p m old. unmoved (concerns p set) old; names = λ p old. unmoved (concerns p set) old }) (record { made = refl; values = refl; bindings = refl }))
 
   -- nor does one that sets the window
-  pub stands_window : {ticks : ℕ} → r.request ≡ SetWindow ticks → IsSound (h ++ r ∷ []) → StandsFor window freed chains kept serials table (h ++ r ∷ [])
+  pub stands_window : {ticks : ℕ} → r.request ≡ SetWindow ticks → IsSound base (h ++ r ∷ []) → StandsFor base freed chains kept serials table (h ++ r ∷ [])
   stands_window {ticks} asked sound =
       let set : Record = done-of (SetWindow ticks) in
       let is : r ≡ set = done-is (SetWindow ticks) asked (window-done base h r.moment r.caller ticks (accepted-asked n granted (SetWindow ticks) asked)) in
-      subst (λ x. StandsFor window freed chains kept serials table (h ++ x ∷ [])) (sym is)
-      (stands_still s set (subst (λ x. IsSound (h ++ x ∷ [])) is sound) (λ q. refl) refl (λ q. refl) (λ q. refl) (λ q old. refl) (λ q old. refl) (λ q old. refl)
+      subst (λ x. StandsFor base freed chains kept serials table (h ++ x ∷ [])) (sym is)
+      (stands_still s set (subst (λ x. IsSound base (h ++ x ∷ [])) is sound) (λ q. refl) refl (λ q. refl) (λ q. refl) (λ q old. refl) (λ q old. refl) (λ q old. refl)
       (record { bindings = λ p m old. unmoved (concerns p set) old; names = λ p old. unmoved (concerns p set) old }) (record { made = refl; values = refl; bindings = refl }))

@@ -15,7 +15,7 @@ use Rattle.s4_types.specs.declared.version.Item.{Item}
 use Rattle.s4_types.specs.declared.version.Item.TheVariants as item
 use Rattle.s4_types.specs.Names.{same_purse, same_object, object_in}
 use Rattle.s4_types.specs.Kinds.{is_refused, is_create, concerns}
-use Rattle.s4_types.specs.Versions.{Track, Value, versions, span_of, with_effect, makes, deletes, is_made, is_deleted, lives_at, when, data_track, attribute_track, acl_track, of_length, written}
+use Rattle.s4_types.specs.Versions.{Track, Value, versions, span_of, on_current, with_effect, with_value, makes, deletes, is_made, is_deleted, lives_at, when, data_track, attribute_track, acl_track, of_length, written}
 use Rattle.s4_types.specs.Versions as model
 use Rattle.s4_types.specs.Bindings.{rebound, named_by}
 use Rattle.s4_types.specs.Outcome.{◌>>◌, refuse_if, reply_of}
@@ -50,7 +50,11 @@ either-same false x y e = refl
 
 effect-none : {V : Type 0} (t : ℕ) (values : List (Value V)) → with_effect t (λ old. None) values ≡ values
 effect-none t [] = refl
-effect-none t (v ∷ past) = refl
+effect-none t (v ∷ past) = ap (λ x. with_value t x v past) (of v.end)
+  where
+    of : (end : Option ℕ) → on_current (λ old. None) end v.value ≡ None
+    of None = refl
+    of (Some end) = refl
 
 -- the current value of a track, where the object lives
 pub record IsLive {V : Type 0} (Fits : V → Type 0) (values : List (Value V)) : Type 0 where
@@ -73,7 +77,7 @@ module _ {V : Type 0} (track : Track V) (wrap : V → Item) (cost : (x : V) → 
   begun-laid m x = ap (λ n. record { begin = m; end = None; item = Some (wrap x); cost = n }) (sym (cost x))
 
   ended-laid : (m : ℕ) (v : Value V) → v.end ≡ None → version_of track wrap (model.ended m v) ≡ ended m (version_of track wrap v)
-  ended-laid m v e = ap (λ x. record { begin = v.begin; end = x; item = item_of wrap v; cost = track.cost v.value }) (sym (ap (end_at m) e))
+  ended-laid m v e = ap (λ x. record { begin = v.begin; end = x; item = item_of wrap v; cost = track.cost v.value }) (ap (model.end_at m) e ∙ sym (ap (end_at m) e))
 
   pub laid-end : (m : ℕ) (v : Value V) (past : List (Value V)) → v.end ≡ None → laid track wrap (model.ended m v ∷ past) ≡ with_end m (laid track wrap (v ∷ past))
   laid-end m v past e = ap (λ w. laid track wrap past ++ w ∷ []) (ended-laid m v e) ∙ sym (with_end-snoc m (laid track wrap past) (version_of track wrap v))
@@ -93,7 +97,7 @@ rebinds-none r f g = record {
 }
 
 -- what a record does that is about the object and makes none
-module _ (h : List Record) (r : Record) (o : ObjectId) (about : (p : Purse) → concerns p r ≡ same_purse o.purse p) (made : (q : ObjectId) → is_made q r.reply ≡ false) (kind : is_create r.request ≡ false) where
+module _ (base : Base) (h : List Record) (r : Record) (o : ObjectId) (about : (p : Purse) → concerns p r ≡ same_purse o.purse p) (made : (q : ObjectId) → is_made q r.reply ≡ false) (kind : is_create r.request ≡ false) where
   pub makes-none : MakesNone r
   makes-none = record {
     makes_none = λ q. ap (λ b. concerns q.purse r && b) (made q) ∙ &&-false (concerns q.purse r);
@@ -104,61 +108,62 @@ module _ (h : List Record) (r : Record) (o : ObjectId) (about : (p : Purse) → 
   module _ (plain : (q : ObjectId) → span_of q r.request ≡ None) where
     module _ {V : Type 0} (track : Track V) (q : ObjectId) where
       vs : List (Value V)
-      vs = versions track q h
+      vs = versions base track q h
 
-      changed : versions track q (h ++ r ∷ []) ≡ cond (same_purse o.purse q.purse) (cond (deletes q r) (model.with_end r.moment (versions track q h)) (with_effect r.moment (track.effect q r.request) (versions track q h))) (versions track q h)
-      changed = versions-snoc track q h r
-          ∙ ap (λ values. if concerns q.purse r then values else versions track q h) (plain-change track q r (versions track q h) (plain q))
-          ∙ ap (λ b. if concerns q.purse r then (if b then model.begun r.moment (track.start q) ∷ versions track q h else (if deletes q r then model.with_end r.moment (versions track q h) else with_effect r.moment (track.effect q r.request) (versions track q h))) else versions track q h) (makes-none.makes_none q)
-          ∙ ap (λ b. cond b (cond (deletes q r) (model.with_end r.moment (versions track q h)) (with_effect r.moment (track.effect q r.request) (versions track q h))) (versions track q h)) (about q.purse)
+      changed : versions base track q (h ++ r ∷ []) ≡ cond (same_purse o.purse q.purse) (cond (deletes q r) (model.with_end r.moment (versions base track q h)) (with_effect r.moment (track.effect q r.request) (versions base track q h))) (versions base track q h)
+      changed = versions-snoc base track q h r
+          ∙ ap (λ values. if concerns q.purse r then values else versions base track q h) (plain-change track q r (versions base track q h) (plain q))
+          ∙ ap (λ b. if concerns q.purse r then (if b then model.begun r.moment (track.start q) ∷ versions base track q h else (if deletes q r then model.with_end r.moment (versions base track q h) else with_effect r.moment (track.effect q r.request) (versions base track q h))) else versions base track q h) (makes-none.makes_none q)
+          ∙ ap (λ b. cond b (cond (deletes q r) (model.with_end r.moment (versions base track q h)) (with_effect r.moment (track.effect q r.request) (versions base track q h))) (versions base track q h)) (about q.purse)
 
       -- it deletes nothing
-      effected : is_deleted q r.request ≡ false → versions track q (h ++ r ∷ []) ≡ cond (same_purse o.purse q.purse) (with_effect r.moment (track.effect q r.request) (versions track q h)) (versions track q h)
-      effected e = changed ∙ ap (λ b. cond (same_purse o.purse q.purse) (cond (concerns q.purse r && b) (model.with_end r.moment (versions track q h)) (with_effect r.moment (track.effect q r.request) (versions track q h))) (versions track q h)) e
-          ∙ ap (λ b. cond (same_purse o.purse q.purse) (cond b (model.with_end r.moment (versions track q h)) (with_effect r.moment (track.effect q r.request) (versions track q h))) (versions track q h)) (&&-false (concerns q.purse r))
+      effected : is_deleted q r.request ≡ false → versions base track q (h ++ r ∷ []) ≡ cond (same_purse o.purse q.purse) (with_effect r.moment (track.effect q r.request) (versions base track q h)) (versions base track q h)
+      effected e = changed ∙ ap (λ b. cond (same_purse o.purse q.purse) (cond (concerns q.purse r && b) (model.with_end r.moment (versions base track q h)) (with_effect r.moment (track.effect q r.request) (versions base track q h))) (versions base track q h)) e
+          ∙ ap (λ b. cond (same_purse o.purse q.purse) (cond b (model.with_end r.moment (versions base track q h)) (with_effect r.moment (track.effect q r.request) (versions base track q h))) (versions base track q h)) (&&-false (concerns q.purse r))
 
       -- and changes nothing on this track
-      pub idle : is_deleted q r.request ≡ false → ((old : V) → track.effect q r.request old ≡ None) → versions track q (h ++ r ∷ []) ≡ versions track q h
-      idle e none = effected e ∙ either-same (same_purse o.purse q.purse) _ _ (ap (λ effect. with_effect r.moment effect (versions track q h)) (λ i old. none old i) ∙ effect-none r.moment (versions track q h))
+      pub idle : is_deleted q r.request ≡ false → ((old : V) → track.effect q r.request old ≡ None) → versions base track q (h ++ r ∷ []) ≡ versions base track q h
+      idle e none = effected e ∙ either-same (same_purse o.purse q.purse) _ _ (ap (λ effect. with_effect r.moment effect (versions base track q h)) (λ i old. none old i) ∙ effect-none r.moment (versions base track q h))
 
-    module _ {V : Type 0} {Fits : V → Type 0} (track : Track V) (wrap : V → Item) (cost : (x : V) → cost_of (wrap x) ≡ track.cost x) (live : IsLive Fits (versions track o h)) where
+    module _ {V : Type 0} {Fits : V → Type 0} (track : Track V) (wrap : V → Item) (cost : (x : V) → cost_of (wrap x) ≡ track.cost x) (live : IsLive Fits (versions base track o h)) where
       -- a value is put in the place of another
       module _ (f : V → V) (undeleted : (q : ObjectId) → is_deleted q r.request ≡ false) (does : (q : ObjectId) (old : V) → track.effect q r.request old ≡ when (same_object o q) (f old)) where
-        put-here : laid track wrap (versions track o (h ++ r ∷ [])) ≡ with_put r.moment (wrap (f live.newest.value)) (laid track wrap (versions track o h))
+        put-here : laid track wrap (versions base track o (h ++ r ∷ [])) ≡ with_put r.moment (wrap (f live.newest.value)) (laid track wrap (versions base track o h))
         put-here =
-            let next : versions track o (h ++ r ∷ []) ≡ model.begun r.moment (f live.newest.value) ∷ model.ended r.moment live.newest ∷ live.past
+            let next : versions base track o (h ++ r ∷ []) ≡ model.begun r.moment (f live.newest.value) ∷ model.ended r.moment live.newest ∷ live.past
             = effected track o (undeleted o)
-            ∙ ap (λ b. cond b (with_effect r.moment (track.effect o r.request) (versions track o h)) (versions track o h)) (purse_self o.purse)
-            ∙ ap (λ effect. with_effect r.moment effect (versions track o h)) (λ i old. does o old i)
-            ∙ ap (λ b. with_effect r.moment (λ old. when b (f old)) (versions track o h)) (object_self o)
-            ∙ ap (with_effect r.moment (λ old. Some (f old))) live.whole in
+            ∙ ap (λ b. cond b (with_effect r.moment (track.effect o r.request) (versions base track o h)) (versions base track o h)) (purse_self o.purse)
+            ∙ ap (λ effect. with_effect r.moment effect (versions base track o h)) (λ i old. does o old i)
+            ∙ ap (λ b. with_effect r.moment (λ old. when b (f old)) (versions base track o h)) (object_self o)
+            ∙ ap (with_effect r.moment (λ old. Some (f old))) live.whole
+            ∙ ap (λ e. with_value r.moment (on_current (λ old. Some (f old)) e live.newest.value) live.newest live.past) live.current in
             ap (laid track wrap) next ∙ laid-put track wrap cost r.moment (f live.newest.value) live.newest live.past live.current
             ∙ ap (λ values. with_put r.moment (wrap (f live.newest.value)) (laid track wrap values)) (sym live.whole)
 
-        put-typed : (q : ObjectId) → laid track wrap (versions track q (h ++ r ∷ [])) ≡ (if same_object o q then with_put r.moment (wrap (f live.newest.value)) (laid track wrap (versions track q h)) else laid track wrap (versions track q h))
+        put-typed : (q : ObjectId) → laid track wrap (versions base track q (h ++ r ∷ [])) ≡ (if same_object o q then with_put r.moment (wrap (f live.newest.value)) (laid track wrap (versions base track q h)) else laid track wrap (versions base track q h))
         put-typed q = by_test (same_object o q)
-            (λ e. subst (λ p. laid track wrap (versions track p (h ++ r ∷ [])) ≡ with_put r.moment (wrap (f live.newest.value)) (laid track wrap (versions track p h))) (object_is o q e) put-here
-            ∙ sym (ap (λ b. if b then with_put r.moment (wrap (f live.newest.value)) (laid track wrap (versions track q h)) else laid track wrap (versions track q h)) e))
+            (λ e. subst (λ p. laid track wrap (versions base track p (h ++ r ∷ [])) ≡ with_put r.moment (wrap (f live.newest.value)) (laid track wrap (versions base track p h))) (object_is o q e) put-here
+            ∙ sym (ap (λ b. if b then with_put r.moment (wrap (f live.newest.value)) (laid track wrap (versions base track q h)) else laid track wrap (versions base track q h)) e))
             (λ e. ap (laid track wrap) (idle track q (undeleted q) (λ old. does q old ∙ ap (λ b. when b (f old)) e))
-            ∙ sym (ap (λ b. if b then with_put r.moment (wrap (f live.newest.value)) (laid track wrap (versions track q h)) else laid track wrap (versions track q h)) e))
+            ∙ sym (ap (λ b. if b then with_put r.moment (wrap (f live.newest.value)) (laid track wrap (versions base track q h)) else laid track wrap (versions base track q h)) e))
 
       -- the object ends
       module _ (deleting : (q : ObjectId) → is_deleted q r.request ≡ same_object o q) (none : (q : ObjectId) (old : V) → track.effect q r.request old ≡ None) where
-        end-here : laid track wrap (versions track o (h ++ r ∷ [])) ≡ with_end r.moment (laid track wrap (versions track o h))
+        end-here : laid track wrap (versions base track o (h ++ r ∷ [])) ≡ with_end r.moment (laid track wrap (versions base track o h))
         end-here =
             let deleted : deletes o r ≡ true = ap (λ b. concerns o.purse r && b) (deleting o ∙ object_self o) ∙ &&-true (concerns o.purse r) ∙ about o.purse ∙ purse_self o.purse in
             ap (laid track wrap) (changed track o
-            ∙ ap (λ b. cond b (cond (deletes o r) (model.with_end r.moment (versions track o h)) (with_effect r.moment (track.effect o r.request) (versions track o h))) (versions track o h)) (purse_self o.purse)
-            ∙ ap (λ b. cond b (model.with_end r.moment (versions track o h)) (with_effect r.moment (track.effect o r.request) (versions track o h))) deleted
+            ∙ ap (λ b. cond b (cond (deletes o r) (model.with_end r.moment (versions base track o h)) (with_effect r.moment (track.effect o r.request) (versions base track o h))) (versions base track o h)) (purse_self o.purse)
+            ∙ ap (λ b. cond b (model.with_end r.moment (versions base track o h)) (with_effect r.moment (track.effect o r.request) (versions base track o h))) deleted
             ∙ ap (model.with_end r.moment) live.whole)
             ∙ laid-end track wrap cost r.moment live.newest live.past live.current ∙ ap (λ values. with_end r.moment (laid track wrap values)) (sym live.whole)
 
-        end-typed : (q : ObjectId) → laid track wrap (versions track q (h ++ r ∷ [])) ≡ (if same_object o q then with_end r.moment (laid track wrap (versions track q h)) else laid track wrap (versions track q h))
+        end-typed : (q : ObjectId) → laid track wrap (versions base track q (h ++ r ∷ [])) ≡ (if same_object o q then with_end r.moment (laid track wrap (versions base track q h)) else laid track wrap (versions base track q h))
         end-typed q = by_test (same_object o q)
-            (λ e. subst (λ p. laid track wrap (versions track p (h ++ r ∷ [])) ≡ with_end r.moment (laid track wrap (versions track p h))) (object_is o q e) end-here
-            ∙ sym (ap (λ b. if b then with_end r.moment (laid track wrap (versions track q h)) else laid track wrap (versions track q h)) e))
+            (λ e. subst (λ p. laid track wrap (versions base track p (h ++ r ∷ [])) ≡ with_end r.moment (laid track wrap (versions base track p h))) (object_is o q e) end-here
+            ∙ sym (ap (λ b. if b then with_end r.moment (laid track wrap (versions base track q h)) else laid track wrap (versions base track q h)) e))
             (λ e. ap (laid track wrap) (idle track q (deleting q ∙ e) (none q))
-            ∙ sym (ap (λ b. if b then with_end r.moment (laid track wrap (versions track q h)) else laid track wrap (versions track q h)) e))
+            ∙ sym (ap (λ b. if b then with_end r.moment (laid track wrap (versions base track q h)) else laid track wrap (versions base track q h)) e))
 
 -- a test that a second test of tracks doesn't pass
 else-both : {A : Type 0} (b : Bool) (x y z : A) → z ≡ y → z ≡ (if b && false then x else y)
@@ -169,17 +174,17 @@ then-both b x y z e = e ∙ sym (ap (λ c. if c then x else y) (&&-true b))
 
 -- THE KINDS OF CHANGES
 
-module _ {base : Base} {h : List Record} {r : Record} (s : IsSound h) (n : IsNext base h r) (granted : is_refused r.reply ≡ false) (o : ObjectId) (request : Request) (asked : r.request ≡ request) (of_o : changed_by request ≡ Some o) where
+module _ {base : Base} {h : List Record} {r : Record} (s : IsSound base h) (n : IsNext base h r) (granted : is_refused r.reply ≡ false) (o : ObjectId) (request : Request) (asked : r.request ≡ request) (of_o : changed_by request ≡ Some o) where
   accepted : is_refused (told base h r.moment r.caller request) ≡ false
   accepted = accepted-asked n granted request asked
 
   -- the object lives
-  pub changed_lives : lives_at r.moment o h ≡ true
+  pub changed_lives : lives_at base r.moment o h ≡ true
   changed_lives = changed-lives base h r.moment r.caller request o accepted of_o
 
-  alive : (was_made o h ≡ true) × (was_deleted o h ≡ false)
+  alive : (was_made base o h ≡ true) × (was_deleted o h ≡ false)
   alive =
-      let parts = both (was_made o h) (Rattle.std.proofs.Common.not (was_deleted o h)) (sym (lives_at-now r.moment (last_of h) o h n.later s.moments) ∙ changed_lives) in
+      let parts = both (was_made base o h) (Rattle.std.proofs.Common.not (was_deleted o h)) (sym (lives_at-now r.moment base o h n.later (s.tracks o which.Acl)) ∙ changed_lives) in
       (parts.0, turned (was_deleted o h) parts.1)
     where
       turned : (b : Bool) → Rattle.std.proofs.Common.not b ≡ true → b ≡ false
@@ -194,130 +199,130 @@ module _ {base : Base} {h : List Record} {r : Record} (s : IsSound h) (n : IsNex
       let is : r.reply ≡ Done = told-asked n granted request asked ∙ changed-done base h r.moment r.caller request o accepted of_o in
       λ i. record { moment = r.moment; caller = r.caller; request = asked i; reply = is i }
 
-  pub live-data : IsLive DataFits (versions data_track o h)
-  live-data = let stands : TrackStands DataFits o h (versions data_track o h) = s.tracks o which.Data in live-track DataFits (was_made o h) (was_deleted o h) (last_of h) (versions data_track o h) alive.0 alive.1 stands.shape
+  pub live-data : IsLive DataFits (versions base data_track o h)
+  live-data = let stands : TrackStands DataFits base o h (versions base data_track o h) = s.tracks o which.Data in live-track DataFits (was_made base o h) (was_deleted o h) (last_of h) (versions base data_track o h) alive.0 alive.1 stands
 
-  pub live-attributes : IsLive AttributesFit (versions attribute_track o h)
-  live-attributes = let stands : TrackStands AttributesFit o h (versions attribute_track o h) = s.tracks o which.Attributes in live-track AttributesFit (was_made o h) (was_deleted o h) (last_of h) (versions attribute_track o h) alive.0 alive.1 stands.shape
+  pub live-attributes : IsLive AttributesFit (versions base attribute_track o h)
+  live-attributes = let stands : TrackStands AttributesFit base o h (versions base attribute_track o h) = s.tracks o which.Attributes in live-track AttributesFit (was_made base o h) (was_deleted o h) (last_of h) (versions base attribute_track o h) alive.0 alive.1 stands
 
-  pub live-acl : IsLive AclFits (versions acl_track o h)
-  live-acl = let stands : TrackStands AclFits o h (versions acl_track o h) = s.tracks o which.Acl in live-track AclFits (was_made o h) (was_deleted o h) (last_of h) (versions acl_track o h) alive.0 alive.1 stands.shape
+  pub live-acl : IsLive AclFits (versions base acl_track o h)
+  live-acl = let stands : TrackStands AclFits base o h (versions base acl_track o h) = s.tracks o which.Acl in live-track AclFits (was_made base o h) (was_deleted o h) (last_of h) (versions base acl_track o h) alive.0 alive.1 stands
 
-  pub current-data : live-data.newest.value ≡ data_of o r.moment h
+  pub current-data : live-data.newest.value ≡ data_of base o r.moment h
   current-data = data-in-force s o r.moment n.later changed_lives live-data.newest live-data.past live-data.whole
 
-  pub current-attributes : live-attributes.newest.value ≡ attributes_of o r.moment h
+  pub current-attributes : live-attributes.newest.value ≡ attributes_of base o r.moment h
   current-attributes = attributes-in-force s o r.moment n.later changed_lives live-attributes.newest live-attributes.past live-attributes.whole
 
-  pub current-acl : live-acl.newest.value ≡ acl_of o r.moment h
+  pub current-acl : live-acl.newest.value ≡ acl_of base o r.moment h
   current-acl = acl-in-force s o r.moment n.later changed_lives live-acl.newest live-acl.past live-acl.whole
 
-module _ (h : List Record) (t : ℕ) (caller : Caller) (o : ObjectId) where
+module _ (base : Base) (h : List Record) (t : ℕ) (caller : Caller) (o : ObjectId) where
   abbrev done : Request → Record
   done request = record { moment = t; caller = caller; request = request; reply = Done }
 
-  puts-data : (request : Request) (f : List ℕ → List ℕ) (live : IsLive DataFits (versions data_track o h))
+  puts-data : (request : Request) (f : List ℕ → List ℕ) (live : IsLive DataFits (versions base data_track o h))
       → ((p : Purse) → concerns p (done request) ≡ same_purse o.purse p) → is_create request ≡ false → ((q : ObjectId) → span_of q request ≡ None) → ((q : ObjectId) → is_deleted q request ≡ false)
       → ((q : ObjectId) (old : List ℕ) → model.data_effect q request old ≡ when (same_object o q) (f old))
       → ((q : ObjectId) (old : List ℕ) → model.attribute_effect q request old ≡ None) → ((q : ObjectId) (old : List AclEntry) → model.acl_effect q request old ≡ None)
       → RebindsNone (done request) → Counts (done request) 1 1 0
-      → PutsOn h (done request) o which.Data (item.Data (f live.newest.value))
-  puts-data request f live about kind plain undeleted does none keeps rebinds counts' = record { makes = makes-none h (done request) o about (λ q. refl) kind; rebinds = rebinds; counts = counts'; tracks = tracks }
+      → PutsOn base h (done request) o which.Data (item.Data (f live.newest.value))
+  puts-data request f live about kind plain undeleted does none keeps rebinds counts' = record { makes = makes-none base h (done request) o about (λ q. refl) kind; rebinds = rebinds; counts = counts'; tracks = tracks }
     where
-      tracks : (q : ObjectId) (u : Which) → versions_on u q (h ++ done request ∷ []) ≡ (if same_object o q && same_which which.Data u then with_put t (item.Data (f live.newest.value)) (versions_on u q h) else versions_on u q h)
-      tracks q which.Data = then-both (same_object o q) _ _ _ (put-typed h (done request) o about (λ q. refl) kind plain data_track item.Data (λ x. refl) live f undeleted does q)
-      tracks q which.Attributes = else-both (same_object o q) _ _ _ (ap (laid attribute_track item.Attr) (idle h (done request) o about (λ q. refl) kind plain attribute_track q (undeleted q) (none q)))
-      tracks q which.Acl = else-both (same_object o q) _ _ _ (ap (laid acl_track item.Acl) (idle h (done request) o about (λ q. refl) kind plain acl_track q (undeleted q) (keeps q)))
+      tracks : (q : ObjectId) (u : Which) → versions_on base u q (h ++ done request ∷ []) ≡ (if same_object o q && same_which which.Data u then with_put t (item.Data (f live.newest.value)) (versions_on base u q h) else versions_on base u q h)
+      tracks q which.Data = then-both (same_object o q) _ _ _ (put-typed base h (done request) o about (λ q. refl) kind plain data_track item.Data (λ x. refl) live f undeleted does q)
+      tracks q which.Attributes = else-both (same_object o q) _ _ _ (ap (laid attribute_track item.Attr) (idle base h (done request) o about (λ q. refl) kind plain attribute_track q (undeleted q) (none q)))
+      tracks q which.Acl = else-both (same_object o q) _ _ _ (ap (laid acl_track item.Acl) (idle base h (done request) o about (λ q. refl) kind plain acl_track q (undeleted q) (keeps q)))
 
-  puts-attributes : (bytes : List ℕ) (live : IsLive AttributesFit (versions attribute_track o h)) → PutsOn h (done (SetAttr o bytes)) o which.Attributes (item.Attr bytes)
-  puts-attributes bytes live = record { makes = makes-none h (done (SetAttr o bytes)) o (λ p. refl) (λ q. refl) refl; rebinds = rebinds-none (done (SetAttr o bytes)) (λ p n m old. refl) (λ p old. refl); counts = record { made = refl; values = refl; bindings = refl }; tracks = tracks }
+  puts-attributes : (bytes : List ℕ) (live : IsLive AttributesFit (versions base attribute_track o h)) → PutsOn base h (done (SetAttr o bytes)) o which.Attributes (item.Attr bytes)
+  puts-attributes bytes live = record { makes = makes-none base h (done (SetAttr o bytes)) o (λ p. refl) (λ q. refl) refl; rebinds = rebinds-none (done (SetAttr o bytes)) (λ p n m old. refl) (λ p old. refl); counts = record { made = refl; values = refl; bindings = refl }; tracks = tracks }
     where
-      tracks : (q : ObjectId) (u : Which) → versions_on u q (h ++ done (SetAttr o bytes) ∷ []) ≡ (if same_object o q && same_which which.Attributes u then with_put t (item.Attr bytes) (versions_on u q h) else versions_on u q h)
-      tracks q which.Attributes = then-both (same_object o q) _ _ _ (put-typed h (done (SetAttr o bytes)) o (λ p. refl) (λ q. refl) refl (λ q. refl) attribute_track item.Attr (λ x. refl) live (λ old. bytes) (λ q. refl) (λ q old. refl) q)
-      tracks q which.Data = else-both (same_object o q) _ _ _ (ap (laid data_track item.Data) (idle h (done (SetAttr o bytes)) o (λ p. refl) (λ q. refl) refl (λ q. refl) data_track q refl (λ old. refl)))
-      tracks q which.Acl = else-both (same_object o q) _ _ _ (ap (laid acl_track item.Acl) (idle h (done (SetAttr o bytes)) o (λ p. refl) (λ q. refl) refl (λ q. refl) acl_track q refl (λ old. refl)))
+      tracks : (q : ObjectId) (u : Which) → versions_on base u q (h ++ done (SetAttr o bytes) ∷ []) ≡ (if same_object o q && same_which which.Attributes u then with_put t (item.Attr bytes) (versions_on base u q h) else versions_on base u q h)
+      tracks q which.Attributes = then-both (same_object o q) _ _ _ (put-typed base h (done (SetAttr o bytes)) o (λ p. refl) (λ q. refl) refl (λ q. refl) attribute_track item.Attr (λ x. refl) live (λ old. bytes) (λ q. refl) (λ q old. refl) q)
+      tracks q which.Data = else-both (same_object o q) _ _ _ (ap (laid data_track item.Data) (idle base h (done (SetAttr o bytes)) o (λ p. refl) (λ q. refl) refl (λ q. refl) data_track q refl (λ old. refl)))
+      tracks q which.Acl = else-both (same_object o q) _ _ _ (ap (laid acl_track item.Acl) (idle base h (done (SetAttr o bytes)) o (λ p. refl) (λ q. refl) refl (λ q. refl) acl_track q refl (λ old. refl)))
 
-  puts-acl : (user rights : ℕ) (live : IsLive AclFits (versions acl_track o h)) → PutsOn h (done (SetAcl o user rights)) o which.Acl (item.Acl (acl_with user rights live.newest.value))
-  puts-acl user rights live = record { makes = makes-none h (done (SetAcl o user rights)) o (λ p. refl) (λ q. refl) refl; rebinds = rebinds-none (done (SetAcl o user rights)) (λ p n m old. refl) (λ p old. refl); counts = record { made = refl; values = refl; bindings = refl }; tracks = tracks }
+  puts-acl : (user rights : ℕ) (live : IsLive AclFits (versions base acl_track o h)) → PutsOn base h (done (SetAcl o user rights)) o which.Acl (item.Acl (acl_with user rights live.newest.value))
+  puts-acl user rights live = record { makes = makes-none base h (done (SetAcl o user rights)) o (λ p. refl) (λ q. refl) refl; rebinds = rebinds-none (done (SetAcl o user rights)) (λ p n m old. refl) (λ p old. refl); counts = record { made = refl; values = refl; bindings = refl }; tracks = tracks }
     where
-      tracks : (q : ObjectId) (u : Which) → versions_on u q (h ++ done (SetAcl o user rights) ∷ []) ≡ (if same_object o q && same_which which.Acl u then with_put t (item.Acl (acl_with user rights live.newest.value)) (versions_on u q h) else versions_on u q h)
-      tracks q which.Acl = then-both (same_object o q) _ _ _ (put-typed h (done (SetAcl o user rights)) o (λ p. refl) (λ q. refl) refl (λ q. refl) acl_track item.Acl (λ x. refl) live (acl_with user rights) (λ q. refl) (λ q old. refl) q)
-      tracks q which.Data = else-both (same_object o q) _ _ _ (ap (laid data_track item.Data) (idle h (done (SetAcl o user rights)) o (λ p. refl) (λ q. refl) refl (λ q. refl) data_track q refl (λ old. refl)))
-      tracks q which.Attributes = else-both (same_object o q) _ _ _ (ap (laid attribute_track item.Attr) (idle h (done (SetAcl o user rights)) o (λ p. refl) (λ q. refl) refl (λ q. refl) attribute_track q refl (λ old. refl)))
+      tracks : (q : ObjectId) (u : Which) → versions_on base u q (h ++ done (SetAcl o user rights) ∷ []) ≡ (if same_object o q && same_which which.Acl u then with_put t (item.Acl (acl_with user rights live.newest.value)) (versions_on base u q h) else versions_on base u q h)
+      tracks q which.Acl = then-both (same_object o q) _ _ _ (put-typed base h (done (SetAcl o user rights)) o (λ p. refl) (λ q. refl) refl (λ q. refl) acl_track item.Acl (λ x. refl) live (acl_with user rights) (λ q. refl) (λ q old. refl) q)
+      tracks q which.Data = else-both (same_object o q) _ _ _ (ap (laid data_track item.Data) (idle base h (done (SetAcl o user rights)) o (λ p. refl) (λ q. refl) refl (λ q. refl) data_track q refl (λ old. refl)))
+      tracks q which.Attributes = else-both (same_object o q) _ _ _ (ap (laid attribute_track item.Attr) (idle base h (done (SetAcl o user rights)) o (λ p. refl) (λ q. refl) refl (λ q. refl) attribute_track q refl (λ old. refl)))
 
-  ends-all : IsLive DataFits (versions data_track o h) → IsLive AttributesFit (versions attribute_track o h) → IsLive AclFits (versions acl_track o h) → EndsAll h (done (Delete o)) o
-  ends-all a b c = record { makes = makes-none h (done (Delete o)) o (λ p. refl) (λ q. refl) refl; rebinds = rebinds-none (done (Delete o)) (λ p n m old. refl) (λ p old. refl); counts = record { made = refl; values = refl; bindings = refl }; tracks = tracks }
+  ends-all : IsLive DataFits (versions base data_track o h) → IsLive AttributesFit (versions base attribute_track o h) → IsLive AclFits (versions base acl_track o h) → EndsAll base h (done (Delete o)) o
+  ends-all a b c = record { makes = makes-none base h (done (Delete o)) o (λ p. refl) (λ q. refl) refl; rebinds = rebinds-none (done (Delete o)) (λ p n m old. refl) (λ p old. refl); counts = record { made = refl; values = refl; bindings = refl }; tracks = tracks }
     where
-      tracks : (q : ObjectId) (u : Which) → versions_on u q (h ++ done (Delete o) ∷ []) ≡ (if same_object o q then with_end t (versions_on u q h) else versions_on u q h)
-      tracks q which.Data = end-typed h (done (Delete o)) o (λ p. refl) (λ q. refl) refl (λ q. refl) data_track item.Data (λ x. refl) a (λ q. refl) (λ q old. refl) q
-      tracks q which.Attributes = end-typed h (done (Delete o)) o (λ p. refl) (λ q. refl) refl (λ q. refl) attribute_track item.Attr (λ x. refl) b (λ q. refl) (λ q old. refl) q
-      tracks q which.Acl = end-typed h (done (Delete o)) o (λ p. refl) (λ q. refl) refl (λ q. refl) acl_track item.Acl (λ x. refl) c (λ q. refl) (λ q old. refl) q
+      tracks : (q : ObjectId) (u : Which) → versions_on base u q (h ++ done (Delete o) ∷ []) ≡ (if same_object o q then with_end t (versions_on base u q h) else versions_on base u q h)
+      tracks q which.Data = end-typed base h (done (Delete o)) o (λ p. refl) (λ q. refl) refl (λ q. refl) data_track item.Data (λ x. refl) a (λ q. refl) (λ q old. refl) q
+      tracks q which.Attributes = end-typed base h (done (Delete o)) o (λ p. refl) (λ q. refl) refl (λ q. refl) attribute_track item.Attr (λ x. refl) b (λ q. refl) (λ q old. refl) q
+      tracks q which.Acl = end-typed base h (done (Delete o)) o (λ p. refl) (λ q. refl) refl (λ q. refl) acl_track item.Acl (λ x. refl) c (λ q. refl) (λ q old. refl) q
 
-module _ {base : Base} {h : List Record} {r : Record} (s : IsSound h) (n : IsNext base h r) (granted : is_refused r.reply ≡ false) (o : ObjectId) where
-  pub write_puts : (offset : ℕ) (bytes : List ℕ) → r.request ≡ Write o offset bytes → PutsOn h r o which.Data (item.Data (written offset bytes (data_of o r.moment h)))
+module _ {base : Base} {h : List Record} {r : Record} (s : IsSound base h) (n : IsNext base h r) (granted : is_refused r.reply ≡ false) (o : ObjectId) where
+  pub write_puts : (offset : ℕ) (bytes : List ℕ) → r.request ≡ Write o offset bytes → PutsOn base h r o which.Data (item.Data (written offset bytes (data_of base o r.moment h)))
   write_puts offset bytes asked =
       let live = live-data s n granted o (Write o offset bytes) asked refl in
-      subst (λ old. PutsOn h r o which.Data (item.Data (written offset bytes old))) (current-data s n granted o (Write o offset bytes) asked refl)
-      (subst (λ p. PutsOn h p o which.Data (item.Data (written offset bytes live.newest.value))) (sym (is-plain s n granted o (Write o offset bytes) asked refl))
-      (puts-data h r.moment r.caller o (Write o offset bytes) (written offset bytes) live (λ p. refl) refl (λ q. refl) (λ q. refl) (λ q old. refl) (λ q old. refl) (λ q old. refl)
-      (rebinds-none (done h r.moment r.caller o (Write o offset bytes)) (λ p n m old. refl) (λ p old. refl)) (record { made = refl; values = refl; bindings = refl })))
+      subst (λ old. PutsOn base h r o which.Data (item.Data (written offset bytes old))) (current-data s n granted o (Write o offset bytes) asked refl)
+      (subst (λ p. PutsOn base h p o which.Data (item.Data (written offset bytes live.newest.value))) (sym (is-plain s n granted o (Write o offset bytes) asked refl))
+      (puts-data base h r.moment r.caller o (Write o offset bytes) (written offset bytes) live (λ p. refl) refl (λ q. refl) (λ q. refl) (λ q old. refl) (λ q old. refl) (λ q old. refl)
+      (rebinds-none (done base h r.moment r.caller o (Write o offset bytes)) (λ p n m old. refl) (λ p old. refl)) (record { made = refl; values = refl; bindings = refl })))
 
   -- and what it leaves fits
-  pub write_fits : (offset : ℕ) (bytes : List ℕ) → r.request ≡ Write o offset bytes → DataFits (written offset bytes (data_of o r.moment h))
+  pub write_fits : (offset : ℕ) (bytes : List ℕ) → r.request ≡ Write o offset bytes → DataFits (written offset bytes (data_of base o r.moment h))
   write_fits offset bytes asked =
       let live = live-data s n granted o (Write o offset bytes) asked refl in
       let is = current-data s n granted o (Write o offset bytes) asked refl in
       data-fit base h r.moment r.caller (Write o offset bytes) o (accepted-asked n granted (Write o offset bytes) asked)
-      (data_of o r.moment h) (written offset bytes (data_of o r.moment h)) (ap (λ b. when b (written offset bytes (data_of o r.moment h))) (object_self o)) refl (subst DataFits is live.fits)
+      (data_of base o r.moment h) (written offset bytes (data_of base o r.moment h)) (ap (λ b. when b (written offset bytes (data_of base o r.moment h))) (object_self o)) refl (subst DataFits is live.fits)
 
-  pub append_puts : (bytes : List ℕ) → r.request ≡ Append o bytes → PutsOn h r o which.Data (item.Data (data_of o r.moment h ++ bytes))
+  pub append_puts : (bytes : List ℕ) → r.request ≡ Append o bytes → PutsOn base h r o which.Data (item.Data (data_of base o r.moment h ++ bytes))
   append_puts bytes asked =
       let live = live-data s n granted o (Append o bytes) asked refl in
-      subst (λ old. PutsOn h r o which.Data (item.Data (old ++ bytes))) (current-data s n granted o (Append o bytes) asked refl)
-      (subst (λ p. PutsOn h p o which.Data (item.Data (live.newest.value ++ bytes))) (sym (is-plain s n granted o (Append o bytes) asked refl))
-      (puts-data h r.moment r.caller o (Append o bytes) (λ old. old ++ bytes) live (λ p. refl) refl (λ q. refl) (λ q. refl) (λ q old. refl) (λ q old. refl) (λ q old. refl)
-      (rebinds-none (done h r.moment r.caller o (Append o bytes)) (λ p n m old. refl) (λ p old. refl)) (record { made = refl; values = refl; bindings = refl })))
+      subst (λ old. PutsOn base h r o which.Data (item.Data (old ++ bytes))) (current-data s n granted o (Append o bytes) asked refl)
+      (subst (λ p. PutsOn base h p o which.Data (item.Data (live.newest.value ++ bytes))) (sym (is-plain s n granted o (Append o bytes) asked refl))
+      (puts-data base h r.moment r.caller o (Append o bytes) (λ old. old ++ bytes) live (λ p. refl) refl (λ q. refl) (λ q. refl) (λ q old. refl) (λ q old. refl) (λ q old. refl)
+      (rebinds-none (done base h r.moment r.caller o (Append o bytes)) (λ p n m old. refl) (λ p old. refl)) (record { made = refl; values = refl; bindings = refl })))
 
-  pub truncate_puts : (length : ℕ) → r.request ≡ Truncate o length → PutsOn h r o which.Data (item.Data (of_length length (data_of o r.moment h)))
+  pub truncate_puts : (length : ℕ) → r.request ≡ Truncate o length → PutsOn base h r o which.Data (item.Data (of_length length (data_of base o r.moment h)))
   truncate_puts length asked =
       let live = live-data s n granted o (Truncate o length) asked refl in
-      subst (λ old. PutsOn h r o which.Data (item.Data (of_length length old))) (current-data s n granted o (Truncate o length) asked refl)
-      (subst (λ p. PutsOn h p o which.Data (item.Data (of_length length live.newest.value))) (sym (is-plain s n granted o (Truncate o length) asked refl))
-      (puts-data h r.moment r.caller o (Truncate o length) (of_length length) live (λ p. refl) refl (λ q. refl) (λ q. refl) (λ q old. refl) (λ q old. refl) (λ q old. refl)
-      (rebinds-none (done h r.moment r.caller o (Truncate o length)) (λ p n m old. refl) (λ p old. refl)) (record { made = refl; values = refl; bindings = refl })))
+      subst (λ old. PutsOn base h r o which.Data (item.Data (of_length length old))) (current-data s n granted o (Truncate o length) asked refl)
+      (subst (λ p. PutsOn base h p o which.Data (item.Data (of_length length live.newest.value))) (sym (is-plain s n granted o (Truncate o length) asked refl))
+      (puts-data base h r.moment r.caller o (Truncate o length) (of_length length) live (λ p. refl) refl (λ q. refl) (λ q. refl) (λ q old. refl) (λ q old. refl) (λ q old. refl)
+      (rebinds-none (done base h r.moment r.caller o (Truncate o length)) (λ p n m old. refl) (λ p old. refl)) (record { made = refl; values = refl; bindings = refl })))
 
-  pub set_attributes_puts : (bytes : List ℕ) → r.request ≡ SetAttr o bytes → PutsOn h r o which.Attributes (item.Attr bytes)
+  pub set_attributes_puts : (bytes : List ℕ) → r.request ≡ SetAttr o bytes → PutsOn base h r o which.Attributes (item.Attr bytes)
   set_attributes_puts bytes asked =
-      subst (λ p. PutsOn h p o which.Attributes (item.Attr bytes)) (sym (is-plain s n granted o (SetAttr o bytes) asked refl))
-      (puts-attributes h r.moment r.caller o bytes (live-attributes s n granted o (SetAttr o bytes) asked refl))
+      subst (λ p. PutsOn base h p o which.Attributes (item.Attr bytes)) (sym (is-plain s n granted o (SetAttr o bytes) asked refl))
+      (puts-attributes base h r.moment r.caller o bytes (live-attributes s n granted o (SetAttr o bytes) asked refl))
 
-  pub set_acl_puts : (user rights : ℕ) → r.request ≡ SetAcl o user rights → PutsOn h r o which.Acl (item.Acl (acl_with user rights (acl_of o r.moment h)))
+  pub set_acl_puts : (user rights : ℕ) → r.request ≡ SetAcl o user rights → PutsOn base h r o which.Acl (item.Acl (acl_with user rights (acl_of base o r.moment h)))
   set_acl_puts user rights asked =
       let live = live-acl s n granted o (SetAcl o user rights) asked refl in
-      subst (λ old. PutsOn h r o which.Acl (item.Acl (acl_with user rights old))) (current-acl s n granted o (SetAcl o user rights) asked refl)
-      (subst (λ p. PutsOn h p o which.Acl (item.Acl (acl_with user rights live.newest.value))) (sym (is-plain s n granted o (SetAcl o user rights) asked refl))
-      (puts-acl h r.moment r.caller o user rights live))
+      subst (λ old. PutsOn base h r o which.Acl (item.Acl (acl_with user rights old))) (current-acl s n granted o (SetAcl o user rights) asked refl)
+      (subst (λ p. PutsOn base h p o which.Acl (item.Acl (acl_with user rights live.newest.value))) (sym (is-plain s n granted o (SetAcl o user rights) asked refl))
+      (puts-acl base h r.moment r.caller o user rights live))
 
   -- and the ACL in force lets it
-  pub set_acl_settable : (user rights : ℕ) → r.request ≡ SetAcl o user rights → is_ok (settable user rights (acl_of o r.moment h)) ≡ true
+  pub set_acl_settable : (user rights : ℕ) → r.request ≡ SetAcl o user rights → is_ok (settable user rights (acl_of base o r.moment h)) ≡ true
   set_acl_settable user rights asked =
-      (passes_judgement (settable user rights (acl_of o r.moment h)) (Ok Done)
-      (passes_judgement (judge h r.moment r.caller o right.Control None) (settable user rights (acl_of o r.moment h) >> Ok Done)
+      (passes_judgement (settable user rights (acl_of base o r.moment h)) (Ok Done)
+      (passes_judgement (judge base h r.moment r.caller o right.Control None) (settable user rights (acl_of base o r.moment h) >> Ok Done)
       (accepted-asked n granted (SetAcl o user rights) asked)).1).0
 
-  pub delete_ends : r.request ≡ Delete o → EndsAll h r o
+  pub delete_ends : r.request ≡ Delete o → EndsAll base h r o
   delete_ends asked =
-      subst (λ p. EndsAll h p o) (sym (is-plain s n granted o (Delete o) asked refl))
-      (ends-all h r.moment r.caller o (live-data s n granted o (Delete o) asked refl) (live-attributes s n granted o (Delete o) asked refl) (live-acl s n granted o (Delete o) asked refl))
+      subst (λ p. EndsAll base h p o) (sym (is-plain s n granted o (Delete o) asked refl))
+      (ends-all base h r.moment r.caller o (live-data s n granted o (Delete o) asked refl) (live-attributes s n granted o (Delete o) asked refl) (live-acl s n granted o (Delete o) asked refl))
 
 -- CREATE
 
-module _ (h : List Record) (t : ℕ) (caller : Caller) (number : ℕ) where
+module _ (base : Base) (h : List Record) (t : ℕ) (caller : Caller) (number : ℕ) where
   abbrev pub purse_of_new : Purse
   purse_of_new = record { creator = caller.who; number = number }
 
   abbrev pub new_object : ObjectId
-  new_object = object_in purse_of_new (drawn purse_of_new h + 1)
+  new_object = object_in purse_of_new (drawn base purse_of_new h + 1)
 
   abbrev creation : Record
   creation = record { moment = t; caller = caller; request = Create number; reply = Made new_object }
@@ -325,18 +330,18 @@ module _ (h : List Record) (t : ℕ) (caller : Caller) (number : ℕ) where
   makes-new : (q : ObjectId) → makes q creation ≡ same_object new_object q
   makes-new q = elim (same_purse purse_of_new q.purse) as (λ b. (b && (b && (new_object.serial == q.serial))) ≡ (b && (new_object.serial == q.serial))) [ true ↦ refl | false ↦ refl ]
 
-  made-here : {V : Type 0} (track : Track V) → versions track new_object (h ++ creation ∷ []) ≡ model.begun t (track.start new_object) ∷ versions track new_object h
-  made-here track = versions-snoc track new_object h creation
-      ∙ ap (λ b. if b then (if makes new_object creation then model.begun t (track.start new_object) ∷ versions track new_object h else (if deletes new_object creation then model.with_end t (versions track new_object h) else with_effect t (track.effect new_object (Create number)) (versions track new_object h))) else versions track new_object h) (purse_self purse_of_new)
-      ∙ ap (λ b. if b then model.begun t (track.start new_object) ∷ versions track new_object h else (if deletes new_object creation then model.with_end t (versions track new_object h) else with_effect t (track.effect new_object (Create number)) (versions track new_object h))) (makes-new new_object ∙ object_self new_object)
+  made-here : {V : Type 0} (track : Track V) → versions base track new_object (h ++ creation ∷ []) ≡ model.begun t (track.start new_object) ∷ versions base track new_object h
+  made-here track = versions-snoc base track new_object h creation
+      ∙ ap (λ b. if b then (if makes new_object creation then model.begun t (track.start new_object) ∷ versions base track new_object h else (if deletes new_object creation then model.with_end t (versions base track new_object h) else with_effect t (track.effect new_object (Create number)) (versions base track new_object h))) else versions base track new_object h) (purse_self purse_of_new)
+      ∙ ap (λ b. if b then model.begun t (track.start new_object) ∷ versions base track new_object h else (if deletes new_object creation then model.with_end t (versions base track new_object h) else with_effect t (track.effect new_object (Create number)) (versions base track new_object h))) (makes-new new_object ∙ object_self new_object)
 
-  not-here : {V : Type 0} (track : Track V) (q : ObjectId) → ((old : V) → track.effect q (Create number) old ≡ None) → same_object new_object q ≡ false → versions track q (h ++ creation ∷ []) ≡ versions track q h
-  not-here track q none e = versions-snoc track q h creation
-      ∙ ap (λ b. if same_purse purse_of_new q.purse then (if b then model.begun t (track.start q) ∷ versions track q h else (if deletes q creation then model.with_end t (versions track q h) else with_effect t (track.effect q (Create number)) (versions track q h))) else versions track q h) (makes-new q ∙ e)
-      ∙ ap (λ b. if same_purse purse_of_new q.purse then (if b then model.with_end t (versions track q h) else with_effect t (track.effect q (Create number)) (versions track q h)) else versions track q h) (&&-false (same_purse purse_of_new q.purse))
-      ∙ either-same (same_purse purse_of_new q.purse) _ _ (ap (λ effect. with_effect t effect (versions track q h)) (λ i old. none old i) ∙ effect-none t (versions track q h))
+  not-here : {V : Type 0} (track : Track V) (q : ObjectId) → ((old : V) → track.effect q (Create number) old ≡ None) → same_object new_object q ≡ false → versions base track q (h ++ creation ∷ []) ≡ versions base track q h
+  not-here track q none e = versions-snoc base track q h creation
+      ∙ ap (λ b. if same_purse purse_of_new q.purse then (if b then model.begun t (track.start q) ∷ versions base track q h else (if deletes q creation then model.with_end t (versions base track q h) else with_effect t (track.effect q (Create number)) (versions base track q h))) else versions base track q h) (makes-new q ∙ e)
+      ∙ ap (λ b. if same_purse purse_of_new q.purse then (if b then model.with_end t (versions base track q h) else with_effect t (track.effect q (Create number)) (versions base track q h)) else versions base track q h) (&&-false (same_purse purse_of_new q.purse))
+      ∙ either-same (same_purse purse_of_new q.purse) _ _ (ap (λ effect. with_effect t effect (versions base track q h)) (λ i old. none old i) ∙ effect-none t (versions base track q h))
 
-  creation_makes : MakesOnly h creation new_object
+  creation_makes : MakesOnly base h creation new_object
   creation_makes = record {
     next = refl;
     makes_it = makes-new;
@@ -349,7 +354,7 @@ module _ (h : List Record) (t : ℕ) (caller : Caller) (number : ℕ) where
     counts = record { made = refl; values = refl; bindings = refl };
   }
     where
-      elsewhere : (q : ObjectId) (w : Which) → same_object new_object q ≡ false → versions_on w q (h ++ creation ∷ []) ≡ versions_on w q h
+      elsewhere : (q : ObjectId) (w : Which) → same_object new_object q ≡ false → versions_on base w q (h ++ creation ∷ []) ≡ versions_on base w q h
       elsewhere q which.Data e = ap (laid data_track item.Data) (not-here data_track q (λ old. refl) e)
       elsewhere q which.Attributes e = ap (laid attribute_track item.Attr) (not-here attribute_track q (λ old. refl) e)
       elsewhere q which.Acl e = ap (laid acl_track item.Acl) (not-here acl_track q (λ old. refl) e)
@@ -358,11 +363,11 @@ made_it : (b : Bool) (r : Refusal) (o : ObjectId) → is_refused (reply_of (refu
 made_it true r o e = cc
 made_it false r o e = refl
 
-pub create_makes : {base : Base} {h : List Record} {r : Record} → IsNext base h r → is_refused r.reply ≡ false → (number : ℕ) → r.request ≡ Create number → MakesOnly h r (new_object h r.moment r.caller number)
+pub create_makes : {base : Base} {h : List Record} {r : Record} → IsNext base h r → is_refused r.reply ≡ false → (number : ℕ) → r.request ≡ Create number → MakesOnly base h r (new_object base h r.moment r.caller number)
 create_makes {base} {h} {r} n granted number asked =
-    let o : ObjectId = new_object h r.moment r.caller number in
-    let test : Bool = nat_le 65535 (drawn o.purse h) in
+    let o : ObjectId = new_object base h r.moment r.caller number in
+    let test : Bool = nat_le 65535 (drawn base o.purse h) in
     let answered : r.reply ≡ reply_of (refuse_if test NamesSpent >> Ok (Made o)) = told-asked n granted (Create number) asked in
     let told : r.reply ≡ Made o = answered ∙ made_it test NamesSpent o (sym (ap is_refused answered) ∙ granted) in
-    let is : r ≡ creation h r.moment r.caller number = λ i. record { moment = r.moment; caller = r.caller; request = asked i; reply = told i } in
-    subst (λ x. MakesOnly h x o) (sym is) (creation_makes h r.moment r.caller number)
+    let is : r ≡ creation base h r.moment r.caller number = λ i. record { moment = r.moment; caller = r.caller; request = asked i; reply = told i } in
+    subst (λ x. MakesOnly base h x o) (sym is) (creation_makes base h r.moment r.caller number)

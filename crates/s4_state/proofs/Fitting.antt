@@ -1,18 +1,19 @@
 -- Every value that a track ever had fits, the past ones too.
 use Rattle.std.proofs.Common.{◌≡◌, ℕ, ◌≤◌, Bool, true, false, cond, Option, Some, None, List, [], ◌∷◌, ◌++◌, refl, sym, subst, arith, length}
 use Rattle.std.specs.Prelude.{◌&&◌, nat_le, nat_lt, map, if◌then◌else◌}
-use Rattle.std.specs.List.{find, list_all}
+use Rattle.std.specs.List.{list_all}
+use Rattle.s4_types.specs.Base.{Base}
 use Rattle.s4_types.specs.declared.acl.AclEntry.{AclEntry}
 use Rattle.s4_types.specs.declared.object.ObjectId.{ObjectId}
 use Rattle.s4_types.specs.declared.record.Record.{Record}
 use Rattle.s4_types.specs.Acl.{IsAcl, one_each}
 use Rattle.s4_types.specs.Kinds.{concerns}
-use Rattle.s4_types.specs.Versions.{Track, Value, Span, span_of, erased, flushed_by, begun, with_value, with_effect, with_end, versions, value_at, makes, deletes, lives_at}
+use Rattle.s4_types.specs.Versions.{Track, Value, Span, span_of, erased, ends_by, in_force_by, flushed_by, begun, on_current, with_value, with_effect, with_end, versions, value_at, makes, deletes}
 use Rattle.s4_types.specs.Play.{last_of}
 use Rattle.s4_types.proofs.Booleans.{by_test, both}
 use Rattle.s4_types.proofs.Snoc.{versions-snoc}
 use Rattle.s4_state.specs.Sound.{AllFit}
-use Rattle.s4_state.proofs.Following.{IsFitting}
+use Rattle.s4_state.proofs.Following.{IsFitting, effect-current}
 
 -- an ACL has at most 16 entries, each of which gives some right
 pub acl-entries : (acl : List AclEntry) → IsAcl acl → (length acl ≤ 16) × (list_all (λ entry. nat_lt 0 entry.rights) acl ≡ true)
@@ -41,17 +42,17 @@ module _ {V : Type 0} (Fits : V → Type 0) where
   all-either true xs ys s t = s
   all-either false xs ys s t = t
 
-module _ {V : Type 0} (track : Track V) (Fits : V → Type 0) (o : ObjectId) (h : List Record) (r : Record) (later : last_of h ≤ r.moment) (f : IsFitting track Fits o h r later) where
-  all-effect : concerns o.purse r ≡ true → (values : List (Value V)) → versions track o h ≡ values → AllFit Fits values → AllFit Fits (with_effect r.moment (track.effect o r.request) values)
+module _ {V : Type 0} (track : Track V) (Fits : V → Type 0) (o : ObjectId) (base : Base) (h : List Record) (r : Record) (later : last_of h ≤ r.moment) (f : IsFitting track Fits o base h r later) where
+  all-effect : concerns o.purse r ≡ true → (values : List (Value V)) → versions base track o h ≡ values → AllFit Fits values → AllFit Fits (with_effect r.moment (track.effect o r.request) values)
   all-effect c [] is s = tt
-  all-effect c (v ∷ past) is s = of (track.effect o r.request v.value) refl
+  all-effect c (v ∷ past) is s = of (on_current (track.effect o r.request) v.end v.value) refl
     where
-      of : (next : Option V) → track.effect o r.request v.value ≡ next → AllFit Fits (with_value r.moment next v past)
+      of : (next : Option V) → on_current (track.effect o r.request) v.end v.value ≡ next → AllFit Fits (with_value r.moment next v past)
       of None e = s
-      of (Some x) e = ((f.changes_live c v past is x e).2 s.0, s)
+      of (Some x) e = ((f.changes_live c v past is x (effect-current (track.effect o r.request) v.end v.value x e)).2 s.0, s)
 
-  pub all_next : AllFit Fits (versions track o h) → AllFit Fits (versions track o (h ++ r ∷ []))
-  all_next s = subst (AllFit Fits) (sym (versions-snoc track o h r))
+  pub all_next : AllFit Fits (versions base track o h) → AllFit Fits (versions base track o (h ++ r ∷ []))
+  all_next s = subst (AllFit Fits) (sym (versions-snoc base track o h r))
       (by_test (concerns o.purse r)
       (λ c. subst (λ b. AllFit Fits (if b then flushed_by (span_of o r.request) track.is_flushed changed else vs)) (sym c)
       (all-flushed Fits (span_of o r.request) track.is_flushed changed
@@ -60,7 +61,7 @@ module _ {V : Type 0} (track : Track V) (Fits : V → Type 0) (o : ObjectId) (h 
       (λ c. subst (λ b. AllFit Fits (if b then flushed_by (span_of o r.request) track.is_flushed changed else vs)) (sym c) s))
     where
       vs : List (Value V)
-      vs = versions track o h
+      vs = versions base track o h
 
       unmade : List (Value V)
       unmade = if deletes o r then with_end r.moment vs else with_effect r.moment (track.effect o r.request) vs
@@ -75,10 +76,12 @@ abbrev pub FitsIf : {V : Type 0} → (V → Type 0) → Option (Value V) → Typ
 FitsIf Fits None = Unit {0}
 FitsIf Fits (Some v) = Fits v.value
 
-found-fits : {V : Type 0} (Fits : V → Type 0) (p : Value V → Bool) (values : List (Value V)) → AllFit Fits values → FitsIf Fits (find p values)
-found-fits Fits p [] s = tt
-found-fits Fits p (v ∷ past) s = elim (p v) as (λ b. FitsIf Fits (cond b (Some v) (find p past))) [ true ↦ s.0 | false ↦ found-fits Fits p past s.1 ]
+found-fits : {V : Type 0} (Fits : V → Type 0) (m : ℕ) (values : List (Value V)) → AllFit Fits values → FitsIf Fits (in_force_by m values)
+found-fits Fits m [] s = tt
+found-fits Fits m (v ∷ past) s = elim (nat_le v.begin m) as (λ b. FitsIf Fits (if b then (if ends_by m v.end then None else Some v) else in_force_by m past)) [
+  | true ↦ (elim (ends_by m v.end) as (λ b. FitsIf Fits (if b then None else Some v)) [ true ↦ tt | false ↦ s.0 ])
+  | false ↦ found-fits Fits m past s.1
+]
 
-pub value_at-fits : {V : Type 0} (track : Track V) (Fits : V → Type 0) (o : ObjectId) (m : ℕ) (h : List Record) → AllFit Fits (versions track o h) → FitsIf Fits (value_at track o m h)
-value_at-fits track Fits o m h s =
-    elim (lives_at m o h) as (λ b. FitsIf Fits (cond b (find (λ v. nat_le v.begin m) (versions track o h)) None)) [ true ↦ found-fits Fits (λ v. nat_le v.begin m) (versions track o h) s | false ↦ tt ]
+pub value_at-fits : {V : Type 0} (track : Track V) (Fits : V → Type 0) (o : ObjectId) (m : ℕ) (base : Base) (h : List Record) → AllFit Fits (versions base track o h) → FitsIf Fits (value_at base track o m h)
+value_at-fits track Fits o m base h s = found-fits Fits m (versions base track o h) s

@@ -1,7 +1,6 @@
 -- What an accepted request tells of the object that it is about.
 use Rattle.std.proofs.Common.{◌≡◌, ℕ, ◌+◌, ◌≤◌, ◌<◌, Bool, true, false, not, cond, Option, Some, None, List, [], ◌∷◌, ◌++◌, refl, sym, ◌∙◌, ap, subst, arith, length, take, drop, length-append, length-drop}
 use Rattle.std.specs.Prelude.{◌==◌, nat_le, nat_lt, is_ok, is_some, Result, Ok, Err, slice_get}
-use Rattle.std.specs.List.{find}
 use Rattle.std.specs.Option.{option_map}
 use Rattle.std.proofs.lemmas.List.{length-take, length-replicate}
 use Rattle.s4_types.specs.declared.principal.Caller.{Caller}
@@ -20,7 +19,7 @@ use Rattle.s4_types.specs.declared.reply.Reply.TheVariants.{Done, Made, Data, At
 use Rattle.s4_types.specs.declared.record.Record.{Record}
 use Rattle.s4_types.specs.Names.{same_object, object_in}
 use Rattle.s4_types.specs.Kinds.{is_refused, is_create}
-use Rattle.s4_types.specs.Versions.{Value, versions, value_at, is_made, is_deleted, lives_at, of_length, written, when, data_track, attribute_track, acl_track, data_effect, attribute_effect, acl_effect}
+use Rattle.s4_types.specs.Versions.{Value, value_at, is_made, is_deleted, lives_at, of_length, written, when, data_track, attribute_track, acl_track, data_effect, attribute_effect, acl_effect}
 use Rattle.s4_types.specs.Acl.{names, without_entry, replaced, acl_with}
 use Rattle.s4_types.specs.Judgement.{Found, entry_of, judge, judge_now, held_of}
 use Rattle.s4_types.specs.Outcome.{◌>>=◌, ◌>>◌, refuse_if, reply_of}
@@ -40,8 +39,8 @@ told base h t caller request = reply_of (outcome_by_kind base h t caller request
 -- MAKING
 
 -- the object is the next one of its purse
-pub record IsNextOf (h : List Record) (caller : Caller) (request : Request) (o : ObjectId) : Type 0 where
-  pub serial : o.serial ≡ drawn o.purse h + 1
+pub record IsNextOf (base : Base) (h : List Record) (caller : Caller) (request : Request) (o : ObjectId) : Type 0 where
+  pub serial : o.serial ≡ drawn base o.purse h + 1
   pub creates : is_create request ≡ true
 
 -- whether the outcome makes no object
@@ -79,39 +78,39 @@ nothing-index g index (Some entry) = refl
 
 pub makes_nothing-outcome : (base : Base) (h : List Record) (t : ℕ) (caller : Caller) (request : Request) → is_create request ≡ false → makes_nothing (outcome_by_kind base h t caller request) ≡ true
 makes_nothing-outcome base h t caller (Create number) e = cc
-makes_nothing-outcome base h t caller (Delete p) e = nothing-then (judge h t caller p right.Delete None) _ (nothing-then (refuse_if (has_name p t h) Named) (Ok Done) refl)
+makes_nothing-outcome base h t caller (Delete p) e = nothing-then (judge base h t caller p right.Delete None) _ (nothing-then (refuse_if (has_name base p t h) Named) (Ok Done) refl)
 makes_nothing-outcome base h t caller (Read p offset length at) e =
-    nothing-bind (judge h t caller p right.Read at) (λ g. refuse_if (is_gone (value_at data_track p (moment_of t at) h)) Flushed >> Ok (Data g (take length (drop offset (data_of p (moment_of t at) h)))))
-    (λ g. nothing-then (refuse_if (is_gone (value_at data_track p (moment_of t at) h)) Flushed) (Ok (Data g (take length (drop offset (data_of p (moment_of t at) h))))) refl)
+    nothing-bind (judge base h t caller p right.Read at) (λ g. refuse_if (is_gone (value_at base data_track p (moment_of t at) h)) Flushed >> Ok (Data g (take length (drop offset (data_of base p (moment_of t at) h)))))
+    (λ g. nothing-then (refuse_if (is_gone (value_at base data_track p (moment_of t at) h)) Flushed) (Ok (Data g (take length (drop offset (data_of base p (moment_of t at) h))))) refl)
 makes_nothing-outcome base h t caller (Write p offset bytes) e =
-    nothing-then (refuse_if (nat_lt 4096 (offset + length bytes)) TooLong) _ (nothing-then (judge h t caller p right.Write None) (Ok Done) refl)
+    nothing-then (refuse_if (nat_lt 4096 (offset + length bytes)) TooLong) _ (nothing-then (judge base h t caller p right.Write None) (Ok Done) refl)
 makes_nothing-outcome base h t caller (Append p bytes) e =
-    nothing-then (refuse_if (nat_lt 4096 (length bytes)) TooLong) _ (nothing-then (judge h t caller p right.Write None) _
-    (nothing-then (refuse_if (nat_lt 4096 (length (data_of p t h) + length bytes)) TooLong) (Ok Done) refl))
+    nothing-then (refuse_if (nat_lt 4096 (length bytes)) TooLong) _ (nothing-then (judge base h t caller p right.Write None) _
+    (nothing-then (refuse_if (nat_lt 4096 (length (data_of base p t h) + length bytes)) TooLong) (Ok Done) refl))
 makes_nothing-outcome base h t caller (Truncate p length) e =
-    nothing-then (refuse_if (nat_lt 4096 length) TooLong) _ (nothing-then (judge h t caller p right.Write None) (Ok Done) refl)
+    nothing-then (refuse_if (nat_lt 4096 length) TooLong) _ (nothing-then (judge base h t caller p right.Write None) (Ok Done) refl)
 makes_nothing-outcome base h t caller (GetAttr p at) e =
-    nothing-bind (judge h t caller p right.Read at) (λ g. refuse_if (is_gone (value_at attribute_track p (moment_of t at) h)) Flushed >> Ok (Attr g (attributes_of p (moment_of t at) h)))
-    (λ g. nothing-then (refuse_if (is_gone (value_at attribute_track p (moment_of t at) h)) Flushed) (Ok (Attr g (attributes_of p (moment_of t at) h))) refl)
+    nothing-bind (judge base h t caller p right.Read at) (λ g. refuse_if (is_gone (value_at base attribute_track p (moment_of t at) h)) Flushed >> Ok (Attr g (attributes_of base p (moment_of t at) h)))
+    (λ g. nothing-then (refuse_if (is_gone (value_at base attribute_track p (moment_of t at) h)) Flushed) (Ok (Attr g (attributes_of base p (moment_of t at) h))) refl)
 makes_nothing-outcome base h t caller (SetAttr p bytes) e =
-    nothing-then (refuse_if (nat_lt 256 (length bytes)) TooLong) _ (nothing-then (judge h t caller p right.Write None) (Ok Done) refl)
+    nothing-then (refuse_if (nat_lt 256 (length bytes)) TooLong) _ (nothing-then (judge base h t caller p right.Write None) (Ok Done) refl)
 makes_nothing-outcome base h t caller (GetAclByUser p user at) e =
-    nothing-bind (judge h t caller p right.Read at) (λ g. entry_by_user g user (entry_of user (acl_of p (moment_of t at) h))) (λ g. nothing-user g user (entry_of user (acl_of p (moment_of t at) h)))
+    nothing-bind (judge base h t caller p right.Read at) (λ g. entry_by_user g user (entry_of user (acl_of base p (moment_of t at) h))) (λ g. nothing-user g user (entry_of user (acl_of base p (moment_of t at) h)))
 makes_nothing-outcome base h t caller (GetAclByIndex p index at) e =
-    nothing-bind (judge h t caller p right.Read at) (λ g. entry_by_index g index (slice_get (acl_of p (moment_of t at) h) index)) (λ g. nothing-index g index (slice_get (acl_of p (moment_of t at) h) index))
+    nothing-bind (judge base h t caller p right.Read at) (λ g. entry_by_index g index (slice_get (acl_of base p (moment_of t at) h) index)) (λ g. nothing-index g index (slice_get (acl_of base p (moment_of t at) h) index))
 makes_nothing-outcome base h t caller (SetAcl p user rights) e =
-    nothing-then (judge h t caller p right.Control None) _ (nothing-then (settable user rights (acl_of p t h)) (Ok Done) refl)
+    nothing-then (judge base h t caller p right.Control None) _ (nothing-then (settable user rights (acl_of base p t h)) (Ok Done) refl)
 makes_nothing-outcome base h t caller (PCreate name p) e =
-    nothing-then (judge h t caller p right.Control None) _ (nothing-then (refuse_if (is_some (bound_at p.purse name t h)) Exists) _
-    (nothing-then (refuse_if (nat_le 64 (bound_count p.purse t h)) PartsFull) (Ok Done) refl))
+    nothing-then (judge base h t caller p right.Control None) _ (nothing-then (refuse_if (is_some (bound_at base p.purse name t h)) Exists) _
+    (nothing-then (refuse_if (nat_le 64 (bound_count base p.purse t h)) PartsFull) (Ok Done) refl))
 makes_nothing-outcome base h t caller (PDelete purse name) e =
-    nothing-bind (found_bound caller purse right.Control (bound_at purse name t h)) (λ serial. judge h t caller (object_in purse serial) right.Control None >> Ok Done)
-    (λ serial. nothing-then (judge h t caller (object_in purse serial) right.Control None) (Ok Done) refl)
+    nothing-bind (found_bound caller purse right.Control (bound_at base purse name t h)) (λ serial. judge base h t caller (object_in purse serial) right.Control None >> Ok Done)
+    (λ serial. nothing-then (judge base h t caller (object_in purse serial) right.Control None) (Ok Done) refl)
 makes_nothing-outcome base h t caller (PList range after at) e =
     refl
 makes_nothing-outcome base h t caller (PMount purse name at) e =
-    nothing-bind (found_bound caller purse right.Read (bound_at purse name (moment_of t at) h)) (λ serial. judge h t caller (object_in purse serial) right.Read at >>= λ g. Ok (Mounted g (object_in purse serial)))
-    (λ serial. nothing-bind (judge h t caller (object_in purse serial) right.Read at) (λ g. Ok (Mounted g (object_in purse serial))) (λ g. refl))
+    nothing-bind (found_bound caller purse right.Read (bound_at base purse name (moment_of t at) h)) (λ serial. judge base h t caller (object_in purse serial) right.Read at >>= λ g. Ok (Mounted g (object_in purse serial)))
+    (λ serial. nothing-bind (judge base h t caller (object_in purse serial) right.Read at) (λ g. Ok (Mounted g (object_in purse serial))) (λ g. refl))
 makes_nothing-outcome base h t caller (Flush from to) e = nothing-then (refuse_if (nat_lt to from) BadRange) (administered caller) (nothing-then (refuse_if (not (caller.who == 0)) (Denied right.Admin)) (Ok Done) refl)
 makes_nothing-outcome base h t caller (FlushO p from to) e = nothing-then (refuse_if (nat_lt to from) BadRange) (administered caller) (nothing-then (refuse_if (not (caller.who == 0)) (Denied right.Admin)) (Ok Done) refl)
 makes_nothing-outcome base h t caller (SetWindow ticks) e = nothing-then (refuse_if (not (caller.who == 0)) (Denied right.Admin)) (Ok Done) refl
@@ -128,17 +127,17 @@ clash false e f = absurd (no f)
     no : false ≡ true → ⊥
     no g = cc
 
-next-made : (base : Base) (h : List Record) (caller : Caller) (number : ℕ) (o : ObjectId) → is_made o (told base h 0 caller (Create number)) ≡ true → IsNextOf h caller (Create number) o
+next-made : (base : Base) (h : List Record) (caller : Caller) (number : ℕ) (o : ObjectId) → is_made o (told base h 0 caller (Create number)) ≡ true → IsNextOf base h caller (Create number) o
 next-made base h caller number o e =
     let purse : Purse = record { creator = caller.who; number = number } in
-    let of : (b : Bool) → is_made o (reply_of (refuse_if b NamesSpent >> Ok (Made (object_in purse (drawn purse h + 1))))) ≡ true → IsNextOf h caller (Create number) o
-    = λ b. elim b as (λ b. is_made o (reply_of (refuse_if b NamesSpent >> Ok (Made (object_in purse (drawn purse h + 1))))) ≡ true → IsNextOf h caller (Create number) o) [
+    let of : (b : Bool) → is_made o (reply_of (refuse_if b NamesSpent >> Ok (Made (object_in purse (drawn base purse h + 1))))) ≡ true → IsNextOf base h caller (Create number) o
+    = λ b. elim b as (λ b. is_made o (reply_of (refuse_if b NamesSpent >> Ok (Made (object_in purse (drawn base purse h + 1))))) ≡ true → IsNextOf base h caller (Create number) o) [
       | true ↦ λ f. cc
-      | false ↦ λ f. subst (IsNextOf h caller (Create number)) (object_is (object_in purse (drawn purse h + 1)) o f) (record { serial = refl; creates = refl })
+      | false ↦ λ f. subst (IsNextOf base h caller (Create number)) (object_is (object_in purse (drawn base purse h + 1)) o f) (record { serial = refl; creates = refl })
     ] in
-    of (nat_le 65535 (drawn purse h)) e
+    of (nat_le 65535 (drawn base purse h)) e
 
-pub made_is : (base : Base) (h : List Record) (t : ℕ) (caller : Caller) (request : Request) (o : ObjectId) → is_made o (told base h t caller request) ≡ true → IsNextOf h caller request o
+pub made_is : (base : Base) (h : List Record) (t : ℕ) (caller : Caller) (request : Request) (o : ObjectId) → is_made o (told base h t caller request) ≡ true → IsNextOf base h caller request o
 made_is base h t caller (Create number) o e = next-made base h caller number o e
 made_is base h t caller (Delete p) o e = clash _ (nothing-made o _ (makes_nothing-outcome base h t caller (Delete p) refl)) e
 made_is base h t caller (Read p offset length at) o e = clash _ (nothing-made o _ (makes_nothing-outcome base h t caller (Read p offset length at) refl)) e
@@ -188,12 +187,12 @@ create_deletes_none = create-deletes
 -- CHANGING
 
 -- who is granted a thing on an object now has an object that lives
-pub granted-lives : (o : ObjectId) (t : ℕ) (h : List Record) (caller : Caller) (needed : Right) → is_ok (judge h t caller o needed None) ≡ true → lives_at t o h ≡ true
-granted-lives o t h caller needed e = lives (lives_at t o h) (find (λ v. nat_le v.begin t) (versions acl_track o h)) e
+pub granted-lives : (o : ObjectId) (t : ℕ) (base : Base) (h : List Record) (caller : Caller) (needed : Right) → is_ok (judge base h t caller o needed None) ≡ true → lives_at base t o h ≡ true
+granted-lives o t base h caller needed e = lives (value_at base acl_track o t h) e
   where
-    lives : (b : Bool) (x : Option (Value (List AclEntry))) → is_ok (judge_now caller o needed (option_map held_of (cond b x None))) ≡ true → b ≡ true
-    lives true x f = refl
-    lives false x f = cc
+    lives : (x : Option (Value (List AclEntry))) → is_ok (judge_now caller o needed (option_map held_of x)) ≡ true → is_some x ≡ true
+    lives None f = cc
+    lives (Some v) f = refl
 
 -- the object that the request changes or deletes, where it does
 abbrev pub changed_by : Request → Option ObjectId
@@ -205,7 +204,7 @@ changed_by (SetAttr p bytes) = Some p
 changed_by (SetAcl p user rights) = Some p
 changed_by _ = None
 
-pub changed-lives : (base : Base) (h : List Record) (t : ℕ) (caller : Caller) (request : Request) (o : ObjectId) → is_refused (told base h t caller request) ≡ false → changed_by request ≡ Some o → lives_at t o h ≡ true
+pub changed-lives : (base : Base) (h : List Record) (t : ℕ) (caller : Caller) (request : Request) (o : ObjectId) → is_refused (told base h t caller request) ≡ false → changed_by request ≡ Some o → lives_at base t o h ≡ true
 changed-lives base h t caller (Create number) o e f = cc
 changed-lives base h t caller (Read p offset length at) o e f = cc
 changed-lives base h t caller (GetAttr p at) o e f = cc
@@ -222,27 +221,27 @@ changed-lives base h t caller (SetBudget purse budget) o e f = cc
 changed-lives base h t caller (ReadAudit range skip) o e f = cc
 changed-lives base h t caller (Delete p) o e f =
     let is : p ≡ o = cc in
-    subst (λ q. lives_at t q h ≡ true) is (granted-lives p t h caller right.Delete (passes_judgement (judge h t caller p right.Delete None) (refuse_if (has_name p t h) Named >> Ok Done) e).0)
+    subst (λ q. lives_at base t q h ≡ true) is (granted-lives p t base h caller right.Delete (passes_judgement (judge base h t caller p right.Delete None) (refuse_if (has_name base p t h) Named >> Ok Done) e).0)
 changed-lives base h t caller (Write p offset bytes) o e f =
     let is : p ≡ o = cc in
-    subst (λ q. lives_at t q h ≡ true) is (granted-lives p t h caller right.Write (passes_judgement (judge h t caller p right.Write None) (Ok Done)
-    (passes_test (nat_lt 4096 (offset + length bytes)) TooLong (judge h t caller p right.Write None >> Ok Done) e).1).0)
+    subst (λ q. lives_at base t q h ≡ true) is (granted-lives p t base h caller right.Write (passes_judgement (judge base h t caller p right.Write None) (Ok Done)
+    (passes_test (nat_lt 4096 (offset + length bytes)) TooLong (judge base h t caller p right.Write None >> Ok Done) e).1).0)
 changed-lives base h t caller (Append p bytes) o e f =
     let is : p ≡ o = cc in
-    let rest : Result Reply Refusal = refuse_if (nat_lt 4096 (length (data_of p t h) + length bytes)) TooLong >> Ok Done in
-    subst (λ q. lives_at t q h ≡ true) is (granted-lives p t h caller right.Write (passes_judgement (judge h t caller p right.Write None) rest
-    (passes_test (nat_lt 4096 (length bytes)) TooLong (judge h t caller p right.Write None >> rest) e).1).0)
+    let rest : Result Reply Refusal = refuse_if (nat_lt 4096 (length (data_of base p t h) + length bytes)) TooLong >> Ok Done in
+    subst (λ q. lives_at base t q h ≡ true) is (granted-lives p t base h caller right.Write (passes_judgement (judge base h t caller p right.Write None) rest
+    (passes_test (nat_lt 4096 (length bytes)) TooLong (judge base h t caller p right.Write None >> rest) e).1).0)
 changed-lives base h t caller (Truncate p length) o e f =
     let is : p ≡ o = cc in
-    subst (λ q. lives_at t q h ≡ true) is (granted-lives p t h caller right.Write (passes_judgement (judge h t caller p right.Write None) (Ok Done)
-    (passes_test (nat_lt 4096 length) TooLong (judge h t caller p right.Write None >> Ok Done) e).1).0)
+    subst (λ q. lives_at base t q h ≡ true) is (granted-lives p t base h caller right.Write (passes_judgement (judge base h t caller p right.Write None) (Ok Done)
+    (passes_test (nat_lt 4096 length) TooLong (judge base h t caller p right.Write None >> Ok Done) e).1).0)
 changed-lives base h t caller (SetAttr p bytes) o e f =
     let is : p ≡ o = cc in
-    subst (λ q. lives_at t q h ≡ true) is (granted-lives p t h caller right.Write (passes_judgement (judge h t caller p right.Write None) (Ok Done)
-    (passes_test (nat_lt 256 (length bytes)) TooLong (judge h t caller p right.Write None >> Ok Done) e).1).0)
+    subst (λ q. lives_at base t q h ≡ true) is (granted-lives p t base h caller right.Write (passes_judgement (judge base h t caller p right.Write None) (Ok Done)
+    (passes_test (nat_lt 256 (length bytes)) TooLong (judge base h t caller p right.Write None >> Ok Done) e).1).0)
 changed-lives base h t caller (SetAcl p user rights) o e f =
     let is : p ≡ o = cc in
-    subst (λ q. lives_at t q h ≡ true) is (granted-lives p t h caller right.Control (passes_judgement (judge h t caller p right.Control None) (settable user rights (acl_of p t h) >> Ok Done) e).0)
+    subst (λ q. lives_at base t q h ≡ true) is (granted-lives p t base h caller right.Control (passes_judgement (judge base h t caller p right.Control None) (settable user rights (acl_of base p t h) >> Ok Done) e).0)
 
 some-when : {A : Type 0} (b : Bool) (x y : A) → when b x ≡ Some y → (b ≡ true) × (x ≡ y)
 some-when true x y e = (refl, cc)
@@ -350,22 +349,22 @@ length-written offset bytes old l m =
 
 -- the data that a request leaves fit, where they are those in force
 pub data-fit : (base : Base) (h : List Record) (t : ℕ) (caller : Caller) (request : Request) (o : ObjectId) → is_refused (told base h t caller request) ≡ false
-    → (old new : List ℕ) → data_effect o request old ≡ Some new → old ≡ data_of o t h → DataFits old → DataFits new
+    → (old new : List ℕ) → data_effect o request old ≡ Some new → old ≡ data_of base o t h → DataFits old → DataFits new
 data-fit base h t caller (Write p offset bytes) o e old new f is fits =
-    let short : nat_lt 4096 (offset + length bytes) ≡ false = (passes_test (nat_lt 4096 (offset + length bytes)) TooLong (judge h t caller p right.Write None >> Ok Done) e).0 in
+    let short : nat_lt 4096 (offset + length bytes) ≡ false = (passes_test (nat_lt 4096 (offset + length bytes)) TooLong (judge base h t caller p right.Write None >> Ok Done) e).0 in
     let low : offset + length bytes ≤ 4096 = grind arith in
     subst DataFits (some-when (same_object p o) (written offset bytes old) new f).1 (length-written offset bytes old low fits)
 data-fit base h t caller (Append p bytes) o e old new f is fits =
-    let rest : Result Reply Refusal = refuse_if (nat_lt 4096 (length (data_of p t h) + length bytes)) TooLong >> Ok Done in
-    let short : nat_lt 4096 (length (data_of p t h) + length bytes) ≡ false
-    = (passes_test (nat_lt 4096 (length (data_of p t h) + length bytes)) TooLong (Ok Done)
-    (passes_judgement (judge h t caller p right.Write None) rest (passes_test (nat_lt 4096 (length bytes)) TooLong (judge h t caller p right.Write None >> rest) e).1).1).0 in
+    let rest : Result Reply Refusal = refuse_if (nat_lt 4096 (length (data_of base p t h) + length bytes)) TooLong >> Ok Done in
+    let short : nat_lt 4096 (length (data_of base p t h) + length bytes) ≡ false
+    = (passes_test (nat_lt 4096 (length (data_of base p t h) + length bytes)) TooLong (Ok Done)
+    (passes_judgement (judge base h t caller p right.Write None) rest (passes_test (nat_lt 4096 (length bytes)) TooLong (judge base h t caller p right.Write None >> rest) e).1).1).0 in
     let both' = some-when (same_object p o) (old ++ bytes) new f in
-    let same : length old ≡ length (data_of p t h) = ap length is ∙ ap (λ q. length (data_of q t h)) (sym (object_is p o both'.0)) in
-    let low : length (data_of p t h) + length bytes ≤ 4096 = grind arith in
+    let same : length old ≡ length (data_of base p t h) = ap length is ∙ ap (λ q. length (data_of base q t h)) (sym (object_is p o both'.0)) in
+    let low : length (data_of base p t h) + length bytes ≤ 4096 = grind arith in
     subst DataFits both'.1 (simp length-append (omega arith))
 data-fit base h t caller (Truncate p n) o e old new f is fits =
-    let short : nat_lt 4096 n ≡ false = (passes_test (nat_lt 4096 n) TooLong (judge h t caller p right.Write None >> Ok Done) e).0 in
+    let short : nat_lt 4096 n ≡ false = (passes_test (nat_lt 4096 n) TooLong (judge base h t caller p right.Write None >> Ok Done) e).0 in
     let low : n ≤ 4096 = grind arith in
     subst DataFits (some-when (same_object p o) (of_length n old) new f).1 (rw (length-of_length n old) low)
 data-fit base h t caller (Create number) o e old new f is fits = cc
@@ -389,7 +388,7 @@ data-fit base h t caller (ReadAudit range skip) o e old new f is fits = cc
 pub attributes-fit : (base : Base) (h : List Record) (t : ℕ) (caller : Caller) (request : Request) (o : ObjectId) → is_refused (told base h t caller request) ≡ false
     → (old new : List ℕ) → attribute_effect o request old ≡ Some new → AttributesFit new
 attributes-fit base h t caller (SetAttr p bytes) o e old new f =
-    let short : nat_lt 256 (length bytes) ≡ false = (passes_test (nat_lt 256 (length bytes)) TooLong (judge h t caller p right.Write None >> Ok Done) e).0 in
+    let short : nat_lt 256 (length bytes) ≡ false = (passes_test (nat_lt 256 (length bytes)) TooLong (judge base h t caller p right.Write None >> Ok Done) e).0 in
     let low : length bytes ≤ 256 = grind arith in
     subst AttributesFit (some-when (same_object p o) bytes new f).1 low
 attributes-fit base h t caller (Create number) o e old new f = cc
@@ -433,12 +432,12 @@ entries-fit user rights acl e fits = of (rights == 0) (names user acl) (nat_le 1
         is_acl-more new acl (given some) named low fits
 
 pub acl-fit : (base : Base) (h : List Record) (t : ℕ) (caller : Caller) (request : Request) (o : ObjectId) → is_refused (told base h t caller request) ≡ false
-    → (old new : List AclEntry) → acl_effect o request old ≡ Some new → old ≡ acl_of o t h → AclFits old → AclFits new
+    → (old new : List AclEntry) → acl_effect o request old ≡ Some new → old ≡ acl_of base o t h → AclFits old → AclFits new
 acl-fit base h t caller (SetAcl p user rights) o e old new f is fits =
     let both' = some-when (same_object p o) (acl_with user rights old) new f in
-    let same : acl_of p t h ≡ old = ap (λ q. acl_of q t h) (object_is p o both'.0) ∙ sym is in
-    let passes : is_ok (settable user rights (acl_of p t h)) ≡ true
-    = (passes_judgement (settable user rights (acl_of p t h)) (Ok Done) (passes_judgement (judge h t caller p right.Control None) (settable user rights (acl_of p t h) >> Ok Done) e).1).0 in
+    let same : acl_of base p t h ≡ old = ap (λ q. acl_of base q t h) (object_is p o both'.0) ∙ sym is in
+    let passes : is_ok (settable user rights (acl_of base p t h)) ≡ true
+    = (passes_judgement (settable user rights (acl_of base p t h)) (Ok Done) (passes_judgement (judge base h t caller p right.Control None) (settable user rights (acl_of base p t h) >> Ok Done) e).1).0 in
     subst AclFits both'.1 (entries-fit user rights old (subst (λ acl. is_ok (settable user rights acl) ≡ true) same passes) fits)
 acl-fit base h t caller (Create number) o e old new f is fits = cc
 acl-fit base h t caller (Delete p) o e old new f is fits = cc
@@ -499,18 +498,18 @@ only_done-outcome base h t caller (Flush from to) o e = cc
 only_done-outcome base h t caller (FlushO p from to) o e = cc
 only_done-outcome base h t caller (SetBudget purse budget) o e = cc
 only_done-outcome base h t caller (ReadAudit range skip) o e = cc
-only_done-outcome base h t caller (Delete p) o e = done-then (judge h t caller p right.Delete None) _ (done-then (refuse_if (has_name p t h) Named) (Ok Done) refl)
+only_done-outcome base h t caller (Delete p) o e = done-then (judge base h t caller p right.Delete None) _ (done-then (refuse_if (has_name base p t h) Named) (Ok Done) refl)
 only_done-outcome base h t caller (Write p offset bytes) o e =
-    done-then (refuse_if (nat_lt 4096 (offset + length bytes)) TooLong) _ (done-then (judge h t caller p right.Write None) (Ok Done) refl)
+    done-then (refuse_if (nat_lt 4096 (offset + length bytes)) TooLong) _ (done-then (judge base h t caller p right.Write None) (Ok Done) refl)
 only_done-outcome base h t caller (Append p bytes) o e =
-    done-then (refuse_if (nat_lt 4096 (length bytes)) TooLong) _ (done-then (judge h t caller p right.Write None) _
-    (done-then (refuse_if (nat_lt 4096 (length (data_of p t h) + length bytes)) TooLong) (Ok Done) refl))
+    done-then (refuse_if (nat_lt 4096 (length bytes)) TooLong) _ (done-then (judge base h t caller p right.Write None) _
+    (done-then (refuse_if (nat_lt 4096 (length (data_of base p t h) + length bytes)) TooLong) (Ok Done) refl))
 only_done-outcome base h t caller (Truncate p length) o e =
-    done-then (refuse_if (nat_lt 4096 length) TooLong) _ (done-then (judge h t caller p right.Write None) (Ok Done) refl)
+    done-then (refuse_if (nat_lt 4096 length) TooLong) _ (done-then (judge base h t caller p right.Write None) (Ok Done) refl)
 only_done-outcome base h t caller (SetAttr p bytes) o e =
-    done-then (refuse_if (nat_lt 256 (length bytes)) TooLong) _ (done-then (judge h t caller p right.Write None) (Ok Done) refl)
+    done-then (refuse_if (nat_lt 256 (length bytes)) TooLong) _ (done-then (judge base h t caller p right.Write None) (Ok Done) refl)
 only_done-outcome base h t caller (SetAcl p user rights) o e =
-    done-then (judge h t caller p right.Control None) _ (done-then (settable user rights (acl_of p t h)) (Ok Done) refl)
+    done-then (judge base h t caller p right.Control None) _ (done-then (settable user rights (acl_of base p t h)) (Ok Done) refl)
 
 -- an accepted change is told Done
 pub changed-done : (base : Base) (h : List Record) (t : ℕ) (caller : Caller) (request : Request) (o : ObjectId) → is_refused (told base h t caller request) ≡ false → changed_by request ≡ Some o → told base h t caller request ≡ Done
@@ -523,13 +522,13 @@ done-bind (Err r) next e = refl
 
 pub bound-done : (base : Base) (h : List Record) (t : ℕ) (caller : Caller) (name : List ℕ) (o : ObjectId) → is_refused (told base h t caller (PCreate name o)) ≡ false → told base h t caller (PCreate name o) ≡ Done
 bound-done base h t caller name o e = told-done (outcome_by_kind base h t caller (PCreate name o))
-    (done-then (judge h t caller o right.Control None) _ (done-then (refuse_if (is_some (bound_at o.purse name t h)) Exists) _
-    (done-then (refuse_if (nat_le 64 (bound_count o.purse t h)) PartsFull) (Ok Done) refl))) e
+    (done-then (judge base h t caller o right.Control None) _ (done-then (refuse_if (is_some (bound_at base o.purse name t h)) Exists) _
+    (done-then (refuse_if (nat_le 64 (bound_count base o.purse t h)) PartsFull) (Ok Done) refl))) e
 
 pub unbound-done : (base : Base) (h : List Record) (t : ℕ) (caller : Caller) (purse : Purse) (name : List ℕ) → is_refused (told base h t caller (PDelete purse name)) ≡ false → told base h t caller (PDelete purse name) ≡ Done
 unbound-done base h t caller purse name e = told-done (outcome_by_kind base h t caller (PDelete purse name))
-    (done-bind (found_bound caller purse right.Control (bound_at purse name t h)) (λ serial. judge h t caller (object_in purse serial) right.Control None >> Ok Done)
-    (λ serial. done-then (judge h t caller (object_in purse serial) right.Control None) (Ok Done) refl)) e
+    (done-bind (found_bound caller purse right.Control (bound_at base purse name t h)) (λ serial. judge base h t caller (object_in purse serial) right.Control None >> Ok Done)
+    (λ serial. done-then (judge base h t caller (object_in purse serial) right.Control None) (Ok Done) refl)) e
 
 -- and so is what the administrator alone may ask for
 pub window-done : (base : Base) (h : List Record) (t : ℕ) (caller : Caller) (ticks : ℕ) → is_refused (told base h t caller (SetWindow ticks)) ≡ false → told base h t caller (SetWindow ticks) ≡ Done
@@ -559,15 +558,15 @@ pub budget-done : (base : Base) (h : List Record) (t : ℕ) (caller : Caller) (p
 budget-done base h t caller purse budget e = told-done (outcome_by_kind base h t caller (SetBudget purse budget)) (done-then (refuse_if (not (caller.who == 0)) (Denied right.Admin)) (Ok Done) refl) e
 
 -- a name that is bound anew wasn't bound, and one that is bound no longer was
-pub was_unbound : (base : Base) (h : List Record) (t : ℕ) (caller : Caller) (name : List ℕ) (o : ObjectId) → is_refused (told base h t caller (PCreate name o)) ≡ false → is_some (bound_at o.purse name t h) ≡ false
+pub was_unbound : (base : Base) (h : List Record) (t : ℕ) (caller : Caller) (name : List ℕ) (o : ObjectId) → is_refused (told base h t caller (PCreate name o)) ≡ false → is_some (bound_at base o.purse name t h) ≡ false
 was_unbound base h t caller name o e =
-    let last : Result Reply Refusal = refuse_if (nat_le 64 (bound_count o.purse t h)) PartsFull >> Ok Done in
-    (passes_test (is_some (bound_at o.purse name t h)) Exists last (passes_judgement (judge h t caller o right.Control None) (refuse_if (is_some (bound_at o.purse name t h)) Exists >> last) e).1).0
+    let last : Result Reply Refusal = refuse_if (nat_le 64 (bound_count base o.purse t h)) PartsFull >> Ok Done in
+    (passes_test (is_some (bound_at base o.purse name t h)) Exists last (passes_judgement (judge base h t caller o right.Control None) (refuse_if (is_some (bound_at base o.purse name t h)) Exists >> last) e).1).0
 
-pub was_bound : (base : Base) (h : List Record) (t : ℕ) (caller : Caller) (purse : Purse) (name : List ℕ) → is_refused (told base h t caller (PDelete purse name)) ≡ false → is_some (bound_at purse name t h) ≡ true
-was_bound base h t caller purse name e = of (bound_at purse name t h) e
+pub was_bound : (base : Base) (h : List Record) (t : ℕ) (caller : Caller) (purse : Purse) (name : List ℕ) → is_refused (told base h t caller (PDelete purse name)) ≡ false → is_some (bound_at base purse name t h) ≡ true
+was_bound base h t caller purse name e = of (bound_at base purse name t h) e
   where
-    of : (found : Option ℕ) → is_refused (reply_of (found_bound caller purse right.Control found >>= λ serial. judge h t caller (object_in purse serial) right.Control None >> Ok Done)) ≡ false → is_some found ≡ true
+    of : (found : Option ℕ) → is_refused (reply_of (found_bound caller purse right.Control found >>= λ serial. judge base h t caller (object_in purse serial) right.Control None >> Ok Done)) ≡ false → is_some found ≡ true
     of (Some serial) f = refl
     of None f = cc
 

@@ -1,4 +1,5 @@
 pub mod Living
+pub mod Listing
 pub mod Naming
 pub mod Left
 pub mod Following
@@ -18,6 +19,8 @@ pub mod Resting
 pub mod Mounting
 pub mod Current
 pub mod Weighing
+pub mod Rebinding
 pub mod Charging
 pub mod Refunding
 pub mod Costs
+pub mod Stepped

@@ -2,6 +2,7 @@
 use Rattle.std.proofs.Common.{◌≡◌, ℕ, ◌≤◌, false, Option, Some, None, List, [], ◌∷◌, refl, ◌∙◌, ap, filter, filter_map, flat_map}
 use Rattle.std.specs.Prelude.{Result, Ok, Err}
 use Rattle.std.specs.Option.{option_map}
+use Rattle.s4_types.specs.Base.{Base}
 use Rattle.s4_types.specs.declared.principal.Caller.{Caller}
 use Rattle.s4_types.specs.declared.object.Purse.{Purse}
 use Rattle.s4_types.specs.declared.object.ObjectId.{ObjectId}
@@ -31,29 +32,29 @@ line-granted : (name : List ℕ) (o : ObjectId) (r : Result Grant Refusal) → p
 line-granted name o (Ok grant) = refl
 line-granted name o (Err refusal) = refl
 
-line-bound : (h : List Record) (t : ℕ) (caller : Caller) (at : Option ℕ) (purse : Purse) (name : List ℕ) (found : Option ℕ)
-    → page.line_to (granted h t caller at) name (option_map (object_in purse) found) ≡ line_of_bound h t caller at purse name found
-line-bound h t caller at purse name None = refl
-line-bound h t caller at purse name (Some serial) = line-granted name (object_in purse serial) (judge h t caller (object_in purse serial) right.Read at)
+line-bound : (base : Base) (h : List Record) (t : ℕ) (caller : Caller) (at : Option ℕ) (purse : Purse) (name : List ℕ) (found : Option ℕ)
+    → page.line_to (granted base h t caller at) name (option_map (object_in purse) found) ≡ line_of_bound base h t caller at purse name found
+line-bound base h t caller at purse name None = refl
+line-bound base h t caller at purse name (Some serial) = line-granted name (object_in purse serial) (judge base h t caller (object_in purse serial) right.Read at)
 
-module _ {window freed : ℕ} {chains : Chains Version} {kept : Objects} {serials : Purse → ℕ} {table : Table} {h : List Record} (s : StandsFor window freed chains kept serials table h) (t : ℕ) (later : last_of h ≤ t) (caller : Caller) where
-  line-is : (at : Option ℕ) → IsFrom (horizon_now window h) at → (purse : Purse) (name : List ℕ) → page.line_of (granted h t caller at) at name (bindings_in chains table purse name) ≡ line_of h t caller at purse name
-  line-is at from purse name = ap (page.line_to (granted h t caller at) name) (bound-in s purse name t later at from) ∙ line-bound h t caller at purse name (bound_at purse name (moment_of t at) h)
+module _ {base : Base} {freed : ℕ} {chains : Chains Version} {kept : Objects} {serials : Purse → ℕ} {table : Table} {h : List Record} (s : StandsFor base freed chains kept serials table h) (t : ℕ) (later : last_of h ≤ t) (caller : Caller) where
+  line-is : (at : Option ℕ) → IsFrom (horizon_now base h) at → (purse : Purse) (name : List ℕ) → page.line_of (granted base h t caller at) at name (bindings_in chains table purse name) ≡ line_of base h t caller at purse name
+  line-is at from purse name = ap (page.line_to (granted base h t caller at) name) (bound-in s purse name t later at from) ∙ line-bound base h t caller at purse name (bound_at base purse name (moment_of t at) h)
 
   -- a name without bindings has no line
-  line-none : (at : Option ℕ) (name : List ℕ) (vs : List Version) → is_any vs ≡ false → page.line_of (granted h t caller at) at name vs ≡ None
+  line-none : (at : Option ℕ) (name : List ℕ) (vs : List Version) → is_any vs ≡ false → page.line_of (granted base h t caller at) at name vs ≡ None
   line-none None name [] e = refl
   line-none (Some m) name [] e = refl
   line-none at name (v ∷ vs) e = cc
 
-  lines-are : (range : ℕ) (after : Option After) (at : Option ℕ) → IsFrom (horizon_now window h) at → (number : ℕ) → page.lines_in chains table (granted h t caller at) range after at number ≡ lines_in h t caller range after at number
+  lines-are : (range : ℕ) (after : Option After) (at : Option ℕ) → IsFrom (horizon_now base h) at → (number : ℕ) → page.lines_in chains table (granted base h t caller at) range after at number ≡ lines_in base h t caller range after at number
   lines-are range after at from number =
       let purse : Purse = record { creator = range; number = number } in
-      ap (λ names. filter_map (λ name. page.line_of (granted h t caller at) at name (bindings_in chains table purse name)) (filter (is_after after number) names)) (s.partitions.names purse)
-      ∙ lines-filter (λ name. page.line_of (granted h t caller at) at name (bindings_in chains table purse name)) (is_after after number) (λ n. is_any (bindings_in chains table purse n)) (names_of purse h)
+      ap (λ names. filter_map (λ name. page.line_of (granted base h t caller at) at name (bindings_in chains table purse name)) (filter (is_after after number) names)) (s.partitions.names purse)
+      ∙ lines-filter (λ name. page.line_of (granted base h t caller at) at name (bindings_in chains table purse name)) (is_after after number) (λ n. is_any (bindings_in chains table purse n)) (names_of base purse h)
       (λ name e. line-none at name (bindings_in chains table purse name) e)
-      ∙ ap (λ f. filter_map f (filter (is_after after number) (names_of purse h))) (λ i name. line-is at from purse name i)
+      ∙ ap (λ f. filter_map f (filter (is_after after number) (names_of base purse h))) (λ i name. line-is at from purse name i)
 
   -- all lines that a page is cut from
-  pub all-lines : (range : ℕ) (after : Option After) (at : Option ℕ) → IsFrom (horizon_now window h) at → page.lines_of chains table (granted h t caller at) range after at ≡ flat_map (lines_in h t caller range after at) purse_numbers
+  pub all-lines : (range : ℕ) (after : Option After) (at : Option ℕ) → IsFrom (horizon_now base h) at → page.lines_of chains table (granted base h t caller at) range after at ≡ flat_map (lines_in base h t caller range after at) purse_numbers
   all-lines range after at from = ap (λ f. flat_map f purse_numbers) (λ i number. lines-are range after at from number i)

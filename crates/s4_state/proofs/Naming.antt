@@ -4,14 +4,14 @@ use Rattle.std.specs.Prelude.{◌+◌, ◌&&◌, nat_le, slice_get, unwrap_or, m
 use Rattle.std.specs.List.{list_all}
 use Rattle.std.specs.Option.{option_map}
 use Rattle.std.proofs.lemmas.List.Sums.{fold-append}
+use Rattle.s4_types.specs.Base.{Base}
 use Rattle.s4_types.specs.declared.object.Purse.{Purse}
-use Rattle.s4_types.specs.declared.object.ObjectId.{ObjectId}
 use Rattle.s4_types.specs.declared.record.Record.{Record}
 use Rattle.s4_types.specs.declared.version.Version.{Version}
 use Rattle.s4_types.specs.declared.version.Item.TheVariants as item
 use Rattle.s4_types.specs.Names.{object_in}
 use Rattle.s4_types.specs.Bindings.{bindings, bindings_after, names_after, names_of}
-use Rattle.s4_types.specs.Versions.{Value}
+use Rattle.s4_types.specs.Versions.{Value, only_kept}
 use Rattle.s4_types.specs.Play.{last_of}
 use Rattle.s4_types.proofs.Booleans.{both}
 use Rattle.s4_store.specs.Chains.{Chains}
@@ -30,11 +30,11 @@ use Rattle.s4_state.proofs.Waiting.{no-more, waiting_next}
 
 -- ONE MORE RECORD
 
-pub bindings-snoc : (p : Purse) (n : List ℕ) (h : List Record) (r : Record) → bindings p n (h ++ r ∷ []) ≡ bindings_after p n (bindings p n h) r
-bindings-snoc p n h r = fold-append (bindings_after p n) [] h (r ∷ [])
+pub bindings-snoc : (p : Purse) (n : List ℕ) (base : Base) (h : List Record) (r : Record) → bindings base p n (h ++ r ∷ []) ≡ bindings_after p n (bindings base p n h) r
+bindings-snoc p n base h r = fold-append (bindings_after p n) (only_kept (base.binding p n)) h (r ∷ [])
 
-pub names_of-snoc : (p : Purse) (h : List Record) (r : Record) → names_of p (h ++ r ∷ []) ≡ names_after p (names_of p h) r
-names_of-snoc p h r = fold-append (names_after p) [] h (r ∷ [])
+pub names_of-snoc : (p : Purse) (base : Base) (h : List Record) (r : Record) → names_of base p (h ++ r ∷ []) ≡ names_after p (names_of base p h) r
+names_of-snoc p base h r = fold-append (names_after p) (base.names p) h (r ∷ [])
 
 -- NO LATER THAN THE LAST RECORD
 
@@ -58,14 +58,14 @@ last-up h r all = of (slice_get h (length h - 1)) refl
     of None got = omega arith
     of (Some x) got = let here : nat_le x.moment (last_of (h ++ r ∷ [])) ≡ true = all-at (λ y. nat_le y.moment (last_of (h ++ r ∷ []))) h (length h - 1) x (all-front (λ y. nat_le y.moment (last_of (h ++ r ∷ []))) h (r ∷ []) all) got in grind arith
 
-module _ {hz : ℕ} {chains : Chains Version} {kept : Objects} {table : Table} {h : List Record} (s : NamesStand hz chains kept table h) where
+module _ {hz : ℕ} {chains : Chains Version} {kept : Objects} {table : Table} {base : Base} {h : List Record} (s : NamesStand base hz chains kept table h) where
   -- a record that binds no name
-  pub names_with : (r : Record) → {hz' : ℕ} → hz ≤ hz' → RebindsNone r → counted bindings_ended_by r ≡ 0 → NamesStand hz' chains kept table (h ++ r ∷ [])
+  pub names_with : (r : Record) → {hz' : ℕ} → hz ≤ hz' → RebindsNone r → counted bindings_ended_by r ≡ 0 → NamesStand base hz' chains kept table (h ++ r ∷ [])
   names_with r {hz'} up none ended = record {
     holds = s.holds;
     waits = s.waits;
-    bindings = λ p n. swept_up hz hz' _ _ up (subst (IsSwept hz (bindings_in chains table p n)) (sym (ap (laid-on p n) (bindings-snoc p n h r ∙ none.bindings p n (bindings p n h)))) (s.bindings p n));
-    names = λ p. s.names p ∙ ap (filter (λ n. is_any (bindings_in chains table p n))) (sym (names_of-snoc p h r ∙ none.names p (names_of p h)));
+    bindings = λ p n. swept_up hz hz' _ _ up (subst (IsSwept hz (bindings_in chains table p n)) (sym (ap (laid-on p n) (bindings-snoc p n base h r ∙ none.bindings p n (bindings base p n h)))) (s.bindings p n));
+    names = λ p. s.names p ∙ ap (filter (λ n. is_any (bindings_in chains table p n))) (sym (names_of-snoc p base h r ∙ none.names p (names_of base p h)));
     ends = waiting_next up bindings_ended_by h r (no-more (map (λ e. e.end) (waiting_in table)) r.moment ended) s.ends;
     apart = s.apart;
   }
@@ -74,18 +74,18 @@ module _ {hz : ℕ} {chains : Chains Version} {kept : Objects} {table : Table} {
       laid-on p n values = laid_by (λ serial. 64 + length n) (λ v. Some (item.Bind (object_in p v.value))) values
 
   -- other chains, of which those of the names are as before
-  pub names_over : (new : Chains Version) (kept' : Objects) → KeepsTable chains new table → ((p : Purse) (n : List ℕ) (c : ℕ) → chain_at table p n ≡ Some c → IsForeign kept' c) → NamesStand hz new kept' table h
+  pub names_over : (new : Chains Version) (kept' : Objects) → KeepsTable chains new table → ((p : Purse) (n : List ℕ) (c : ℕ) → chain_at table p n ≡ Some c → IsForeign kept' c) → NamesStand base hz new kept' table h
   names_over new kept' keeps apart = record {
     holds = holds_still keeps s.holds;
     waits = waits_still keeps s.waits;
-    bindings = λ p n. subst (λ vs. IsSwept hz vs (bindings_on p n h)) (sym (bindings_still keeps p n)) (s.bindings p n);
-    names = λ p. names_still keeps p ∙ s.names p ∙ ap (λ f. filter f (names_of p h)) (λ i n. is_any (sym (bindings_still keeps p n) i));
+    bindings = λ p n. subst (λ vs. IsSwept hz vs (bindings_on base p n h)) (sym (bindings_still keeps p n)) (s.bindings p n);
+    names = λ p. names_still keeps p ∙ s.names p ∙ ap (λ f. filter f (names_of base p h)) (λ i n. is_any (sym (bindings_still keeps p n) i));
     ends = s.ends;
     apart = apart;
   }
 
   -- the chains of objects' tracks were changed
-  pub names_beside : {new : Chains Version} {kept' : Objects} → KeepsOthers chains new kept kept' → NamesStand hz new kept' table h
+  pub names_beside : {new : Chains Version} {kept' : Objects} → KeepsOthers chains new kept kept' → NamesStand base hz new kept' table h
   names_beside {new} {kept'} others = names_over new kept' (record {
     opened = λ p n c got. others.still c (s.holds.opened p n c got) (s.apart p n c got);
     items = λ p n c got. others.items c (s.holds.opened p n c got) (s.apart p n c got);

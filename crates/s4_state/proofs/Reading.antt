@@ -1,9 +1,10 @@
 -- What is held tells what is in force.
 use Rattle.std.proofs.Common.{◌≡◌, ℕ, ◌≤◌, Bool, true, false, cond, Option, Some, None, List, [], ◌∷◌, refl, sym, ◌∙◌, ap, subst, arith}
-use Rattle.std.specs.Prelude.{not, nat_le, is_some, if◌then◌else◌}
+use Rattle.std.specs.Prelude.{◌&&◌, not, nat_le, is_some, if◌then◌else◌}
 use Rattle.std.specs.List.{find, list_all}
 use Rattle.std.specs.Option.{option_map}
 use Rattle.std.proofs.lemmas.List.Sums.{fold-append}
+use Rattle.s4_types.specs.Base.{Base}
 use Rattle.s4_types.specs.declared.object.Purse.{Purse}
 use Rattle.s4_types.specs.declared.object.ObjectId.{ObjectId}
 use Rattle.s4_types.specs.declared.acl.AclEntry.{AclEntry}
@@ -32,6 +33,7 @@ use Rattle.s4_objects.specs.Table.{held_in}
 use Rattle.s4_state.specs.Laid.{item_of, version_by, laid_by, version_of, laid, versions_on, version_at}
 use Rattle.s4_state.specs.Sound.{IsSound, IsTrack, TrackStands, DataFits, AttributesFit, AclFits, was_made, was_deleted}
 use Rattle.s4_state.specs.Stands.{horizon_now, StandsFor}
+use Rattle.s4_state.proofs.Living.{in_force-now, lives_at-now}
 
 -- FROM VALUES TO VERSIONS
 
@@ -53,21 +55,6 @@ module _ {V : Type 0} (cost : V → ℕ) (hold : Value V → Option Item) where
   -- at a moment the chain holds what the values hold
   pub in_force-laid : (m : ℕ) (values : List (Value V)) → in_force m (laid_by cost hold values) ≡ option_map (version_by cost hold) (in_force_by m values)
   in_force-laid m values = ap (unended m) (latest-laid m values) ∙ unended-found m values
-
--- what is held where the object lives is the definition's value in force
-found-held : {V : Type 0} (m : ℕ) (values : List (Value V)) (lives : Bool) → lives ≡ is_some (in_force_by m values) → cond lives (find (λ v. nat_le v.begin m) values) None ≡ in_force_by m values
-found-held m [] true e = refl
-found-held m [] false e = refl
-found-held {V} m (v ∷ past) lives e = of (λ b k. found-held m past b k) (nat_le v.begin m) (ends_by m v.end) refl refl e
-  where
-    of : ((b : Bool) → b ≡ is_some (in_force_by m past) → cond b (find (λ v. nat_le v.begin m) past) None ≡ in_force_by m past) → (a b : Bool) → nat_le v.begin m ≡ a → ends_by m v.end ≡ b → lives ≡ is_some (if a then (if b then None else Some v) else in_force_by m past)
-        → cond lives (cond a (Some v) (find (λ v. nat_le v.begin m) past)) None ≡ (if a then (if b then None else Some v) else in_force_by m past)
-    of rest true true f g k = ap (λ b. cond b (Some v) None) k
-    of rest true false f g k = ap (λ b. cond b (Some v) None) k
-    of rest false b f g k = rest lives k
-
-value_at-held : {V : Type 0} (track : Track V) (Fits : V → Type 0) (o : ObjectId) (h : List Record) (m : ℕ) → TrackStands Fits o h (versions track o h) → value_at track o m h ≡ in_force_by m (versions track o h)
-value_at-held track Fits o h m s = found-held m (versions track o h) (lives_at m o h) (s.lives m)
 
 -- from the last moment on the current value is held
 current-laid : {V : Type 0} (track : Track V) (wrap : V → Item) (Fits : V → Type 0) (made deleted : Bool) (last t : ℕ) (values : List (Value V)) → last ≤ t → IsTrack Fits made deleted last values
@@ -92,26 +79,30 @@ current-laid track wrap Fits true true last t (v ∷ past) l s =
     ∙ ap (λ e. option_map (version_of track wrap) (if ends_by t e then None else Some v)) s.ended
     ∙ ap (λ b. option_map (version_of track wrap) (if b then None else Some v)) over)
 
--- the value in force from the last moment on is the newest
-newest-in-force : {V : Type 0} (track : Track V) (Fits : V → Type 0) {h : List Record} (o : ObjectId) → TrackStands Fits o h (versions track o h) → (t : ℕ) → last_of h ≤ t → lives_at t o h ≡ true
-    → (v : Value V) (past : List (Value V)) → versions track o h ≡ v ∷ past → value_at track o t h ≡ Some v
-newest-in-force {V} track Fits {h} o stands t later lives v past is =
-    ap (λ b. cond b (find (λ v. nat_le v.begin t) (versions track o h)) None) lives ∙ ap (find (λ v. nat_le v.begin t)) is
-    ∙ newest (was_made o h) (was_deleted o h) (subst (IsTrack Fits (was_made o h) (was_deleted o h) (last_of h)) is stands.shape)
+-- the value in force from the last moment on is the newest, where the object lives
+newest-in-force : {V : Type 0} (track : Track V) (Fits : V → Type 0) (base : Base) (h : List Record) (o : ObjectId) → TrackStands Fits base o h (versions base track o h) → TrackStands AclFits base o h (versions base acl_track o h)
+    → (t : ℕ) → last_of h ≤ t → lives_at base t o h ≡ true → (v : Value V) (past : List (Value V)) → versions base track o h ≡ v ∷ past → value_at base track o t h ≡ Some v
+newest-in-force {V} track Fits base h o stands acl t later lives v past is =
+    ap (in_force_by t) is
+    ∙ newest (was_made base o h) (was_deleted o h) (sym (lives_at-now t base o h later acl) ∙ lives) (subst (IsTrack Fits (was_made base o h) (was_deleted o h) (last_of h)) is stands)
   where
-    newest : (m d : Bool) → IsTrack Fits m d (last_of h) (v ∷ past) → find (λ v. nat_le v.begin t) (v ∷ past) ≡ Some v
-    newest false d shape = cc
-    newest true false shape = let low : v.begin ≤ last_of h = shape.begun in let begun : nat_le v.begin t ≡ true = grind arith in rw begun refl
-    newest true true shape = let low : v.begin ≤ last_of h = shape.begun in let begun : nat_le v.begin t ≡ true = grind arith in rw begun refl
+    newest : (m d : Bool) → (m && not d) ≡ true → IsTrack Fits m d (last_of h) (v ∷ past) → in_force_by t (v ∷ past) ≡ Some v
+    newest false d e shape = cc
+    newest true true e shape = cc
+    newest true false e shape =
+        let low : v.begin ≤ last_of h = shape.begun in
+        let begun : nat_le v.begin t ≡ true = grind arith in
+        ap (λ b. if b then (if ends_by t v.end then None else Some v) else in_force_by t past) begun
+        ∙ ap (λ e. if ends_by t e then None else Some v) shape.current
 
-pub data-in-force : {h : List Record} → IsSound h → (o : ObjectId) (t : ℕ) → last_of h ≤ t → lives_at t o h ≡ true → (v : Value (List ℕ)) (past : List (Value (List ℕ))) → versions data_track o h ≡ v ∷ past → v.value ≡ data_of o t h
-data-in-force s o t later lives v past is = sym (ap value_or_empty (newest-in-force data_track DataFits o (s.tracks o which.Data) t later lives v past is))
+pub data-in-force : {base : Base} {h : List Record} → IsSound base h → (o : ObjectId) (t : ℕ) → last_of h ≤ t → lives_at base t o h ≡ true → (v : Value (List ℕ)) (past : List (Value (List ℕ))) → versions base data_track o h ≡ v ∷ past → v.value ≡ data_of base o t h
+data-in-force {base} {h} s o t later lives v past is = sym (ap value_or_empty (newest-in-force data_track DataFits base h o (s.tracks o which.Data) (s.tracks o which.Acl) t later lives v past is))
 
-pub attributes-in-force : {h : List Record} → IsSound h → (o : ObjectId) (t : ℕ) → last_of h ≤ t → lives_at t o h ≡ true → (v : Value (List ℕ)) (past : List (Value (List ℕ))) → versions attribute_track o h ≡ v ∷ past → v.value ≡ attributes_of o t h
-attributes-in-force s o t later lives v past is = sym (ap value_or_empty (newest-in-force attribute_track AttributesFit o (s.tracks o which.Attributes) t later lives v past is))
+pub attributes-in-force : {base : Base} {h : List Record} → IsSound base h → (o : ObjectId) (t : ℕ) → last_of h ≤ t → lives_at base t o h ≡ true → (v : Value (List ℕ)) (past : List (Value (List ℕ))) → versions base attribute_track o h ≡ v ∷ past → v.value ≡ attributes_of base o t h
+attributes-in-force {base} {h} s o t later lives v past is = sym (ap value_or_empty (newest-in-force attribute_track AttributesFit base h o (s.tracks o which.Attributes) (s.tracks o which.Acl) t later lives v past is))
 
-pub acl-in-force : {h : List Record} → IsSound h → (o : ObjectId) (t : ℕ) → last_of h ≤ t → lives_at t o h ≡ true → (v : Value (List AclEntry)) (past : List (Value (List AclEntry))) → versions acl_track o h ≡ v ∷ past → v.value ≡ acl_of o t h
-acl-in-force s o t later lives v past is = sym (ap value_or_empty (newest-in-force acl_track AclFits o (s.tracks o which.Acl) t later lives v past is))
+pub acl-in-force : {base : Base} {h : List Record} → IsSound base h → (o : ObjectId) (t : ℕ) → last_of h ≤ t → lives_at base t o h ≡ true → (v : Value (List AclEntry)) (past : List (Value (List AclEntry))) → versions base acl_track o h ≡ v ∷ past → v.value ≡ acl_of base o t h
+acl-in-force {base} {h} s o t later lives v past is = sym (ap value_or_empty (newest-in-force acl_track AclFits base h o (s.tracks o which.Acl) (s.tracks o which.Acl) t later lives v past is))
 
 -- FROM WHAT IS KEPT
 
@@ -119,49 +110,42 @@ is_some-map : {A B : Type 0} (f : A → B) (x : Option A) → is_some (option_ma
 is_some-map f None = refl
 is_some-map f (Some x) = refl
 
-module _ {h : List Record} (s : IsSound h) (o : ObjectId) where
+module _ {base : Base} {h : List Record} (s : IsSound base h) (o : ObjectId) where
   -- at a moment
-  all-at : (m : ℕ) (w : Which) → in_force m (versions_on w o h) ≡ version_at w o m h
-  all-at m which.Data = in_force-laid data_track.cost (item_of item.Data) m (versions data_track o h) ∙ ap (option_map (version_of data_track item.Data)) (sym (value_at-held data_track DataFits o h m (s.tracks o which.Data)))
-  all-at m which.Attributes = in_force-laid attribute_track.cost (item_of item.Attr) m (versions attribute_track o h) ∙ ap (option_map (version_of attribute_track item.Attr)) (sym (value_at-held attribute_track AttributesFit o h m (s.tracks o which.Attributes)))
-  all-at m which.Acl = in_force-laid acl_track.cost (item_of item.Acl) m (versions acl_track o h) ∙ ap (option_map (version_of acl_track item.Acl)) (sym (value_at-held acl_track AclFits o h m (s.tracks o which.Acl)))
+  all-at : (m : ℕ) (w : Which) → in_force m (versions_on base w o h) ≡ version_at base w o m h
+  all-at m which.Data = in_force-laid data_track.cost (item_of item.Data) m (versions base data_track o h)
+  all-at m which.Attributes = in_force-laid attribute_track.cost (item_of item.Attr) m (versions base attribute_track o h)
+  all-at m which.Acl = in_force-laid acl_track.cost (item_of item.Acl) m (versions base acl_track o h)
 
   -- now
-  all-now : (t : ℕ) → last_of h ≤ t → (w : Which) → current_of (versions_on w o h) ≡ version_at w o t h
-  all-now t l which.Data =
-      let stands : TrackStands DataFits o h (versions data_track o h) = s.tracks o which.Data in
-      current-laid data_track item.Data DataFits (was_made o h) (was_deleted o h) (last_of h) t (versions data_track o h) l stands.shape
-      ∙ ap (option_map (version_of data_track item.Data)) (sym (value_at-held data_track DataFits o h t stands))
-  all-now t l which.Attributes =
-      let stands : TrackStands AttributesFit o h (versions attribute_track o h) = s.tracks o which.Attributes in
-      current-laid attribute_track item.Attr AttributesFit (was_made o h) (was_deleted o h) (last_of h) t (versions attribute_track o h) l stands.shape
-      ∙ ap (option_map (version_of attribute_track item.Attr)) (sym (value_at-held attribute_track AttributesFit o h t stands))
-  all-now t l which.Acl =
-      let stands : TrackStands AclFits o h (versions acl_track o h) = s.tracks o which.Acl in
-      current-laid acl_track item.Acl AclFits (was_made o h) (was_deleted o h) (last_of h) t (versions acl_track o h) l stands.shape
-      ∙ ap (option_map (version_of acl_track item.Acl)) (sym (value_at-held acl_track AclFits o h t stands))
+  all-now : (t : ℕ) → last_of h ≤ t → (w : Which) → current_of (versions_on base w o h) ≡ version_at base w o t h
+  all-now t l which.Data = current-laid data_track item.Data DataFits (was_made base o h) (was_deleted o h) (last_of h) t (versions base data_track o h) l (s.tracks o which.Data)
+  all-now t l which.Attributes = current-laid attribute_track item.Attr AttributesFit (was_made base o h) (was_deleted o h) (last_of h) t (versions base attribute_track o h) l (s.tracks o which.Attributes)
+  all-now t l which.Acl = current-laid acl_track item.Acl AclFits (was_made base o h) (was_deleted o h) (last_of h) t (versions base acl_track o h) l (s.tracks o which.Acl)
 
-  all-told : (t : ℕ) → last_of h ≤ t → (at : Option ℕ) (w : Which) → version_in at (versions_on w o h) ≡ version_at w o (moment_of t at) h
+  all-told : (t : ℕ) → last_of h ≤ t → (at : Option ℕ) (w : Which) → version_in at (versions_on base w o h) ≡ version_at base w o (moment_of t at) h
   all-told t l None w = all-now t l w
   all-told t l (Some m) w = all-at m w
 
-  -- an object that lives has a version on each track
-  lives-told : (m : ℕ) → lives_at m o h ≡ true → (w : Which) → is_some (version_at w o m h) ≡ true
-  lives-told m e which.Data = let stands : TrackStands DataFits o h (versions data_track o h) = s.tracks o which.Data in
-      is_some-map (version_of data_track item.Data) (value_at data_track o m h) ∙ ap is_some (value_at-held data_track DataFits o h m stands) ∙ sym (stands.lives m) ∙ e
-  lives-told m e which.Attributes = let stands : TrackStands AttributesFit o h (versions attribute_track o h) = s.tracks o which.Attributes in
-      is_some-map (version_of attribute_track item.Attr) (value_at attribute_track o m h) ∙ ap is_some (value_at-held attribute_track AttributesFit o h m stands) ∙ sym (stands.lives m) ∙ e
-  lives-told m e which.Acl = let stands : TrackStands AclFits o h (versions acl_track o h) = s.tracks o which.Acl in
-      is_some-map (version_of acl_track item.Acl) (value_at acl_track o m h) ∙ ap is_some (value_at-held acl_track AclFits o h m stands) ∙ sym (stands.lives m) ∙ e
+  -- what is in force on a track is there where the object lives
+  lives-then : {V : Type 0} (Fits : V → Type 0) (track : Track V) → TrackStands Fits base o h (versions base track o h) → (t : ℕ) → last_of h ≤ t → lives_at base t o h ≡ true → is_some (value_at base track o t h) ≡ true
+  lives-then Fits track stands t l lives =
+      in_force-now Fits t (last_of h) (was_made base o h) (was_deleted o h) (versions base track o h) l stands ∙ sym (lives_at-now t base o h l (s.tracks o which.Acl)) ∙ lives
 
-module _ {window freed : ℕ} {chains : Chains Version} {kept : Objects} {serials : Purse → ℕ} {table : Table} {h : List Record} (s : StandsFor window freed chains kept serials table h) (o : ObjectId) where
+  -- an object that lives has a version on each track
+  lives-told : (t : ℕ) → last_of h ≤ t → lives_at base t o h ≡ true → (w : Which) → is_some (version_at base w o t h) ≡ true
+  lives-told t l e which.Data = is_some-map (version_of data_track item.Data) (value_at base data_track o t h) ∙ lives-then DataFits data_track (s.tracks o which.Data) t l e
+  lives-told t l e which.Attributes = is_some-map (version_of attribute_track item.Attr) (value_at base attribute_track o t h) ∙ lives-then AttributesFit attribute_track (s.tracks o which.Attributes) t l e
+  lives-told t l e which.Acl = is_some-map (version_of acl_track item.Acl) (value_at base acl_track o t h) ∙ lives-then AclFits acl_track (s.tracks o which.Acl) t l e
+
+module _ {base : Base} {freed : ℕ} {chains : Chains Version} {kept : Objects} {serials : Purse → ℕ} {table : Table} {h : List Record} (s : StandsFor base freed chains kept serials table h) (o : ObjectId) where
   -- what is held tells what is in force, now or at a moment that isn't below the horizon
-  pub held-told : (t : ℕ) → last_of h ≤ t → (at : Option ℕ) → IsFrom (horizon_now window h) at → (w : Which) → version_in at (held_in chains kept o w) ≡ version_at w o (moment_of t at) h
-  held-told t l at from w = swept_version_in (horizon_now window h) at (held_in chains kept o w) (versions_on w o h) from (s.objects.tracks o w) ∙ all-told s.sound o t l at w
+  pub held-told : (t : ℕ) → last_of h ≤ t → (at : Option ℕ) → IsFrom (horizon_now base h) at → (w : Which) → version_in at (held_in chains kept o w) ≡ version_at base w o (moment_of t at) h
+  held-told t l at from w = swept_version_in (horizon_now base h) at (held_in chains kept o w) (versions_on base w o h) from (s.objects.tracks o w) ∙ all-told s.sound o t l at w
 
   -- where the object lives each track has a current value
-  pub current-held : (t : ℕ) → last_of h ≤ t → lives_at t o h ≡ true → (w : Which) → is_some (current_of (held_in chains kept o w)) ≡ true
-  current-held t l lives w = ap is_some (held-told t l None tt w) ∙ lives-told s.sound o t lives w
+  pub current-held : (t : ℕ) → last_of h ≤ t → lives_at base t o h ≡ true → (w : Which) → is_some (current_of (held_in chains kept o w)) ≡ true
+  current-held t l lives w = ap is_some (held-told t l None tt w) ∙ lives-told s.sound o t l lives w
 
 -- what a version holds is the definition's value
 module _ (wrap : List ℕ → Item) (bytes : (x : List ℕ) → bytes_of_item (Some (wrap x)) ≡ Some x) (track : Track (List ℕ)) where
@@ -169,42 +153,42 @@ module _ (wrap : List ℕ → Item) (bytes : (x : List ℕ) → bytes_of_item (S
   bytes-left None = refl
   bytes-left (Some v) = elim v.is_erased as (λ b. bytes_of_item (if b then None else Some (wrap v.value)) ≡ when (not b) v.value) [ true ↦ refl | false ↦ bytes v.value ]
 
-pub bytes_in-data : (o : ObjectId) (m : ℕ) (h : List Record) → bytes_in (version_at which.Data o m h) ≡ when (not (is_gone (value_at data_track o m h))) (data_of o m h)
-bytes_in-data o m h = bytes-left item.Data (λ x. refl) data_track (value_at data_track o m h)
+pub bytes_in-data : (o : ObjectId) (m : ℕ) (base : Base) (h : List Record) → bytes_in (version_at base which.Data o m h) ≡ when (not (is_gone (value_at base data_track o m h))) (data_of base o m h)
+bytes_in-data o m base h = bytes-left item.Data (λ x. refl) data_track (value_at base data_track o m h)
 
-pub bytes_in-attributes : (o : ObjectId) (m : ℕ) (h : List Record) → bytes_in (version_at which.Attributes o m h) ≡ when (not (is_gone (value_at attribute_track o m h))) (attributes_of o m h)
-bytes_in-attributes o m h = bytes-left item.Attr (λ x. refl) attribute_track (value_at attribute_track o m h)
+pub bytes_in-attributes : (o : ObjectId) (m : ℕ) (base : Base) (h : List Record) → bytes_in (version_at base which.Attributes o m h) ≡ when (not (is_gone (value_at base attribute_track o m h))) (attributes_of base o m h)
+bytes_in-attributes o m base h = bytes-left item.Attr (λ x. refl) attribute_track (value_at base attribute_track o m h)
 
 -- a value that is found among whole ones is whole
-found-whole : {V : Type 0} (p : Value V → Bool) (vs : List (Value V)) → list_all is_whole vs ≡ true → is_gone (find p vs) ≡ false
-found-whole p [] e = refl
-found-whole p (v ∷ vs) e =
+found-whole : {V : Type 0} (m : ℕ) (vs : List (Value V)) → list_all is_whole vs ≡ true → is_gone (in_force_by m vs) ≡ false
+found-whole m [] e = refl
+found-whole m (v ∷ vs) e =
     let parts = both (is_whole v) (list_all is_whole vs) e in
-    elim (p v) as (λ b. is_gone (cond b (Some v) (find p vs)) ≡ false) [ true ↦ turned v.is_erased parts.0 | false ↦ found-whole p vs parts.1 ]
+    elim (nat_le v.begin m) as (λ b. is_gone (if b then (if ends_by m v.end then None else Some v) else in_force_by m vs) ≡ false) [
+      | true ↦ (elim (ends_by m v.end) as (λ b. is_gone (if b then None else Some v) ≡ false) [ true ↦ refl | false ↦ turned v.is_erased parts.0 ])
+      | false ↦ found-whole m vs parts.1
+    ]
   where
     turned : (b : Bool) → not b ≡ true → b ≡ false
     turned true f = cc
     turned false f = refl
 
 -- no ACL is ever erased
-acl-whole : (o : ObjectId) (m : ℕ) (h : List Record) → is_gone (value_at acl_track o m h) ≡ false
-acl-whole o m h = elim (lives_at m o h) as (λ b. is_gone (cond b (find (λ v. nat_le v.begin m) (versions acl_track o h)) None) ≡ false) [
-  | true ↦ found-whole (λ v. nat_le v.begin m) (versions acl_track o h) (acls-whole o h)
-  | false ↦ refl
-]
+acl-whole : (o : ObjectId) (m : ℕ) (base : Base) (h : List Record) → is_gone (value_at base acl_track o m h) ≡ false
+acl-whole o m base h = found-whole m (versions base acl_track o h) (acls-whole o base h)
 
-pub held_in-acl : (o : ObjectId) (m : ℕ) (h : List Record) → acl_in (version_at which.Acl o m h) ≡ option_map held_of (value_at acl_track o m h)
-held_in-acl o m h = of (value_at acl_track o m h) (acl-whole o m h)
+pub held_in-acl : (o : ObjectId) (m : ℕ) (base : Base) (h : List Record) → acl_in (version_at base which.Acl o m h) ≡ option_map held_of (value_at base acl_track o m h)
+held_in-acl o m base h = of (value_at base acl_track o m h) (acl-whole o m base h)
   where
     of : (x : Option (Value (List AclEntry))) → is_gone x ≡ false → acl_in (option_map (version_of acl_track item.Acl) x) ≡ option_map held_of x
     of None e = refl
     of (Some v) e = ap (λ b. held_of_item v.begin (if b then None else Some (item.Acl v.value))) e
 
 -- nor is a current value
-current-whole : {V : Type 0} (track : Track V) (Fits : V → Type 0) (o : ObjectId) (h : List Record) → TrackStands Fits o h (versions track o h) → (t : ℕ) → last_of h ≤ t → is_gone (value_at track o t h) ≡ false
-current-whole {V} track Fits o h s t later = ap is_gone (value_at-held track Fits o h t s) ∙ of (was_made o h) (was_deleted o h) (versions track o h) refl s.shape
+current-whole : {V : Type 0} (track : Track V) (Fits : V → Type 0) (o : ObjectId) (base : Base) (h : List Record) → TrackStands Fits base o h (versions base track o h) → (t : ℕ) → last_of h ≤ t → is_gone (value_at base track o t h) ≡ false
+current-whole {V} track Fits o base h s t later = of (was_made base o h) (was_deleted o h) (versions base track o h) refl s
   where
-    of : (m d : Bool) (values : List (Value V)) → versions track o h ≡ values → IsTrack Fits m d (last_of h) values → is_gone (in_force_by t values) ≡ false
+    of : (m d : Bool) (values : List (Value V)) → versions base track o h ≡ values → IsTrack Fits m d (last_of h) values → is_gone (in_force_by t values) ≡ false
     of false d values is shape = ap (λ vs. is_gone (in_force_by t vs)) shape
     of true d [] is shape = refl
     of true false (v ∷ past) is shape =
@@ -212,7 +196,7 @@ current-whole {V} track Fits o h s t later = ap is_gone (value_at-held track Fit
         let begun : nat_le v.begin t ≡ true = grind arith in
         ap (λ b. is_gone (if b then (if ends_by t v.end then None else Some v) else in_force_by t past)) begun
         ∙ ap (λ e. is_gone (if ends_by t e then None else Some v)) shape.current
-        ∙ unended-whole track o h v past is shape.current
+        ∙ unended-whole base track o h v past is shape.current
     of true true (v ∷ past) is shape =
         let low : v.begin ≤ last_of h = shape.begun in
         let begun : nat_le v.begin t ≡ true = grind arith in
@@ -222,8 +206,8 @@ current-whole {V} track Fits o h s t later = ap is_gone (value_at-held track Fit
         ∙ ap (λ e. is_gone (if ends_by t e then None else Some v)) shape.ended
         ∙ ap (λ b. is_gone (if b then None else Some v)) over
 
-pub current-data-whole : {h : List Record} → IsSound h → (o : ObjectId) (t : ℕ) → last_of h ≤ t → is_gone (value_at data_track o t h) ≡ false
-current-data-whole {h} s o t later = current-whole data_track DataFits o h (s.tracks o which.Data) t later
+pub current-data-whole : {base : Base} {h : List Record} → IsSound base h → (o : ObjectId) (t : ℕ) → last_of h ≤ t → is_gone (value_at base data_track o t h) ≡ false
+current-data-whole {base} {h} s o t later = current-whole data_track DataFits o base h (s.tracks o which.Data) t later
 
 -- what is told of what isn't gone
 pub told-whole : {A B : Type 0} (f : A → B) (r : Option A) (gone : Bool) (x : B) → option_map f r ≡ when (not gone) x → gone ≡ false → is_some r ≡ true

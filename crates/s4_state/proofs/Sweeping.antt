@@ -5,6 +5,7 @@ use Rattle.std.specs.List.{list_all, prefix_len}
 use Rattle.std.proofs.lemmas.List.{take-append-drop, length-drop, length-append, length-map, drop-map}
 use Rattle.std.proofs.lemmas.List.Folds.{list_all-append}
 use Rattle.std.proofs.lemmas.List.Sums.{sum_by-append, sum_by-cons, prefix_len-le-length}
+use Rattle.s4_types.specs.Base.{Base}
 use Rattle.s4_types.specs.declared.object.Purse.{Purse}
 use Rattle.s4_types.specs.declared.object.ObjectId.{ObjectId}
 use Rattle.s4_types.specs.declared.record.Record.{Record}
@@ -18,15 +19,16 @@ use Rattle.s4_objects.specs.declared.kept.Which.{Which}
 use Rattle.s4_objects.specs.declared.objects.Objects.{Objects}
 use Rattle.s4_objects.specs.Chains.{chain_of}
 use Rattle.s4_objects.specs.Ends.{is_gone, all_by}
-use Rattle.s4_objects.specs.Table.{kept_in, held_in, ends_in, Holds, KeepsOthers}
+use Rattle.s4_objects.specs.Table.{kept_in, held_in, ends_in, Holds, KeepsOthers, LeavesNoChain}
 use Rattle.s4_parts.specs.declared.ends.Ended.{Ended}
 use Rattle.s4_parts.specs.declared.parts.Parts.{Parts as Table}
-use Rattle.s4_parts.specs.Table.{bindings_in, names_in, is_any, Holds as TableHolds}
+use Rattle.s4_parts.specs.Table.{bindings_in, is_any, Holds as TableHolds}
 use Rattle.s4_parts.specs.Waiting.{waiting_in, Waits, Sweeps, is_gone as is_gone_of}
 use Rattle.s4_parts.proofs.Queueing.{rising-count}
 use Rattle.s4_state.specs.Counts.{made_count, object_ends, binding_ends, ended_count}
 use Rattle.s4_state.specs.Stands.{IsWaiting, horizon_now, ObjectsStand, NamesStand, StandsFor}
-use Rattle.s4_state.proofs.Binding.{objects_beside, strange}
+use Rattle.s4_state.proofs.Binding.{objects_beside, strange, tidy_named}
+use Rattle.s4_state.proofs.Standing.{tidy_beside}
 use Rattle.s4_state.proofs.Naming.{names_beside}
 
 -- THE FIRST ENDS THAT WAIT ARE GONE
@@ -98,20 +100,20 @@ none-left hz (v ∷ held) [] s e = absurd (of s.gone s.whole)
 
 -- A SWEEP
 
-module _ {window freed : ℕ} {chains : Chains Version} {kept : Objects} {serials : Purse → ℕ} {table : Table} {h : List Record} (s : StandsFor window freed chains kept serials table h) (hz : ℕ) (now : hz ≡ horizon_now window h) where
-  objects-then : ObjectsStand hz chains kept h
-  objects-then = subst (λ m. ObjectsStand m chains kept h) (sym now) s.objects
+module _ {base : Base} {freed : ℕ} {chains : Chains Version} {kept : Objects} {serials : Purse → ℕ} {table : Table} {h : List Record} (s : StandsFor base freed chains kept serials table h) (hz : ℕ) (now : hz ≡ horizon_now base h) where
+  objects-then : ObjectsStand base hz chains kept h
+  objects-then = subst (λ m. ObjectsStand base m chains kept h) (sym now) s.objects
 
-  names-then : NamesStand hz chains kept table h
-  names-then = subst (λ m. NamesStand m chains kept table h) (sym now) s.partitions
+  names-then : NamesStand base hz chains kept table h
+  names-then = subst (λ m. NamesStand base m chains kept table h) (sym now) s.partitions
 
   -- of objects
   pub stands_expired : {new : Chains Version} {kept' : Objects} (n most : ℕ) → n ≡ min most (prefix_len (is_gone hz) (ends_in kept)) → Holds new kept' → ((o : ObjectId) → kept_in kept' o ≡ true → kept_in kept o ≡ true)
-      → ((o : ObjectId) (w : Which) → IsSwept hz (held_in new kept' o w) (held_in chains kept o w)) → ends_in kept' ≡ drop n (ends_in kept) → KeepsOthers chains new kept kept' → item_count new + n ≡ item_count chains
-      → StandsFor window (freed + n) new kept' serials table h
-  stands_expired {new} {kept'} n most first holds keeps held ends others used = record {
+      → ((o : ObjectId) (w : Which) → IsSwept hz (held_in new kept' o w) (held_in chains kept o w)) → ends_in kept' ≡ drop n (ends_in kept) → KeepsOthers chains new kept kept' → LeavesNoChain chains new kept kept' → item_count new + n ≡ item_count chains
+      → StandsFor base (freed + n) new kept' serials table h
+  stands_expired {new} {kept'} n most first holds keeps held ends others leaves used = record {
     sound = s.sound;
-    objects = subst (λ m. ObjectsStand m new kept' h) now (record {
+    objects = subst (λ m. ObjectsStand base m new kept' h) now (record {
       holds = holds;
       made = λ o e. s.objects.made o (keeps o e);
       tracks = λ o w. swept_through hz _ _ _ (held o w) (objects-then.tracks o w);
@@ -119,6 +121,7 @@ module _ {window freed : ℕ} {chains : Chains Version} {kept : Objects} {serial
     });
     names = s.names;
     partitions = names_beside s.partitions others;
+    tidy = tidy_beside s.tidy leaves;
     used = omega (arith, used, s.used);
     ended =
         let fewer : length (ends_in kept') ≡ length (ends_in kept) - n = ap length ends ∙ length-drop n (ends_in kept) in
@@ -127,7 +130,7 @@ module _ {window freed : ℕ} {chains : Chains Version} {kept : Objects} {serial
   }
 
   -- of names
-  pub stands_unnamed : {new : Chains Version} {table' : Table} (n most : ℕ) → n ≡ min most (count_by (is_gone_of hz) (waiting_in table)) → TableHolds new table' → Waits new table' → Sweeps hz chains new table table' n → StandsFor window (freed + n) new kept serials table' h
+  pub stands_unnamed : {new : Chains Version} {table' : Table} (n most : ℕ) → n ≡ min most (count_by (is_gone_of hz) (waiting_in table)) → TableHolds new table' → Waits new table' → Sweeps hz chains new table table' n → StandsFor base (freed + n) new kept serials table' h
   stands_unnamed {new} {table'} n most first holds waits sweeps =
       let rising : prefix_len (is_gone_of hz) (waiting_in table) ≡ count_by (is_gone_of hz) (waiting_in table) = rising-count hz (waiting_in table) s.partitions.waits.rising in
       let prefix : prefix_len (is_gone hz) (map (λ e. e.end) (waiting_in table)) ≡ prefix_len (is_gone_of hz) (waiting_in table) = ends-prefix hz (waiting_in table) in
@@ -138,16 +141,17 @@ module _ {window freed : ℕ} {chains : Chains Version} {kept : Objects} {serial
           items = λ o k w got. sweeps.others.items (chain_of w k) (s.objects.holds.chained.opened o k w got) (strange s.partitions o k w got);
         });
         names = s.names;
-        partitions = subst (λ m. NamesStand m new kept table' h) now (record {
+        partitions = subst (λ m. NamesStand base m new kept table' h) now (record {
           holds = holds;
           waits = waits;
           bindings = λ p m. swept_through hz _ _ _ (sweeps.bindings p m) (names-then.bindings p m);
           names = λ p. sweeps.names p ∙ ap (filter (λ m. is_any (bindings_in new table' p m))) (s.partitions.names p)
-              ∙ filter-twice (λ m. is_any (bindings_in new table' p m)) (λ m. is_any (bindings_in chains table p m)) (names_of p h) (λ m e. none-left hz _ _ (sweeps.bindings p m) e);
+              ∙ filter-twice (λ m. is_any (bindings_in new table' p m)) (λ m. is_any (bindings_in chains table p m)) (names_of base p h) (λ m e. none-left hz _ _ (sweeps.bindings p m) e);
           ends = subst (λ waiting. IsWaiting hz waiting (binding_ends h)) (drop-map (λ e. e.end) n (waiting_in table) ∙ sym (ap (map (λ e. e.end)) sweeps.waiting))
               (waiting-dropped names-then.ends n (omega (arith, first, rising, prefix)));
           apart = λ p m c has. s.partitions.apart p m c (sweeps.own p m c has);
         });
+        tidy = tidy_named s.tidy sweeps.leaves;
         used = omega (arith, sweeps.used, s.used);
         ended =
             let fewer : length (waiting_in table') ≡ length (waiting_in table) - n = ap length sweeps.waiting ∙ length-drop n (waiting_in table) in
@@ -164,6 +168,10 @@ module _ {window freed : ℕ} {chains : Chains Version} {kept : Objects} {serial
       let count = ends-count hz (waiting_in table) in
       let long : length (map (λ e. e.end) (waiting_in table)) ≡ length (waiting_in table) = length-map (waiting_in table) (λ e. e.end) in
       omega (arith, all, values, bindings, count, long, s.ended)
+
+  -- what isn't expired is held
+  pub needed-held : made_count h - ended_count hz h ≤ item_count chains
+  needed-held = omega (arith, still_ended, s.used)
 
 -- values first, and then bindings
 pub freed_both : (most values bindings a b ended freed : ℕ) → a ≡ min most values → b ≡ min (most - a) bindings → ended ≡ freed + values + bindings → a + b ≡ min most (ended - freed)

@@ -9,6 +9,7 @@ use Rattle.s4_types.specs.declared.version.Item.{Item}
 use Rattle.s4_types.specs.declared.version.Item.TheVariants as item
 use Rattle.s4_types.specs.Names.{object_in}
 use Rattle.s4_types.specs.Bindings.{bindings}
+use Rattle.s4_types.specs.Base.{Base}
 use Rattle.s4_types.specs.Versions.{Track, Value, versions, value_at, data_track, attribute_track, acl_track}
 use Rattle.s4_objects.specs.declared.kept.Which.{Which}
 use Rattle.s4_objects.specs.declared.kept.Which.TheVariants as which
@@ -33,17 +34,17 @@ abbrev pub laid : {V : Type 0} → Track V → (V → Item) → List (Value V) �
 laid track wrap values = laid_by track.cost (item_of wrap) values
 
 -- all versions that one of the object's tracks ever had
-abbrev pub versions_on : Which → ObjectId → List Record → List Version
-versions_on which.Data o h = laid data_track item.Data (versions data_track o h)
-versions_on which.Attributes o h = laid attribute_track item.Attr (versions attribute_track o h)
-versions_on which.Acl o h = laid acl_track item.Acl (versions acl_track o h)
+abbrev pub versions_on : Base → Which → ObjectId → List Record → List Version
+versions_on base which.Data o h = laid data_track item.Data (versions base data_track o h)
+versions_on base which.Attributes o h = laid attribute_track item.Attr (versions base attribute_track o h)
+versions_on base which.Acl o h = laid acl_track item.Acl (versions base acl_track o h)
 
 -- the version in force on one of the object's tracks at the moment
-abbrev pub version_at : Which → ObjectId → ℕ → List Record → Option Version
-version_at which.Data o m h = option_map (version_of data_track item.Data) (value_at data_track o m h)
-version_at which.Attributes o m h = option_map (version_of attribute_track item.Attr) (value_at attribute_track o m h)
-version_at which.Acl o m h = option_map (version_of acl_track item.Acl) (value_at acl_track o m h)
+abbrev pub version_at : Base → Which → ObjectId → ℕ → List Record → Option Version
+version_at base which.Data o m h = option_map (version_of data_track item.Data) (value_at base data_track o m h)
+version_at base which.Attributes o m h = option_map (version_of attribute_track item.Attr) (value_at base attribute_track o m h)
+version_at base which.Acl o m h = option_map (version_of acl_track item.Acl) (value_at base acl_track o m h)
 
 -- all bindings that the name ever had in the purse, which no flush erases
-abbrev pub bindings_on : Purse → List ℕ → List Record → List Version
-bindings_on p name h = laid_by (λ serial. 64 + length name) (λ v. Some (item.Bind (object_in p v.value))) (bindings p name h)
+abbrev pub bindings_on : Base → Purse → List ℕ → List Record → List Version
+bindings_on base p name h = laid_by (λ serial. 64 + length name) (λ v. Some (item.Bind (object_in p v.value))) (bindings base p name h)

@@ -1,5 +1,6 @@
 -- Why the names of an object are shown to a caller.
 use Rattle.std.specs.Prelude.{ℕ, Option, Some, None, Result, Ok, Err, List}
+use Rattle.s4_types.specs.Base.{Base}
 use Rattle.s4_types.specs.declared.principal.Caller.{Caller}
 use Rattle.s4_types.specs.declared.object.ObjectId.{ObjectId}
 use Rattle.s4_types.specs.declared.rights.Right.TheVariants as right
@@ -13,5 +14,5 @@ grant_of (Ok grant) = Some grant
 grant_of (Err refusal) = None
 
 -- the grant of a read, now or at a moment
-abbrev pub granted : List Record → ℕ → Caller → Option ℕ → ObjectId → Option Grant
-granted h t caller at o = grant_of (judge h t caller o right.Read at)
+abbrev pub granted : Base → List Record → ℕ → Caller → Option ℕ → ObjectId → Option Grant
+granted base h t caller at o = grant_of (judge base h t caller o right.Read at)

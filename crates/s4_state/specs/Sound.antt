@@ -1,13 +1,15 @@
 -- What holds of every history whose records were answered in turn.
-use Rattle.std.specs.Prelude.{◌≡◌, ℕ, ◌≤◌, Bool, true, false, not, nat_le, is_some, Option, Some, None, List, [], ◌∷◌, length}
+use Rattle.std.specs.Prelude.{◌≡◌, ℕ, ◌≤◌, Bool, true, false, not, ◌||◌, nat_le, is_some, Option, Some, None, List, [], ◌∷◌, length}
 use Rattle.std.specs.List.{list_all, list_any}
+use Rattle.std.specs.List.Sorted.{IsStrictlySortedBy}
 use Rattle.s4_types.specs.declared.object.Purse.{Purse}
 use Rattle.s4_types.specs.declared.object.ObjectId.{ObjectId}
 use Rattle.s4_types.specs.declared.acl.AclEntry.{AclEntry}
 use Rattle.s4_types.specs.declared.record.Record.{Record}
 use Rattle.s4_types.specs.Acl.{IsAcl}
-use Rattle.s4_types.specs.Versions.{Value, versions, in_force_by, makes, deletes, lives_at, data_track, attribute_track, acl_track}
-use Rattle.s4_types.specs.Bindings.{bindings}
+use Rattle.s4_types.specs.Versions.{Value, versions, makes, deletes, data_track, attribute_track, acl_track}
+use Rattle.s4_types.specs.Bindings.{bindings, names_of}
+use Rattle.s4_types.specs.Name.{same_name, name_cmp}
 use Rattle.s4_types.specs.Base.{Base}
 use Rattle.s4_types.specs.Answer.{answer}
 use Rattle.s4_types.specs.Serials.{drawn}
@@ -15,9 +17,9 @@ use Rattle.s4_types.specs.Play.{last_of, is_no_memory}
 use Rattle.s4_objects.specs.declared.kept.Which.{Which}
 use Rattle.s4_objects.specs.declared.kept.Which.TheVariants as which
 
--- whether some record made the object, and whether some record deleted it
-abbrev pub was_made : ObjectId → List Record → Bool
-was_made o h = list_any (makes o) h
+-- whether the base keeps the object or some record made it, and whether some record deleted it
+abbrev pub was_made : Base → ObjectId → List Record → Bool
+was_made base o h = is_some (base.object o) || list_any (makes o) h
 
 abbrev pub was_deleted : ObjectId → List Record → Bool
 was_deleted o h = list_any (deletes o) h
@@ -53,15 +55,13 @@ IsTrack Fits true false last (v ∷ past) = IsCurrent Fits last v
 IsTrack Fits true true last (v ∷ past) = IsOver last v
 
 -- the values of a track agree with the object's life
-pub record TrackStands {V : Type 0} (Fits : V → Type 0) (o : ObjectId) (h : List Record) (values : List (Value V)) : Type 0 where
-  pub shape : IsTrack Fits (was_made o h) (was_deleted o h) (last_of h) values
-  -- at each moment a value is held just if the object lives then
-  pub lives : (m : ℕ) → lives_at m o h ≡ is_some (in_force_by m values)
+abbrev pub TrackStands : {V : Type 0} → (V → Type 0) → Base → ObjectId → List Record → List (Value V) → Type 0
+TrackStands Fits base o h values = IsTrack Fits (was_made base o h) (was_deleted o h) (last_of h) values
 
-abbrev pub StandsOn : Which → ObjectId → List Record → Type 0
-StandsOn which.Data o h = TrackStands DataFits o h (versions data_track o h)
-StandsOn which.Attributes o h = TrackStands AttributesFit o h (versions attribute_track o h)
-StandsOn which.Acl o h = TrackStands AclFits o h (versions acl_track o h)
+abbrev pub StandsOn : Base → Which → ObjectId → List Record → Type 0
+StandsOn base which.Data o h = TrackStands DataFits base o h (versions base data_track o h)
+StandsOn base which.Attributes o h = TrackStands AttributesFit base o h (versions base attribute_track o h)
+StandsOn base which.Acl o h = TrackStands AclFits base o h (versions base acl_track o h)
 
 -- each of the values fits
 abbrev pub AllFit : {V : Type 0} → (V → Type 0) → List (Value V) → Type 0
@@ -69,10 +69,10 @@ AllFit Fits [] = Unit {0}
 AllFit Fits (v ∷ past) = Fits v.value × AllFit Fits past
 
 -- each value that the track ever had fits
-abbrev pub FitsOn : Which → ObjectId → List Record → Type 0
-FitsOn which.Data o h = AllFit DataFits (versions data_track o h)
-FitsOn which.Attributes o h = AllFit AttributesFit (versions attribute_track o h)
-FitsOn which.Acl o h = AllFit AclFits (versions acl_track o h)
+abbrev pub FitsOn : Base → Which → ObjectId → List Record → Type 0
+FitsOn base which.Data o h = AllFit DataFits (versions base data_track o h)
+FitsOn base which.Attributes o h = AllFit AttributesFit (versions base attribute_track o h)
+FitsOn base which.Acl o h = AllFit AclFits (versions base acl_track o h)
 
 -- the end, if there is one, is at most the moment
 abbrev pub EndsBy : ℕ → Option ℕ → Type 0
@@ -84,17 +84,20 @@ abbrev pub BindingsStand : ℕ → List (Value ℕ) → Type 0
 BindingsStand last [] = Unit {0}
 BindingsStand last (v ∷ past) = (v.begin ≤ last) × EndsBy last v.end
 
-pub record IsSound (h : List Record) : Type 0 where
+pub record IsSound (base : Base) (h : List Record) : Type 0 where
   -- no record is newer than the last
   pub moments : list_all (λ r. nat_le r.moment (last_of h)) h ≡ true
   -- an object that was made has a serial that was drawn
-  pub named : (o : ObjectId) → was_made o h ≡ true → o.serial ≤ drawn o.purse h
+  pub named : (o : ObjectId) → was_made base o h ≡ true → o.serial ≤ drawn base o.purse h
   -- an object that was deleted was made
-  pub made_first : (o : ObjectId) → was_deleted o h ≡ true → was_made o h ≡ true
-  pub tracks : (o : ObjectId) (w : Which) → StandsOn w o h
-  pub values : (o : ObjectId) (w : Which) → FitsOn w o h
+  pub made_first : (o : ObjectId) → was_deleted o h ≡ true → was_made base o h ≡ true
+  pub tracks : (o : ObjectId) (w : Which) → StandsOn base w o h
+  pub values : (o : ObjectId) (w : Which) → FitsOn base w o h
+  -- the names of a purse stand in their order, each once, and a name that isn't among them has no binding
+  pub sorted : (p : Purse) → IsStrictlySortedBy name_cmp (names_of base p h)
+  pub listed : (p : Purse) (name : List ℕ) → list_any (same_name name) (names_of base p h) ≡ false → bindings base p name h ≡ []
   -- no binding begins or ends later than the last record
-  pub bindings : (p : Purse) (name : List ℕ) → BindingsStand (last_of h) (bindings p name h)
+  pub bindings : (p : Purse) (name : List ℕ) → BindingsStand (last_of h) (bindings base p name h)
   -- want of memory leaves no record
   pub told : list_all (λ r. not (is_no_memory r.reply)) h ≡ true
 

@@ -1,6 +1,6 @@
 -- What the drive keeps stands for its history.
 use Rattle.std.specs.Prelude.{◌≡◌, ℕ, true, false, ◌+◌, ◌-◌, ◌&&◌, Some, List, [], ◌∷◌, ◌++◌, map, filter, length, if◌then◌else◌}
-use Rattle.s4_store.specs.Chains.{Chains, item_count}
+use Rattle.s4_store.specs.Chains.{Chains, IsOpen, item_count}
 use Rattle.s4_types.specs.declared.object.Purse.{Purse}
 use Rattle.s4_types.specs.declared.object.ObjectId.{ObjectId}
 use Rattle.s4_types.specs.declared.record.Record.{Record}
@@ -8,7 +8,7 @@ use Rattle.s4_types.specs.declared.version.Version.{Version}
 use Rattle.s4_types.specs.declared.version.Item.{Item}
 use Rattle.s4_types.specs.Names.{same_object}
 use Rattle.s4_types.specs.Versions.{Value, makes}
-use Rattle.s4_types.specs.Base.{opened}
+use Rattle.s4_types.specs.Base.{Base, opened}
 use Rattle.s4_types.specs.Bindings.{bindings_after, names_after, names_of}
 use Rattle.s4_types.specs.Horizon.{horizon_at}
 use Rattle.s4_types.specs.Serials.{drawn, draws}
@@ -22,16 +22,18 @@ use Rattle.s4_objects.specs.Chains.{same_which}
 use Rattle.s4_objects.specs.Ends.{all_by}
 use Rattle.s4_objects.specs.Table.{kept_in, held_in, ends_in, Holds as ObjectsHold, IsForeign}
 use Rattle.s4_parts.specs.declared.parts.Parts.{Parts as Table}
+use Rattle.s4_parts.specs.Table as nameless
 use Rattle.s4_parts.specs.Table.{Holds, names_in, bindings_in, chain_at, is_any}
 use Rattle.s4_parts.specs.Waiting.{waiting_in, Waits}
 use Rattle.s4_state.specs.declared.parts.Parts.{Parts}
+use Rattle.s4_state.specs.Log.{Log}
 use Rattle.s4_state.specs.Counts.{made_by, values_ended_by, bindings_ended_by, counted, made_count, object_ends, binding_ends}
 use Rattle.s4_state.specs.Laid.{versions_on, bindings_on}
 use Rattle.s4_state.specs.Sound.{IsSound, was_made}
 
 -- the horizon at the newest record
-abbrev pub horizon_now : ℕ → List Record → ℕ
-horizon_now window h = horizon_at (opened window) h (last_of h)
+abbrev pub horizon_now : Base → List Record → ℕ
+horizon_now base h = horizon_at base h (last_of h)
 
 -- all ends but some of the first wait, and those are at most the horizon
 pub record IsWaiting (horizon : ℕ) (waiting all : List ℕ) : Type 0 where
@@ -40,37 +42,51 @@ pub record IsWaiting (horizon : ℕ) (waiting all : List ℕ) : Type 0 where
   pub past : all_by horizon gone ≡ true
 
 -- what is kept of objects stands for the history
-pub record ObjectsStand (horizon : ℕ) (chains : Chains Version) (kept : Objects) (h : List Record) : Type 0 where
+pub record ObjectsStand (base : Base) (horizon : ℕ) (chains : Chains Version) (kept : Objects) (h : List Record) : Type 0 where
   pub holds : ObjectsHold chains kept
   -- an object that is kept was made
-  pub made : (o : ObjectId) → kept_in kept o ≡ true → was_made o h ≡ true
+  pub made : (o : ObjectId) → kept_in kept o ≡ true → was_made base o h ≡ true
   -- each track holds the values of the definition but for some of the oldest, which are expired
-  pub tracks : (o : ObjectId) (w : Which) → IsSwept horizon (held_in chains kept o w) (versions_on w o h)
+  pub tracks : (o : ObjectId) (w : Which) → IsSwept horizon (held_in chains kept o w) (versions_on base w o h)
   -- the ends of its past values wait in their order
   pub ends : IsWaiting horizon (ends_in kept) (object_ends h)
 
 -- what is kept of names stands for the history
-pub record NamesStand (horizon : ℕ) (chains : Chains Version) (kept : Objects) (table : Table) (h : List Record) : Type 0 where
+pub record NamesStand (base : Base) (horizon : ℕ) (chains : Chains Version) (kept : Objects) (table : Table) (h : List Record) : Type 0 where
   pub holds : Holds chains table
   pub waits : Waits chains table
   -- each name has the bindings of the definition but for some of the oldest, which are expired
-  pub bindings : (p : Purse) (n : List ℕ) → IsSwept horizon (bindings_in chains table p n) (bindings_on p n h)
+  pub bindings : (p : Purse) (n : List ℕ) → IsSwept horizon (bindings_in chains table p n) (bindings_on base p n h)
   -- the names are there that have bindings left
-  pub names : (p : Purse) → names_in chains table p ≡ filter (λ n. is_any (bindings_in chains table p n)) (names_of p h)
+  pub names : (p : Purse) → names_in chains table p ≡ filter (λ n. is_any (bindings_in chains table p n)) (names_of base p h)
   -- the ends of past bindings wait in their order
   pub ends : IsWaiting horizon (map (λ e. e.end) (waiting_in table)) (binding_ends h)
   -- no track of an object has the chain of a name
   pub apart : (p : Purse) (n : List ℕ) (c : ℕ) → chain_at table p n ≡ Some c → IsForeign kept c
 
-pub record StandsFor (window freed : ℕ) (chains : Chains Version) (kept : Objects) (serials : Purse → ℕ) (table : Table) (h : List Record) : Type 0 where
-  pub sound : IsSound h
-  pub objects : ObjectsStand (horizon_now window h) chains kept h
-  pub names : (p : Purse) → serials p ≡ drawn p h
-  pub partitions : NamesStand (horizon_now window h) chains kept table h
+-- each open chain is a track's or a name's
+pub record IsTidy (chains : Chains Version) (kept : Objects) (table : Table) : Type 0 where
+  pub none_else : (c : ℕ) → IsOpen chains c → IsForeign kept c → nameless.IsForeign table c → ⊥
+
+pub record StandsFor (base : Base) (freed : ℕ) (chains : Chains Version) (kept : Objects) (serials : Purse → ℕ) (table : Table) (h : List Record) : Type 0 where
+  pub sound : IsSound base h
+  pub objects : ObjectsStand base (horizon_now base h) chains kept h
+  pub names : (p : Purse) → serials p ≡ drawn base p h
+  pub partitions : NamesStand base (horizon_now base h) chains kept table h
+  -- no chain is open that is neither a track's nor a name's
+  pub tidy : IsTidy chains kept table
   -- what isn't freed is held
   pub used : item_count chains + freed ≡ made_count h
   -- what has ended is freed, or waits
   pub ended : length (object_ends h) + length (binding_ends h) ≡ freed + length (ends_in kept) + length (waiting_in table)
+
+-- what the history starts from
+abbrev pub base_in : {S : Type 0} → Parts S → Base
+base_in parts = opened parts.window
+
+-- what callers see
+abbrev pub log_in : {S : Type 0} → (S → Chains Version) → Parts S → Log
+log_in chains parts = record { window = parts.window; history = parts.history.records; held = item_count (chains parts.store) }
 
 -- how many values and bindings sweeps have freed: those that were made, but for those that the store holds
 abbrev pub freed_in : {S : Type 0} → (S → Chains Version) → Parts S → ℕ
@@ -78,7 +94,7 @@ freed_in chains parts = made_count parts.history.records - item_count (chains pa
 
 -- what is kept stands for this history, of which so many values and bindings are freed
 abbrev pub Stands : {S : Type 0} → (S → Chains Version) → Parts S → ℕ → List Record → Type 0
-Stands chains parts freed h = StandsFor parts.window freed (chains parts.store) parts.objects (drawn_in parts.names) parts.partitions h
+Stands chains parts freed h = StandsFor (base_in parts) freed (chains parts.store) parts.objects (drawn_in parts.names) parts.partitions h
 
 -- what is kept stands for the history beside it
 abbrev pub IsKept : {S : Type 0} → (S → Chains Version) → Parts S → Type 0
@@ -101,17 +117,17 @@ pub record Counts (r : Record) (begun over unbound : ℕ) : Type 0 where
   pub bindings : counted bindings_ended_by r ≡ unbound
 
 -- the record puts one value in the place of another, on one of the object's tracks, and does nothing else
-pub record PutsOn (h : List Record) (r : Record) (o : ObjectId) (w : Which) (new : Item) : Type 0 where
+pub record PutsOn (base : Base) (h : List Record) (r : Record) (o : ObjectId) (w : Which) (new : Item) : Type 0 where
   pub makes : MakesNone r
   pub rebinds : RebindsNone r
   pub counts : Counts r 1 1 0
-  pub tracks : (q : ObjectId) (u : Which) → versions_on u q (h ++ r ∷ [])
-      ≡ (if same_object o q && same_which w u then with_put r.moment new (versions_on u q h) else versions_on u q h)
+  pub tracks : (q : ObjectId) (u : Which) → versions_on base u q (h ++ r ∷ [])
+      ≡ (if same_object o q && same_which w u then with_put r.moment new (versions_on base u q h) else versions_on base u q h)
 
 -- the record ends the current values of the object, and does nothing else
-pub record EndsAll (h : List Record) (r : Record) (o : ObjectId) : Type 0 where
+pub record EndsAll (base : Base) (h : List Record) (r : Record) (o : ObjectId) : Type 0 where
   pub makes : MakesNone r
   pub rebinds : RebindsNone r
   pub counts : Counts r 0 3 0
-  pub tracks : (q : ObjectId) (u : Which) → versions_on u q (h ++ r ∷ [])
-      ≡ (if same_object o q then with_end r.moment (versions_on u q h) else versions_on u q h)
+  pub tracks : (q : ObjectId) (u : Which) → versions_on base u q (h ++ r ∷ [])
+      ≡ (if same_object o q then with_end r.moment (versions_on base u q h) else versions_on base u q h)

@@ -2,10 +2,9 @@
 
 ghost use Rattle.std.specs.Prelude.{◌≡◌, ◌≤◌, false, OnOk, OnErr, ◌++◌, ◌∷◌, []};
 ghost use Rattle.s4_types.specs.declared.request.Request.TheVariants as request;
-ghost use Rattle.s4_types.specs.Base.{opened};
 ghost use Rattle.s4_types.specs.Kinds.{is_refused};
 ghost use Rattle.s4_state.specs.Sound.{IsSound, IsNext};
-ghost use Rattle.s4_state.specs.Stands.{freed_in, IsKept, Stands};
+ghost use Rattle.s4_state.specs.Stands.{base_in, freed_in, IsKept, Stands};
 
 use crate::change::put;
 use crate::parts::Parts;
@@ -22,9 +21,9 @@ pub fn set<S: Store<Version>>(
 ) -> Result<(), NoMemory>
     requires kept { IsKept S.chains parts.old }
     requires asked { added.now.request ≡ request.SetAttr object.now bytes.now }
-    requires next { IsNext (opened parts.old.window) parts.old.history.records added.now }
+    requires next { IsNext (base_in parts.old) parts.old.history.records added.now }
     requires granted { is_refused added.now.reply ≡ false }
-    requires sound { IsSound (parts.old.history.records ++ added.now ∷ []) }
+    requires sound { IsSound (base_in parts.old) (parts.old.history.records ++ added.now ∷ []) }
     ensures ok { OnOk result (Stands S.chains parts.new (freed_in S.chains parts.old) (parts.old.history.records ++ added.now ∷ [])) }
     ensures err { OnErr result (Stands S.chains parts.new (freed_in S.chains parts.old) parts.old.history.records) }
     ensures history { parts.new.history ≡ parts.old.history }

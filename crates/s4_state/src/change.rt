@@ -1,11 +1,10 @@
 //! One value in the place of another.
 
 ghost use Rattle.std.specs.Prelude.{◌≡◌, true, OnOk, OnErr, ◌++◌, ◌∷◌, []};
-ghost use Rattle.s4_types.specs.Base.{opened};
 ghost use Rattle.s4_types.specs.Versions.{lives_at};
 ghost use Rattle.s4_tracks.specs.Chain.{IsSmall};
 ghost use Rattle.s4_state.specs.Sound.{IsSound, IsNext};
-ghost use Rattle.s4_state.specs.Stands.{freed_in, IsKept, Stands, PutsOn};
+ghost use Rattle.s4_state.specs.Stands.{base_in, freed_in, IsKept, Stands, PutsOn};
 
 use crate::parts::Parts;
 use s4_objects::Which;
@@ -21,11 +20,11 @@ pub fn put<S: Store<Version>>(
     item: Item,
 ) -> Result<(), NoMemory>
     requires kept { IsKept S.chains parts.old }
-    requires next { IsNext (opened parts.old.window) parts.old.history.records added.now }
-    requires lives { lives_at added.now.moment object.now parts.old.history.records ≡ true }
+    requires next { IsNext (base_in parts.old) parts.old.history.records added.now }
+    requires lives { lives_at (base_in parts.old) added.now.moment object.now parts.old.history.records ≡ true }
     requires small { IsSmall item }
-    requires puts { PutsOn parts.old.history.records added.now object.now which item }
-    requires sound { IsSound (parts.old.history.records ++ added.now ∷ []) }
+    requires puts { PutsOn (base_in parts.old) parts.old.history.records added.now object.now which item }
+    requires sound { IsSound (base_in parts.old) (parts.old.history.records ++ added.now ∷ []) }
     ensures ok { OnOk result (Stands S.chains parts.new (freed_in S.chains parts.old) (parts.old.history.records ++ added.now ∷ [])) }
     ensures err { OnErr result (Stands S.chains parts.new (freed_in S.chains parts.old) parts.old.history.records) }
     ensures history { parts.new.history ≡ parts.old.history }

@@ -2,11 +2,10 @@
 
 ghost use Rattle.std.specs.Prelude.{◌≡◌, ℕ, true, false, IfOk, OnOk, OnErr, ◌++◌, ◌∷◌, []};
 ghost use Rattle.s4_types.specs.declared.object.Purse.{Purse};
-ghost use Rattle.s4_types.specs.Base.{opened};
 ghost use Rattle.s4_types.specs.Kinds.{is_refused};
 ghost use Rattle.s4_state.specs.Flushes.{is_flush, IsNothingBy, IsCharged};
 ghost use Rattle.s4_state.specs.Sound.{IsSound, IsNext};
-ghost use Rattle.s4_state.specs.Stands.{freed_in, horizon_now, IsKept, Stands};
+ghost use Rattle.s4_state.specs.Stands.{base_in, freed_in, horizon_now, IsKept, Stands};
 
 use crate::parts::Parts;
 use crate::{acl, append, attributes, create, delete, flush, partitions, truncate, write};
@@ -23,10 +22,12 @@ pub fn follow<S: Store<Version>>(
     added: &Record,
 ) -> Result<Vec<Refund>, NoMemory>
     requires kept { IsKept S.chains parts.old }
-    requires next { IsNext (opened parts.old.window) parts.old.history.records added.now }
-    requires sound { IsSound (parts.old.history.records ++ added.now ∷ []) }
+    requires next { IsNext (base_in parts.old) parts.old.history.records added.now }
+    requires sound { IsSound (base_in parts.old) (parts.old.history.records ++ added.now ∷ []) }
     ensures ok { OnOk result (Stands S.chains parts.new (freed_in S.chains parts.old) (parts.old.history.records ++ added.now ∷ [])) }
-    ensures charged { IfOk result (λ refunds. (weight : ℕ → ℕ → ℕ) (p : Purse) → IsNothingBy (horizon_now parts.old.window parts.old.history.records) weight → IsCharged weight p parts.old.history.records added.now refunds.items) }
+    ensures charged { IfOk result (λ refunds. (weight : ℕ → ℕ → ℕ) (p : Purse)
+        → IsNothingBy (horizon_now (base_in parts.old) parts.old.history.records) weight
+        → IsCharged (base_in parts.old) weight p parts.old.history.records added.now refunds.items) }
     ensures refused { IfOk result (λ refunds. is_refused added.now.reply ≡ true → refunds.items ≡ []) }
     ensures err { OnErr result (Stands S.chains parts.new (freed_in S.chains parts.old) parts.old.history.records) }
     ensures history { parts.new.history ≡ parts.old.history }
@@ -54,10 +55,10 @@ fn change<S: Store<Version>>(
     added: &Record,
 ) -> Result<(), NoMemory>
     requires kept { IsKept S.chains parts.old }
-    requires next { IsNext (opened parts.old.window) parts.old.history.records added.now }
+    requires next { IsNext (base_in parts.old) parts.old.history.records added.now }
     requires granted { is_refused added.now.reply ≡ false }
     requires plain { is_flush added.now.request ≡ false }
-    requires sound { IsSound (parts.old.history.records ++ added.now ∷ []) }
+    requires sound { IsSound (base_in parts.old) (parts.old.history.records ++ added.now ∷ []) }
     ensures ok { OnOk result (Stands S.chains parts.new (freed_in S.chains parts.old) (parts.old.history.records ++ added.now ∷ [])) }
     ensures err { OnErr result (Stands S.chains parts.new (freed_in S.chains parts.old) parts.old.history.records) }
     ensures history { parts.new.history ≡ parts.old.history }

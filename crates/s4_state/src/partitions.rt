@@ -3,13 +3,13 @@
 ghost use Rattle.std.specs.Prelude.{◌≡◌, ◌≤◌, ◌+◌, false, take, flat_map, length, nat_lt, IfOk, OnOk, OnErr, ◌++◌, ◌∷◌, []};
 ghost use Rattle.s4_types.specs.declared.request.Request.TheVariants as request;
 ghost use Rattle.s4_types.specs.Answer.{lines_in, purse_numbers};
-ghost use Rattle.s4_types.specs.Base.{opened};
 ghost use Rattle.s4_types.specs.Kinds.{is_refused};
 ghost use Rattle.s4_types.specs.Play.{last_of};
 ghost use Rattle.s4_tracks.specs.Swept.{IsFrom};
 ghost use Rattle.s4_state.specs.Shown.{granted};
 ghost use Rattle.s4_state.specs.Sound.{IsSound, IsNext};
-ghost use Rattle.s4_state.specs.Stands.{freed_in, horizon_now, IsKept, Stands};
+ghost use Rattle.s4_state.specs.Log.{lines_told};
+ghost use Rattle.s4_state.specs.Stands.{base_in, log_in, freed_in, horizon_now, IsKept, Stands};
 
 use crate::parts::Parts;
 use s4_parts::{Page, Visible};
@@ -28,9 +28,9 @@ pub fn bind<S: Store<Version>>(
 ) -> Result<(), NoMemory>
     requires kept { IsKept S.chains parts.old }
     requires asked { added.now.request ≡ request.PCreate name.now object.now }
-    requires next { IsNext (opened parts.old.window) parts.old.history.records added.now }
+    requires next { IsNext (base_in parts.old) parts.old.history.records added.now }
     requires granted { is_refused added.now.reply ≡ false }
-    requires sound { IsSound (parts.old.history.records ++ added.now ∷ []) }
+    requires sound { IsSound (base_in parts.old) (parts.old.history.records ++ added.now ∷ []) }
     ensures ok { OnOk result (Stands S.chains parts.new (freed_in S.chains parts.old) (parts.old.history.records ++ added.now ∷ [])) }
     ensures err { OnErr result (Stands S.chains parts.new (freed_in S.chains parts.old) parts.old.history.records) }
     ensures history { parts.new.history ≡ parts.old.history }
@@ -47,9 +47,9 @@ pub fn bind<S: Store<Version>>(
 pub fn unbind<S: Store<Version>>(parts: &mut Parts<S>, added: &Record, purse: &Purse, name: &Name)
     requires kept { IsKept S.chains parts.old }
     requires asked { added.now.request ≡ request.PDelete purse.now name.now }
-    requires next { IsNext (opened parts.old.window) parts.old.history.records added.now }
+    requires next { IsNext (base_in parts.old) parts.old.history.records added.now }
     requires granted { is_refused added.now.reply ≡ false }
-    requires sound { IsSound (parts.old.history.records ++ added.now ∷ []) }
+    requires sound { IsSound (base_in parts.old) (parts.old.history.records ++ added.now ∷ []) }
     ensures stands { Stands S.chains parts.new (freed_in S.chains parts.old) (parts.old.history.records ++ added.now ∷ []) }
     ensures history { parts.new.history ≡ parts.old.history }
     ensures window { parts.new.window ≡ parts.old.window }
@@ -69,9 +69,11 @@ pub fn page<S: Store<Version>>(
 ) -> Result<Page, NoMemory>
     requires kept { IsKept S.chains parts.now }
     requires later { last_of parts.now.history.records ≤ moment }
-    requires told { IsFrom (horizon_now parts.now.window parts.now.history.records) at.now }
-    ensures lines { IfOk result (λ page. page.lines ≡ take 64 (flat_map (lines_in parts.now.history.records moment caller range after.now at.now) purse_numbers)) }
-    ensures more { IfOk result (λ page. page.more ≡ nat_lt 64 (length (flat_map (lines_in parts.now.history.records moment caller range after.now at.now) purse_numbers))) }
+    requires told { IsFrom (horizon_now (base_in parts.now) parts.now.history.records) at.now }
+    ensures lines { IfOk result (λ page. page.lines
+        ≡ take 64 (lines_told (log_in S.chains parts.now) moment caller range after.now at.now)) }
+    ensures more { IfOk result (λ page. page.more
+        ≡ nat_lt 64 (length (lines_told (log_in S.chains parts.now) moment caller range after.now at.now))) }
 {
     let mountable = Mountable {
         parts,
@@ -93,9 +95,10 @@ struct Mountable<'a, S> {
 }
 
 impl<S: Store<Version>> Visible for Mountable<'_, S> {
-    ghost shown = { λ v o. granted v.parts.now.history.records v.moment v.caller v.at o };
+    ghost shown = { λ v o. granted (base_in v.parts.now) v.parts.now.history.records v.moment v.caller v.at o };
 
-    ghost is_ready = { λ v. IsKept S.chains v.parts.now × (last_of v.parts.now.history.records ≤ v.moment) × IsFrom (horizon_now v.parts.now.window v.parts.now.history.records) v.at };
+    ghost is_ready = { λ v. IsKept S.chains v.parts.now × (last_of v.parts.now.history.records ≤ v.moment)
+        × IsFrom (horizon_now (base_in v.parts.now) v.parts.now.history.records) v.at };
 
     fn grant(&self, object: &ObjectId) -> Option<Grant> {
         self.parts

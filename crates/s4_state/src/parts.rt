@@ -20,9 +20,7 @@ use s4_judge::{Held, judge_now, judge_past};
 use s4_names::Names;
 use s4_objects::{Objects, Which};
 use s4_store::Store;
-use s4_types::{
-    Acl, Caller, Grant, Moment, Name, ObjectId, Purse, Refusal, Right, Serial, Version,
-};
+use s4_types::{Acl, Caller, Grant, Moment, Name, ObjectId, Purse, Refusal, Right, Version};
 
 /// What a value without bytes or entries costs once it is past.
 const LEAST_COST: u32 = 64;
@@ -40,30 +38,24 @@ pub struct Parts<S> {
 }
 
 impl<S: Store<Version>> Parts<S> {
-    ghost use Rattle.s4_state.specs.Stands.{horizon_now, IsKept};
+    ghost use Rattle.s4_state.specs.Log.{bound_object, data_told, attributes_told};
+    ghost use Rattle.s4_state.specs.Stands.{base_in, log_in, horizon_now, IsKept};
 
     /// The object that the next Create in the purse makes, if a serial is left.
     pub fn next_object(&self, purse: &Purse) -> Option<ObjectId>
         requires { IsKept S.chains self.now }
-        ensures some { IfSome result (λ o. o ≡ object_in purse.now (drawn purse.now self.now.history.records + 1)) }
-        ensures left { is_some result ≡ not (nat_le 65535 (drawn purse.now self.now.history.records)) }
+        ensures some { IfSome result (λ o. o ≡ object_in purse.now (drawn (base_in self.now) purse.now self.now.history.records + 1)) }
+        ensures left { is_some result ≡ not (nat_le 65535 (drawn (base_in self.now) purse.now self.now.history.records)) }
     {
-        let drawn = self.names.drawn(purse);
-        if drawn == u16::MAX {
-            return None;
-        }
-        let serial = Serial::new(drawn + 1)?;
-        Some(ObjectId {
-            purse: *purse,
-            serial,
-        })
+        self.names.next_object(purse)
     }
 
     /// The object that a name in the purse is bound to, now or at a moment.
     pub fn bound(&self, purse: &Purse, name: &Name, at: Option<Moment>) -> Option<ObjectId>
         requires kept { IsKept S.chains self.now }
-        requires told { IsFrom (horizon_now self.now.window self.now.history.records) at }
-        ensures { (t : ℕ) → last_of self.now.history.records ≤ t → result ≡ option_map (object_in purse.now) (bound_at purse.now name.now (moment_of t at) self.now.history.records) }
+        requires told { IsFrom (horizon_now (base_in self.now) self.now.history.records) at }
+        ensures { (t : ℕ) → last_of self.now.history.records ≤ t
+            → result ≡ bound_object (log_in S.chains self.now) purse.now name.now at t }
     {
         self.partitions.mount(&self.store, purse, name, at)
     }
@@ -71,7 +63,8 @@ impl<S: Store<Version>> Parts<S> {
     /// How many names are bound in the purse.
     pub fn bound_count(&self, purse: &Purse) -> usize
         requires { IsKept S.chains self.now }
-        ensures { (t : ℕ) → last_of self.now.history.records ≤ t → result ≡ bound_count purse.now t self.now.history.records }
+        ensures { (t : ℕ) → last_of self.now.history.records ≤ t
+            → result ≡ bound_count (base_in self.now) purse.now t self.now.history.records }
     {
         self.partitions.bound_names(purse)
     }
@@ -79,7 +72,8 @@ impl<S: Store<Version>> Parts<S> {
     /// Whether the object has a bound name.
     pub fn has_name(&self, object: &ObjectId) -> bool
         requires { IsKept S.chains self.now }
-        ensures { (t : ℕ) → last_of self.now.history.records ≤ t → result ≡ has_name object.now t self.now.history.records }
+        ensures { (t : ℕ) → last_of self.now.history.records ≤ t
+            → result ≡ has_name (base_in self.now) object.now t self.now.history.records }
     {
         self.partitions.named(object)
     }
@@ -87,8 +81,9 @@ impl<S: Store<Version>> Parts<S> {
     /// The version in force on one of an object's tracks, now or at a moment.
     pub fn version(&self, object: &ObjectId, which: Which, at: Option<Moment>) -> Option<&Version>
         requires kept { IsKept S.chains self.now }
-        requires told { IsFrom (horizon_now self.now.window self.now.history.records) at }
-        ensures { (t : ℕ) → last_of self.now.history.records ≤ t → option_copied result ≡ version_at which object.now (moment_of t at) self.now.history.records }
+        requires told { IsFrom (horizon_now (base_in self.now) self.now.history.records) at }
+        ensures { (t : ℕ) → last_of self.now.history.records ≤ t
+            → option_copied result ≡ version_at (base_in self.now) which object.now (moment_of t at) self.now.history.records }
     {
         self.objects.version(&self.store, object, which, at)
     }
@@ -97,7 +92,8 @@ impl<S: Store<Version>> Parts<S> {
     /// the cost of a value without bytes or entries.
     pub fn cost(&self, object: &ObjectId, which: Which) -> u32
         requires { IsKept S.chains self.now }
-        ensures { (t : ℕ) → last_of self.now.history.records ≤ t → result ≡ cost_now which object.now t self.now.history.records }
+        ensures { (t : ℕ) → last_of self.now.history.records ≤ t
+            → result ≡ cost_now (base_in self.now) which object.now t self.now.history.records }
     {
         match self.version(object, which, None) {
             Some(version) => version.cost,
@@ -108,7 +104,8 @@ impl<S: Store<Version>> Parts<S> {
     /// The current data, nothing where the object doesn't live. No flush erases them.
     pub fn current_data(&self, object: &ObjectId) -> &[u8]
         requires { IsKept S.chains self.now }
-        ensures { (t : ℕ) → last_of self.now.history.records ≤ t → result.now ≡ data_of object.now t self.now.history.records }
+        ensures { (t : ℕ) → last_of self.now.history.records ≤ t
+            → result.now ≡ data_of (base_in self.now) object.now t self.now.history.records }
     {
         self.data(object, None).unwrap()
     }
@@ -116,9 +113,9 @@ impl<S: Store<Version>> Parts<S> {
     /// The data in force, nothing where the object doesn't live. None where a flush erased them.
     pub fn data(&self, object: &ObjectId, at: Option<Moment>) -> Option<&[u8]>
         requires kept { IsKept S.chains self.now }
-        requires told { IsFrom (horizon_now self.now.window self.now.history.records) at }
+        requires told { IsFrom (horizon_now (base_in self.now) self.now.history.records) at }
         ensures { (t : ℕ) → last_of self.now.history.records ≤ t
-            → option_copied result ≡ when (not (is_gone (value_at data_track object.now (moment_of t at) self.now.history.records))) (data_of object.now (moment_of t at) self.now.history.records) }
+            → option_copied result ≡ data_told (log_in S.chains self.now) object.now at t }
     {
         bytes_of(self.version(object, Which::Data, at))
     }
@@ -126,9 +123,9 @@ impl<S: Store<Version>> Parts<S> {
     /// The attributes in force, nothing where the object doesn't live. None where a flush erased them.
     pub fn attributes(&self, object: &ObjectId, at: Option<Moment>) -> Option<&[u8]>
         requires kept { IsKept S.chains self.now }
-        requires told { IsFrom (horizon_now self.now.window self.now.history.records) at }
+        requires told { IsFrom (horizon_now (base_in self.now) self.now.history.records) at }
         ensures { (t : ℕ) → last_of self.now.history.records ≤ t
-            → option_copied result ≡ when (not (is_gone (value_at attribute_track object.now (moment_of t at) self.now.history.records))) (attributes_of object.now (moment_of t at) self.now.history.records) }
+            → option_copied result ≡ attributes_told (log_in S.chains self.now) object.now at t }
     {
         bytes_of(self.version(object, Which::Attributes, at))
     }
@@ -136,8 +133,9 @@ impl<S: Store<Version>> Parts<S> {
     /// The ACL in force and since when, where the object lives.
     pub fn held(&self, object: &ObjectId, at: Option<Moment>) -> Option<Held<'_>>
         requires kept { IsKept S.chains self.now }
-        requires told { IsFrom (horizon_now self.now.window self.now.history.records) at }
-        ensures { (t : ℕ) → last_of self.now.history.records ≤ t → shown_held result ≡ held_at object.now (moment_of t at) self.now.history.records }
+        requires told { IsFrom (horizon_now (base_in self.now) self.now.history.records) at }
+        ensures { (t : ℕ) → last_of self.now.history.records ≤ t
+            → shown_held result ≡ held_at (base_in self.now) object.now (moment_of t at) self.now.history.records }
     {
         held_of(self.version(object, Which::Acl, at))
     }
@@ -145,8 +143,9 @@ impl<S: Store<Version>> Parts<S> {
     /// The ACL in force, without entries where the object doesn't live.
     pub fn acl(&self, object: &ObjectId, at: Option<Moment>) -> Acl
         requires kept { IsKept S.chains self.now }
-        requires told { IsFrom (horizon_now self.now.window self.now.history.records) at }
-        ensures { (t : ℕ) → last_of self.now.history.records ≤ t → result ≡ acl_of object.now (moment_of t at) self.now.history.records }
+        requires told { IsFrom (horizon_now (base_in self.now) self.now.history.records) at }
+        ensures { (t : ℕ) → last_of self.now.history.records ≤ t
+            → result ≡ acl_of (base_in self.now) object.now (moment_of t at) self.now.history.records }
     {
         match self.held(object, at) {
             Some(held) => held.acl.copy(),
@@ -163,8 +162,9 @@ impl<S: Store<Version>> Parts<S> {
         at: Option<Moment>,
     ) -> Result<Grant, Refusal>
         requires kept { IsKept S.chains self.now }
-        requires told { IsFrom (horizon_now self.now.window self.now.history.records) at }
-        ensures { (t : ℕ) → last_of self.now.history.records ≤ t → result ≡ judge_of self.now.history.records t caller object.now right at }
+        requires told { IsFrom (horizon_now (base_in self.now) self.now.history.records) at }
+        ensures { (t : ℕ) → last_of self.now.history.records ≤ t
+            → result ≡ judge_of (base_in self.now) self.now.history.records t caller object.now right at }
     {
         let names_a_moment = at.is_some();
         let held = self.held(object, at);

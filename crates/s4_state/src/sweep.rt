@@ -2,7 +2,7 @@
 
 ghost use Rattle.std.specs.Prelude.{◌≡◌, ◌+◌, ◌-◌, min};
 ghost use Rattle.s4_state.specs.Counts.{ended_count};
-ghost use Rattle.s4_state.specs.Stands.{freed_in, horizon_now, IsKept, Stands};
+ghost use Rattle.s4_state.specs.Stands.{base_in, freed_in, horizon_now, IsKept, Stands};
 
 use crate::parts::Parts;
 use s4_store::Store;
@@ -12,7 +12,7 @@ use s4_types::{Moment, Version};
 /// first, and tells how many. Takes no memory.
 pub fn sweep<S: Store<Version>>(parts: &mut Parts<S>, horizon: Moment, most: u64) -> u64
     requires kept { IsKept S.chains parts.old }
-    requires now { horizon ≡ horizon_now parts.old.window parts.old.history.records }
+    requires now { horizon ≡ horizon_now (base_in parts.old) parts.old.history.records }
     ensures freed { result ≡ min most (ended_count horizon parts.old.history.records - freed_in S.chains parts.old) }
     ensures stands { Stands S.chains parts.new (freed_in S.chains parts.old + result) parts.old.history.records }
     ensures history { parts.new.history ≡ parts.old.history }

@@ -8,7 +8,7 @@ use Rattle.s4_types.specs.Answer.{acl_of, settable}
 use Rattle.s4_types.specs.Outcome.{◌>>◌}
 use Rattle.s4_acl.specs.Set.{acl_once_set}
 use Rattle.s4_objects.specs.declared.kept.Which.TheVariants as which
-use Rattle.s4_state.specs.Stands.{PutsOn}
+use Rattle.s4_state.specs.Stands.{base_in, PutsOn}
 use Rattle.s4_state.proofs.Effects.{set_acl_puts, set_acl_settable, changed_lives}
 use Rattle.s4_state.proofs.acl.apply.Goals as goal
 
@@ -24,7 +24,7 @@ pub unwrap-acl-requires : goal.unwrap-acl-requires
 unwrap-acl-requires g c =
     let user = c.args.user in
     let rights = c.args.rights in
-    let acl = acl_of c.args.object.now c.args.added.now.moment c.args.parts.now.history.records in
+    let acl = acl_of (base_in c.args.parts.now) c.args.object.now c.args.added.now.moment c.args.parts.now.history.records in
     subst IsOk (sym (c.set.ensures ∙ ap (acl_once_set user rights) (c.acl.ensures c.args.added.now.moment c.requires.next.later)
     ∙ passes (settable user rights acl) (acl_with user rights acl)
     (set_acl_settable c.requires.kept.sound c.requires.next c.requires.granted c.args.object.now user rights c.requires.asked))) refl
@@ -36,8 +36,8 @@ pub put-requires-clause-puts : goal.put-requires-clause-puts
 put-requires-clause-puts g c =
     let user = c.args.user in
     let rights = c.args.rights in
-    let acl = acl_of c.args.object.now c.args.added.now.moment c.args.parts.now.history.records in
-    subst (λ x. PutsOn c.args.parts.now.history.records c.args.added.now c.args.object.now which.Acl (item.Acl x))
+    let acl = acl_of (base_in c.args.parts.now) c.args.object.now c.args.added.now.moment c.args.parts.now.history.records in
+    subst (λ x. PutsOn (base_in c.args.parts.now) c.args.parts.now.history.records c.args.added.now c.args.object.now which.Acl (item.Acl x))
     (sym (ap shown (sym c.unwrap-acl.ensures ∙ c.set.ensures ∙ ap (acl_once_set user rights) (c.acl.ensures c.args.added.now.moment c.requires.next.later)
     ∙ passes (settable user rights acl) (acl_with user rights acl)
     (set_acl_settable c.requires.kept.sound c.requires.next c.requires.granted c.args.object.now user rights c.requires.asked))))

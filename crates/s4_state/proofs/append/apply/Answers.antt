@@ -1,7 +1,7 @@
 use Rattle.std.proofs.Common.{◌++◌, sym, ap, subst, refl, ◌∙◌}
 use Rattle.s4_types.specs.declared.version.Item.TheVariants as item
 use Rattle.s4_objects.specs.declared.kept.Which.TheVariants as which
-use Rattle.s4_state.specs.Stands.{PutsOn}
+use Rattle.s4_state.specs.Stands.{base_in, PutsOn}
 use Rattle.s4_state.proofs.Effects.{append_puts, changed_lives}
 use Rattle.s4_state.proofs.append.apply.Goals as goal
 
@@ -13,6 +13,6 @@ put-requires-clause-puts g c =
     let h = c.args.parts.now.history.records in
     let t = c.args.added.now.moment in
     let old = c.current_data.ensures t c.requires.next.later in
-    subst (λ bytes. PutsOn h c.args.added.now c.args.object.now which.Data (item.Data bytes))
+    subst (λ bytes. PutsOn (base_in c.args.parts.now) h c.args.added.now c.args.object.now which.Data (item.Data bytes))
     (sym (c.new.ensures ∙ c.in_ok-new.ensures ∙ ap (λ bytes. c.current_data.result.now ++ bytes) c.as_slice.ensures ∙ ap (λ bytes. bytes ++ c.args.bytes.now) old))
     (append_puts c.requires.kept.sound c.requires.next c.requires.granted c.args.object.now c.args.bytes.now c.requires.asked)

@@ -10,4 +10,4 @@ unbind-requires-clause-later g c = later_then c.requires.kept c.requires.next c.
 pub returns-clause-stands : goal.returns-clause-stands
 returns-clause-stands g c =
     stands_unbound c.requires.kept c.requires.next c.requires.granted c.args.purse.now c.args.name.now c.requires.asked c.requires.sound
-    (g.S.Store.chains c.unbind.new.store) c.unbind.new.self c.unbind.ensures.holds c.unbind.ensures.waits c.unbind.ensures.waiting c.unbind.ensures.others c.unbind.ensures.own c.unbind.ensures.names c.unbind.ensures.bindings c.unbind.ensures.used
+    (g.S.Store.chains c.unbind.new.store) c.unbind.new.self c.unbind.ensures.holds c.unbind.ensures.waits c.unbind.ensures.waiting c.unbind.ensures.others c.unbind.ensures.own c.unbind.ensures.names c.unbind.ensures.bindings c.unbind.ensures.leaves c.unbind.ensures.used

@@ -1,17 +1,17 @@
 use Rattle.std.proofs.Common.{◌+◌, subst}
 use Rattle.s4_names.specs.Drawn.{drawn_in}
-use Rattle.s4_state.specs.Stands.{freed_in, StandsFor}
+use Rattle.s4_state.specs.Stands.{base_in, freed_in, StandsFor}
 use Rattle.s4_state.proofs.Sweeping.{stands_expired, stands_unnamed, still_ended, freed_both, one_after_other}
 use Rattle.s4_state.proofs.sweep.sweep.Given.{Over}
 use Rattle.s4_state.proofs.sweep.sweep.Goals as goal
 use Rattle.s4_state.proofs.sweep.sweep.Goals.{After-expire-arg-3-1}
 
 -- what is kept stands once values of objects are freed
-expired : (g : Over) (c : After-expire-arg-3-1 g) → StandsFor c.args.parts.now.window (freed_in g.S.Store.chains c.args.parts.now + c.expire-values.result) (g.S.Store.chains c.expire-values.new.store) c.expire-values.new.self (drawn_in c.args.parts.now.names)
+expired : (g : Over) (c : After-expire-arg-3-1 g) → StandsFor (base_in c.args.parts.now) (freed_in g.S.Store.chains c.args.parts.now + c.expire-values.result) (g.S.Store.chains c.expire-values.new.store) c.expire-values.new.self (drawn_in c.args.parts.now.names)
     c.args.parts.now.partitions c.args.parts.now.history.records
 expired g c =
     let e = c.expire-values.ensures in
-    stands_expired c.requires.kept c.args.horizon c.requires.now c.expire-values.result c.args.most e.first e.holds e.kept e.held e.ends e.others e.used
+    stands_expired c.requires.kept c.args.horizon c.requires.now c.expire-values.result c.args.most e.first e.holds e.kept e.held e.ends e.others e.leaves e.used
 
 pub expire-bindings-requires-clause-holds : goal.expire-bindings-requires-clause-holds
 expire-bindings-requires-clause-holds g c = (expired g c).partitions.holds
@@ -28,6 +28,6 @@ pub returns-clause-stands : goal.returns-clause-stands
 returns-clause-stands g c =
     let before = c.args.parts.now in
     let e = c.expire-bindings.ensures in
-    subst (λ freed. StandsFor before.window freed (g.S.Store.chains c.expire-bindings.new.store) c.expire-values.new.self (drawn_in before.names) c.expire-bindings.new.self before.history.records)
+    subst (λ freed. StandsFor (base_in before) freed (g.S.Store.chains c.expire-bindings.new.store) c.expire-values.new.self (drawn_in before.names) c.expire-bindings.new.self before.history.records)
     (one_after_other (freed_in g.S.Store.chains before) c.expire-values.result c.expire-bindings.result)
     (stands_unnamed (expired g (goal.at.returns-clause-stands g c).After-expire-arg-3-1) c.args.horizon c.requires.now c.expire-bindings.result _ e.freed e.holds e.waits e.sweeps)

@@ -3,7 +3,7 @@ use Rattle.s4_types.specs.Answer.{data_of}
 use Rattle.s4_types.specs.declared.version.Item.TheVariants as item
 use Rattle.s4_types.specs.Versions.{written}
 use Rattle.s4_objects.specs.declared.kept.Which.TheVariants as which
-use Rattle.s4_state.specs.Stands.{PutsOn}
+use Rattle.s4_state.specs.Stands.{base_in, PutsOn}
 use Rattle.s4_state.proofs.Effects.{write_puts, write_fits, changed_lives}
 use Rattle.s4_state.proofs.write.apply.Goals as goal
 
@@ -14,15 +14,15 @@ pub put-requires-clause-small : goal.put-requires-clause-small
 put-requires-clause-small g c =
     let old = c.current_data-old.ensures c.args.added.now.moment c.requires.next.later in
     let is = c.new.ensures ∙ c.in_ok-new.ensures ∙ ap (λ bytes. written c.args.offset bytes c.current_data-old.result.now) c.as_slice.ensures ∙ ap (written c.args.offset c.args.bytes.now) old in
-    let fits : length (written c.args.offset c.args.bytes.now (data_of c.args.object.now c.args.added.now.moment c.args.parts.now.history.records)) ≤ 4096
+    let fits : length (written c.args.offset c.args.bytes.now (data_of (base_in c.args.parts.now) c.args.object.now c.args.added.now.moment c.args.parts.now.history.records)) ≤ 4096
     = write_fits c.requires.kept.sound c.requires.next c.requires.granted c.args.object.now c.args.offset c.args.bytes.now c.requires.asked in
-    let len : length c.new.result ≡ length (written c.args.offset c.args.bytes.now (data_of c.args.object.now c.args.added.now.moment c.args.parts.now.history.records)) = ap length is in
+    let len : length c.new.result ≡ length (written c.args.offset c.args.bytes.now (data_of (base_in c.args.parts.now) c.args.object.now c.args.added.now.moment c.args.parts.now.history.records)) = ap length is in
     record { small = omega arith }
 
 pub put-requires-clause-puts : goal.put-requires-clause-puts
 put-requires-clause-puts g c =
     let h = c.args.parts.now.history.records in
     let old = c.current_data-old.ensures c.args.added.now.moment c.requires.next.later in
-    subst (λ bytes. PutsOn h c.args.added.now c.args.object.now which.Data (item.Data bytes))
+    subst (λ bytes. PutsOn (base_in c.args.parts.now) h c.args.added.now c.args.object.now which.Data (item.Data bytes))
     (sym (c.new.ensures ∙ c.in_ok-new.ensures ∙ ap (λ bytes. written c.args.offset bytes c.current_data-old.result.now) c.as_slice.ensures ∙ ap (written c.args.offset c.args.bytes.now) old))
     (write_puts c.requires.kept.sound c.requires.next c.requires.granted c.args.object.now c.args.offset c.args.bytes.now c.requires.asked)
