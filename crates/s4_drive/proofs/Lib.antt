@@ -5,3 +5,5 @@ pub mod Reckoning
 pub mod Forgiving
 pub mod Charging
 pub mod Following
+pub mod Carried
+pub mod Isolated

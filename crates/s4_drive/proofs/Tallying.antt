@@ -6,6 +6,7 @@ use Rattle.std.proofs.lemmas.List.Sums.{sum_by-cons}
 use Rattle.std.proofs.lemmas.List.Sorted.{sum_by_pushed}
 use Rattle.s4_types.specs.declared.object.Purse.{Purse}
 use Rattle.s4_types.specs.declared.record.Record.{Record}
+use Rattle.s4_types.specs.Base.{Base}
 use Rattle.s4_types.specs.Names.{same_purse}
 use Rattle.s4_types.proofs.Booleans.{by_test}
 use Rattle.s4_ledger.specs.declared.charge.Charge.{Charge}
@@ -40,9 +41,9 @@ above-above early late weight le = λ i end cost. step end cost (nat_lt late end
     step end cost false false e f = refl
 
 -- the ledger is advanced
-pub advanced : (early late : ℕ) (h : List Record) (charges : List Charge) → ((weight : ℕ → ℕ → ℕ) (p : Purse) → sum_by (charge_weight weight p) charges ≡ purse_weight (above early weight) p h) → early ≤ late
-    → (weight : ℕ → ℕ → ℕ) (p : Purse) → sum_by (charge_weight weight p) (lasting late charges) ≡ purse_weight (above late weight) p h
-advanced early late h charges stand le weight p = lasting-weight late weight p charges ∙ stand (above late weight) p ∙ ap (λ w. purse_weight w p h) (above-above early late weight le)
+pub advanced : (early late : ℕ) (base : Base) (h : List Record) (charges : List Charge) → ((weight : ℕ → ℕ → ℕ) (p : Purse) → sum_by (charge_weight weight p) charges ≡ purse_weight base (above early weight) p h) → early ≤ late
+    → (weight : ℕ → ℕ → ℕ) (p : Purse) → sum_by (charge_weight weight p) (lasting late charges) ≡ purse_weight base (above late weight) p h
+advanced early late base h charges stand le weight p = lasting-weight late weight p charges ∙ stand (above late weight) p ∙ ap (λ w. purse_weight base w p h) (above-above early late weight le)
 
 -- CHARGING
 

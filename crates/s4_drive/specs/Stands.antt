@@ -12,6 +12,8 @@ use Rattle.s4_types.specs.Spending.{budget_of}
 use Rattle.s4_types.specs.Play.{last_of}
 use Rattle.s4_ledger.specs.declared.charge.Charge.{Charge}
 use Rattle.s4_ledger.specs.Books as books
+use Rattle.s4_state.specs.Log.{Log, base_of}
+use Rattle.s4_state.specs.Sound.{IsSound}
 use Rattle.s4_state.specs.Weights.{purse_weight}
 use Rattle.s4_drive.specs.declared.limits.Limits.{Limits}
 use Rattle.s4_drive.specs.declared.past.Past.{Past}
@@ -29,8 +31,13 @@ above horizon weight end cost = if nat_lt horizon end then weight end cost else 
 pub record LimitsStand (base : Base) (h : List Record) (limits : Limits) : Type 0 where
   pub window : limits.window ≡ guarded_at base h
   pub horizon : limits.ledger.horizon ≡ horizon_at base h (last_of h)
-  pub charges : (weight : ℕ → ℕ → ℕ) (p : Purse) → sum_by (charge_weight weight p) limits.ledger.charges ≡ purse_weight (above limits.ledger.horizon weight) p h
-  pub budgets : (p : Purse) → books.budget_of p limits.ledger.budgets ≡ budget_of p h
+  pub charges : (weight : ℕ → ℕ → ℕ) (p : Purse) → sum_by (charge_weight weight p) limits.ledger.charges ≡ purse_weight base (above limits.ledger.horizon weight) p h
+  pub budgets : (p : Purse) → books.budget_of p limits.ledger.budgets ≡ budget_of base p h
+
+-- what a drive holds stands for its history, and the history is sound
+pub record DriveStands (log : Log) (spending : Limits) : Type 0 where
+  pub sound : IsSound (base_of log) log.history
+  pub limits : LimitsStand (base_of log) log.history spending
 
 -- what the values cost that a request makes past
 abbrev pub costs_of : Past → List ℕ

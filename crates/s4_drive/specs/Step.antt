@@ -1,25 +1,22 @@
 -- What one call of the drive does.
-use Rattle.std.specs.Prelude.{◌≡◌, ℕ, MatchBool, Option, Result, Err, [], ◌∷◌, ◌++◌}
+use Rattle.std.specs.Prelude.{◌≡◌, ◌==◌, ℕ, cond, MatchBool, Result, Err, List, [], ◌∷◌}
 use Rattle.s4_types.specs.declared.principal.Caller.{Caller}
 use Rattle.s4_types.specs.declared.request.Request.{Request}
 use Rattle.s4_types.specs.declared.reply.Refusal.{Refusal}
 use Rattle.s4_types.specs.declared.reply.Refusal.TheVariants.{NoMemory}
 use Rattle.s4_types.specs.declared.reply.Reply.{Reply}
-use Rattle.s4_types.specs.Base.{opened}
+use Rattle.s4_types.specs.declared.record.Step as steps
+use Rattle.s4_types.specs.declared.record.Step.TheVariants.{Request as Asks, Sweep as Sweeps}
+use Rattle.s4_types.specs.Base.{Base}
 use Rattle.s4_types.specs.Answer.{answer}
-use Rattle.s4_types.specs.Horizon.{horizon_at}
-use Rattle.s4_types.specs.Play.{record_of, last_of, is_no_memory}
-use Rattle.s4_tracks.specs.Swept.{IsFrom}
-use Rattle.s4_state.specs.Log.{Log}
-
--- a moment that is asked for, if there is one, isn't below the horizon at the newest record
-abbrev pub IsTold : Log → Option ℕ → Type 0
-IsTold s at = IsFrom (horizon_at (opened s.window) s.history (last_of s.history)) at
+use Rattle.s4_types.specs.Play.{record_of, play, replies as replies_in, is_no_memory}
+use Rattle.s4_types.specs.Strike.{records_of, strike}
+use Rattle.s4_state.specs.Log.{Log, base_of, with_record}
 
 -- the reply is the definition's answer, and its record is added
 pub record Answers (old new : Log) (t : ℕ) (caller : Caller) (request : Request) (reply : Reply) : Type 0 where
-  pub answer_is : reply ≡ answer (opened old.window) old.history t caller request
-  pub grows : new ≡ record old { history = old.history ++ record_of (opened old.window) old.history t caller request ∷ [] }
+  pub answer_is : reply ≡ answer (base_of old) old.history t caller request
+  pub grows : new ≡ with_record old (record_of (base_of old) old.history t caller request)
 
 -- a step answers, or it meets want of memory, and nothing changes
 abbrev pub Steps : Log → Log → ℕ → Caller → Request → Reply → Type 0
@@ -29,3 +26,15 @@ Steps old new t caller request reply = MatchBool (is_no_memory reply) (new ≡ o
 abbrev pub IsOutcome : Result Reply Refusal → Result Reply Refusal → Type 0
 IsOutcome (Err NoMemory) outcome = Unit {0}
 IsOutcome result outcome = result ≡ outcome
+
+-- of the replies, one to each request of the steps, those to the principal's requests
+abbrev pub replies_to : ℕ → List steps.Step → List Reply → List Reply
+replies_to who [] replies = []
+replies_to who (Sweeps n ∷ steps) replies = replies_to who steps replies
+replies_to who (Asks t caller request ∷ steps) [] = []
+replies_to who (Asks t caller request ∷ steps) (reply ∷ replies) =
+    cond (caller.who == who) (reply ∷ replies_to who steps replies) (replies_to who steps replies)
+
+-- the replies to the principal in the plain log of the steps without its strangers' requests and without sweeps
+abbrev pub replies_without_strangers : Base → ℕ → List steps.Step → List Reply
+replies_without_strangers base who steps = replies_in (records_of who (play base (strike who steps)))

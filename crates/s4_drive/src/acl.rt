@@ -3,7 +3,7 @@
 ghost use Rattle.std.specs.Prelude.{◌≡◌, ◌≤◌};
 ghost use Rattle.s4_types.specs.Answer.{entry_read_by_user, entry_read_by_index, acl_set};
 ghost use Rattle.s4_types.specs.Play.{last_of};
-ghost use Rattle.s4_drive.specs.Step.{IsTold};
+ghost use Rattle.s4_state.specs.Log.{base_of, IsTold};
 
 use s4_acl::{by_index, entry_of, set};
 use s4_state::State;
@@ -21,7 +21,7 @@ pub fn by_user_outcome<S: Store<Version>>(
 ) -> Result<Reply, Refusal>
     requires later { last_of state.now.history ≤ moment }
     requires told { IsTold state.now at.now }
-    ensures { result ≡ entry_read_by_user state.now.history moment caller object.now user at.now }
+    ensures { result ≡ entry_read_by_user (base_of state.now) state.now.history moment caller object.now user at.now }
 {
     let grant = state.judge(caller, object, Right::Read, *at)?;
     match entry_of(&state.acl(object, *at), user) {
@@ -46,7 +46,7 @@ pub fn by_index_outcome<S: Store<Version>>(
 ) -> Result<Reply, Refusal>
     requires later { last_of state.now.history ≤ moment }
     requires told { IsTold state.now at.now }
-    ensures { result ≡ entry_read_by_index state.now.history moment caller object.now index at.now }
+    ensures { result ≡ entry_read_by_index (base_of state.now) state.now.history moment caller object.now index at.now }
 {
     let grant = state.judge(caller, object, Right::Read, *at)?;
     match by_index(&state.acl(object, *at), index) {
@@ -70,7 +70,7 @@ pub fn set_outcome<S: Store<Version>>(
     rights: Rights,
 ) -> Result<Reply, Refusal>
     requires later { last_of state.now.history ≤ moment }
-    ensures { result ≡ acl_set state.now.history moment caller object.now user rights }
+    ensures { result ≡ acl_set (base_of state.now) state.now.history moment caller object.now user rights }
 {
     state.judge(caller, object, Right::Control, None)?;
     set(&state.acl(object, None), user, rights)?;

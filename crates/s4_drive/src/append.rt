@@ -3,6 +3,7 @@
 ghost use Rattle.std.specs.Prelude.{◌≡◌, ◌≤◌};
 ghost use Rattle.s4_types.specs.Answer.{data_appended};
 ghost use Rattle.s4_types.specs.Play.{last_of};
+ghost use Rattle.s4_state.specs.Log.{base_of};
 
 use s4_state::State;
 use s4_store::Store;
@@ -17,7 +18,7 @@ pub fn outcome<S: Store<Version>>(
     bytes: &Bytes,
 ) -> Result<Reply, Refusal>
     requires later { last_of state.now.history ≤ moment }
-    ensures { result ≡ data_appended state.now.history moment caller object.now bytes.now }
+    ensures { result ≡ data_appended (base_of state.now) state.now.history moment caller object.now bytes.now }
 {
     let limit = Request::DATA_LIMIT as usize;
     let more = bytes.len();

@@ -3,7 +3,8 @@
 ghost use Rattle.std.specs.Prelude.{◌≡◌, ◌≤◌};
 ghost use Rattle.s4_types.specs.Answer.{attributes_read, attributes_set};
 ghost use Rattle.s4_types.specs.Play.{last_of};
-ghost use Rattle.s4_drive.specs.Step.{IsOutcome, IsTold};
+ghost use Rattle.s4_state.specs.Log.{base_of, IsTold};
+ghost use Rattle.s4_drive.specs.Step.{IsOutcome};
 
 use crate::read::copied;
 use s4_state::State;
@@ -22,7 +23,7 @@ pub fn get_outcome<S: Store<Version>>(
 ) -> Result<Reply, Refusal>
     requires later { last_of state.now.history ≤ moment }
     requires told { IsTold state.now at.now }
-    ensures { IsOutcome result (attributes_read state.now.history moment caller object.now at.now) }
+    ensures { IsOutcome result (attributes_read (base_of state.now) state.now.history moment caller object.now at.now) }
 {
     let grant = state.judge(caller, object, Right::Read, *at)?;
     let attributes = state.attributes(object, *at).ok_or(Refusal::Flushed)?;
@@ -39,7 +40,7 @@ pub fn set_outcome<S: Store<Version>>(
     bytes: &Bytes,
 ) -> Result<Reply, Refusal>
     requires later { last_of state.now.history ≤ moment }
-    ensures { result ≡ attributes_set state.now.history moment caller object.now bytes.now }
+    ensures { result ≡ attributes_set (base_of state.now) state.now.history moment caller object.now bytes.now }
 {
     if bytes.len() > Request::ATTRIBUTE_LIMIT as usize {
         return Err(Refusal::TooLong);

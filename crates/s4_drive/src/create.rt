@@ -2,6 +2,7 @@
 
 ghost use Rattle.std.specs.Prelude.{◌≡◌};
 ghost use Rattle.s4_types.specs.Answer.{created};
+ghost use Rattle.s4_state.specs.Log.{base_of};
 
 use s4_state::State;
 use s4_store::Store;
@@ -9,7 +10,7 @@ use s4_types::{Purse, Refusal, Reply, Version};
 
 /// The outcome of a Create in that purse.
 pub fn outcome<S: Store<Version>>(state: &State<S>, purse: &Purse) -> Result<Reply, Refusal>
-    ensures { result ≡ created state.now.history purse.now }
+    ensures { result ≡ created (base_of state.now) state.now.history purse.now }
 {
     match state.next_object(purse) {
         Some(object) => Ok(Reply::Made(object)),

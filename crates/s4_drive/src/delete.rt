@@ -3,6 +3,7 @@
 ghost use Rattle.std.specs.Prelude.{◌≡◌, ◌≤◌};
 ghost use Rattle.s4_types.specs.Answer.{deleted};
 ghost use Rattle.s4_types.specs.Play.{last_of};
+ghost use Rattle.s4_state.specs.Log.{base_of};
 
 use s4_state::State;
 use s4_store::Store;
@@ -16,7 +17,7 @@ pub fn outcome<S: Store<Version>>(
     object: &ObjectId,
 ) -> Result<Reply, Refusal>
     requires later { last_of state.now.history ≤ moment }
-    ensures { result ≡ deleted state.now.history moment caller object.now }
+    ensures { result ≡ deleted (base_of state.now) state.now.history moment caller object.now }
 {
     state.judge(caller, object, Right::Delete, None)?;
     if state.has_name(object) {

@@ -12,6 +12,7 @@ ghost use Rattle.s4_types.specs.Spending.{spent_at, budget_of, budget_by};
 ghost use Rattle.s4_ledger.specs.declared.charge.Charge.{Charge};
 ghost use Rattle.s4_ledger.specs.Books as books;
 ghost use Rattle.s4_objects.specs.Flushes.{refunded};
+ghost use Rattle.s4_state.specs.Log.{base_of};
 ghost use Rattle.s4_drive.specs.Stands.{LimitsStand, HasRoom, HasPlaces, HasBudget, ArePositive, above, charge_weight, charged, costs_of};
 
 use crate::past::Past;
@@ -177,9 +178,10 @@ pub fn afford<S: Store<Version>>(
     purse: &Purse,
     charge: u32,
 ) -> Result<(), Refusal>
-    requires stand { LimitsStand (opened state.now.window) state.now.history limits.now }
+    requires stand { LimitsStand (base_of state.now) state.now.history limits.now }
     requires later { last_of state.now.history ≤ moment }
-    ensures { result ≡ within (budget_of purse.now state.now.history) (spent_at (opened state.now.window) purse.now state.now.history moment) charge }
+    ensures { result ≡ within (budget_of (base_of state.now) purse.now state.now.history)
+        (spent_at (base_of state.now) purse.now state.now.history moment) charge }
 {
     let horizon = limits.window.horizon(moment);
     if charge == 0 || limits.ledger.room_at(purse, horizon, charge) {

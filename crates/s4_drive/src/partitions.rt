@@ -5,7 +5,8 @@ ghost use Rattle.s4_types.specs.Answer.{name_bound, name_unbound, names_listed, 
 ghost use Rattle.s4_types.specs.Judgement.{denied_absent};
 ghost use Rattle.s4_types.specs.declared.reply.Refusal.TheVariants as refusal;
 ghost use Rattle.s4_types.specs.Play.{last_of};
-ghost use Rattle.s4_drive.specs.Step.{IsOutcome, IsTold};
+ghost use Rattle.s4_state.specs.Log.{base_of, IsTold};
+ghost use Rattle.s4_drive.specs.Step.{IsOutcome};
 
 use s4_state::State;
 use s4_store::Store;
@@ -22,7 +23,7 @@ pub fn bind_outcome<S: Store<Version>>(
     object: &ObjectId,
 ) -> Result<Reply, Refusal>
     requires later { last_of state.now.history ≤ moment }
-    ensures { result ≡ name_bound state.now.history moment caller name.now object.now }
+    ensures { result ≡ name_bound (base_of state.now) state.now.history moment caller name.now object.now }
 {
     state.judge(caller, object, Right::Control, None)?;
     if state.bound(&object.purse, name, None).is_some() {
@@ -43,7 +44,7 @@ pub fn unbind_outcome<S: Store<Version>>(
     name: &Name,
 ) -> Result<Reply, Refusal>
     requires later { last_of state.now.history ≤ moment }
-    ensures { result ≡ name_unbound state.now.history moment caller purse.now name.now }
+    ensures { result ≡ name_unbound (base_of state.now) state.now.history moment caller purse.now name.now }
 {
     let Some(object) = state.bound(purse, name, None) else {
         return Err(unbound(caller, purse, Right::Control));
@@ -63,7 +64,7 @@ pub fn list_outcome<S: Store<Version>>(
 ) -> Result<Reply, Refusal>
     requires later { last_of state.now.history ≤ moment }
     requires told { IsTold state.now at.now }
-    ensures { IsOutcome result (names_listed state.now.history moment caller range after.now at.now) }
+    ensures { IsOutcome result (names_listed (base_of state.now) state.now.history moment caller range after.now at.now) }
 {
     match state.page(moment, caller, range, after, at) {
         Ok(page) => Ok(Reply::Names {
@@ -85,7 +86,7 @@ pub fn mount_outcome<S: Store<Version>>(
 ) -> Result<Reply, Refusal>
     requires later { last_of state.now.history ≤ moment }
     requires told { IsTold state.now at.now }
-    ensures { result ≡ name_mounted state.now.history moment caller purse.now name.now at.now }
+    ensures { result ≡ name_mounted (base_of state.now) state.now.history moment caller purse.now name.now at.now }
 {
     let Some(object) = state.bound(purse, name, *at) else {
         return Err(unbound(caller, purse, Right::Read));

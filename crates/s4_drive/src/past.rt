@@ -4,6 +4,7 @@ ghost use Rattle.std.specs.Prelude.{◌≡◌, ◌≤◌, ℕ, sum};
 ghost use Rattle.s4_types.specs.Answer.{made_past};
 ghost use Rattle.s4_types.specs.Play.{last_of};
 ghost use Rattle.s4_types.specs.Spending.{binding_cost as cost_of_binding};
+ghost use Rattle.s4_state.specs.Log.{base_of};
 ghost use Rattle.s4_drive.specs.Stands.{ArePositive, costs_of};
 
 use s4_state::State;
@@ -28,7 +29,7 @@ pub enum Past {
 impl Past {
     /// What the request makes past, where it is carried out.
     pub fn of<S: Store<Version>>(state: &State<S>, request: &Request) -> Past
-        ensures value { (t : ℕ) → last_of state.now.history ≤ t → costs_of result ≡ made_past state.now.history t request.now }
+        ensures value { (t : ℕ) → last_of state.now.history ≤ t → costs_of result ≡ made_past (base_of state.now) state.now.history t request.now }
         ensures small { sum (costs_of result) ≤ 4800 }
         ensures positive { ArePositive (costs_of result) }
     {

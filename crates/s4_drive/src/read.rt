@@ -3,7 +3,8 @@
 ghost use Rattle.std.specs.Prelude.{◌≡◌, ◌≤◌, take, drop, IfOk, IfErr};
 ghost use Rattle.s4_types.specs.Answer.{data_read};
 ghost use Rattle.s4_types.specs.Play.{last_of};
-ghost use Rattle.s4_drive.specs.Step.{IsOutcome, IsTold};
+ghost use Rattle.s4_state.specs.Log.{base_of, IsTold};
+ghost use Rattle.s4_drive.specs.Step.{IsOutcome};
 
 use s4_state::State;
 use s4_store::Store;
@@ -38,7 +39,7 @@ pub fn outcome<S: Store<Version>>(
 ) -> Result<Reply, Refusal>
     requires later { last_of state.now.history ≤ moment }
     requires told { IsTold state.now range.at }
-    ensures { IsOutcome result (data_read state.now.history moment caller object.now range.offset range.length range.at) }
+    ensures { IsOutcome result (data_read (base_of state.now) state.now.history moment caller object.now range.offset range.length range.at) }
 {
     let grant = state.judge(caller, object, Right::Read, range.at)?;
     let data = state.data(object, range.at).ok_or(Refusal::Flushed)?;

@@ -2,12 +2,12 @@
 
 ghost use Rattle.std.specs.Prelude.{◌≡◌, ◌≤◌, IfOk};
 ghost use Rattle.s4_types.specs.Answer.{answer as answer_of, outcome as outcome_of, outcome_by_kind as outcome_by_kind_of};
-ghost use Rattle.s4_types.specs.Base.{opened};
 ghost use Rattle.s4_types.specs.Horizon.{horizon_at};
 ghost use Rattle.s4_types.specs.Kinds.{at_of};
 ghost use Rattle.s4_types.specs.Play.{last_of};
+ghost use Rattle.s4_state.specs.Log.{base_of, IsTold};
 ghost use Rattle.s4_drive.specs.Stands.{LimitsStand};
-ghost use Rattle.s4_drive.specs.Step.{IsOutcome, IsTold};
+ghost use Rattle.s4_drive.specs.Step.{IsOutcome};
 
 use crate::limits::{Limits, afford};
 use crate::moments::timely;
@@ -31,9 +31,9 @@ pub fn answer<S: Store<Version>>(
     caller: Caller,
     request: &Request,
 ) -> Result<Reply, NoMemory>
-    requires stand { LimitsStand (opened state.now.window) state.now.history limits.now }
+    requires stand { LimitsStand (base_of state.now) state.now.history limits.now }
     requires later { last_of state.now.history ≤ moment }
-    ensures { IfOk result (λ reply. reply ≡ answer_of (opened state.now.window) state.now.history moment caller request.now) }
+    ensures { IfOk result (λ reply. reply ≡ answer_of (base_of state.now) state.now.history moment caller request.now) }
 {
     match outcome(alloc, state, limits, moment, caller, request) {
         Ok(reply) => Ok(reply),
@@ -51,9 +51,9 @@ fn outcome<S: Store<Version>>(
     caller: Caller,
     request: &Request,
 ) -> Result<Reply, Refusal>
-    requires stand { LimitsStand (opened state.now.window) state.now.history limits.now }
+    requires stand { LimitsStand (base_of state.now) state.now.history limits.now }
     requires later { last_of state.now.history ≤ moment }
-    ensures { IsOutcome result (outcome_of (opened state.now.window) state.now.history moment caller request.now) }
+    ensures { IsOutcome result (outcome_of (base_of state.now) state.now.history moment caller request.now) }
 {
     let horizon = limits.window.horizon(moment);
     timely(horizon, moment, request.at())?;
@@ -74,10 +74,10 @@ fn outcome_by_kind<S: Store<Version>>(
     caller: Caller,
     request: &Request,
 ) -> Result<Reply, Refusal>
-    requires horizon { horizon ≡ horizon_at (opened state.now.window) state.now.history moment }
+    requires horizon { horizon ≡ horizon_at (base_of state.now) state.now.history moment }
     requires later { last_of state.now.history ≤ moment }
     requires told { IsTold state.now (at_of request.now) }
-    ensures { IsOutcome result (outcome_by_kind_of (opened state.now.window) state.now.history moment caller request.now) }
+    ensures { IsOutcome result (outcome_by_kind_of (base_of state.now) state.now.history moment caller request.now) }
 {
     match request {
         Request::Create { number } => {

@@ -3,6 +3,7 @@
 ghost use Rattle.std.specs.Prelude.{◌≡◌, ◌≤◌};
 ghost use Rattle.s4_types.specs.Answer.{data_truncated};
 ghost use Rattle.s4_types.specs.Play.{last_of};
+ghost use Rattle.s4_state.specs.Log.{base_of};
 
 use s4_state::State;
 use s4_store::Store;
@@ -17,7 +18,7 @@ pub fn outcome<S: Store<Version>>(
     length: u32,
 ) -> Result<Reply, Refusal>
     requires later { last_of state.now.history ≤ moment }
-    ensures { result ≡ data_truncated state.now.history moment caller object.now length }
+    ensures { result ≡ data_truncated (base_of state.now) state.now.history moment caller object.now length }
 {
     if length > Request::DATA_LIMIT {
         return Err(Refusal::TooLong);

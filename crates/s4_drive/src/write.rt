@@ -3,6 +3,7 @@
 ghost use Rattle.std.specs.Prelude.{◌≡◌, ◌≤◌};
 ghost use Rattle.s4_types.specs.Answer.{data_written};
 ghost use Rattle.s4_types.specs.Play.{last_of};
+ghost use Rattle.s4_state.specs.Log.{base_of};
 
 use s4_state::State;
 use s4_store::Store;
@@ -18,7 +19,7 @@ pub fn outcome<S: Store<Version>>(
     bytes: &Bytes,
 ) -> Result<Reply, Refusal>
     requires later { last_of state.now.history ≤ moment }
-    ensures { result ≡ data_written state.now.history moment caller object.now offset bytes.now }
+    ensures { result ≡ data_written (base_of state.now) state.now.history moment caller object.now offset bytes.now }
 {
     let limit = Request::DATA_LIMIT as usize;
     if bytes.len() > limit.saturating_sub(offset as usize) || offset as usize > limit {

@@ -10,6 +10,7 @@ use Rattle.s4_types.specs.Names.{object_in}
 use Rattle.s4_types.specs.Bindings.{bound_at, bound_count}
 use Rattle.s4_types.specs.Judgement.{judge}
 use Rattle.s4_types.specs.Outcome.{◌>>◌, refuse_if}
+use Rattle.s4_state.specs.Log.{base_of}
 use Rattle.s4_drive.proofs.partitions.bind_outcome.Goals as goal
 
 -- what is told once the judgement and the first test passed
@@ -24,22 +25,24 @@ same-some f (Some y) = refl
 
 pub returns-then-bound_count-ge64 : goal.returns-then-bound_count-ge64
 returns-then-bound_count-ge64 g c =
+    let base = base_of c.args.state.now in
     let h = c.args.state.now.history in
     let o = c.args.object.now in
-    let taken : is_some (bound_at o.purse c.args.name.now c.args.moment h) ≡ false =
-    sym (same-some (object_in o.purse) (bound_at o.purse c.args.name.now c.args.moment h)) ∙ ap is_some (sym (c.bound.ensures c.args.moment c.requires.later)) ∙ sym c.is_some.ensures ∙ c.if-is_some.false in
-    let count : c.bound_count.result ≡ bound_count o.purse c.args.moment h = c.bound_count.ensures c.args.moment c.requires.later in
+    let taken : is_some (bound_at base o.purse c.args.name.now c.args.moment h) ≡ false =
+    sym (same-some (object_in o.purse) (bound_at base o.purse c.args.name.now c.args.moment h)) ∙ ap is_some (sym (c.bound.ensures c.args.moment c.requires.later)) ∙ sym c.is_some.ensures ∙ c.if-is_some.false in
+    let count : c.bound_count.result ≡ bound_count base o.purse c.args.moment h = c.bound_count.ensures c.args.moment c.requires.later in
     let high : 64 ≤ c.bound_count.result = c.if-bound_count-ge64.true in
-    let full : nat_le 64 (bound_count o.purse c.args.moment h) ≡ true = grind arith in
-    sym (told (judge h c.args.moment c.args.caller o right.Control None) _ _ true c.in_ok-judge.field-0 (sym (c.judge.ensures c.args.moment c.requires.later) ∙ c.in_ok-judge.was) taken full)
+    let full : nat_le 64 (bound_count base o.purse c.args.moment h) ≡ true = grind arith in
+    sym (told (judge base h c.args.moment c.args.caller o right.Control None) _ _ true c.in_ok-judge.field-0 (sym (c.judge.ensures c.args.moment c.requires.later) ∙ c.in_ok-judge.was) taken full)
 
 pub returns : goal.returns
 returns g c =
+    let base = base_of c.args.state.now in
     let h = c.args.state.now.history in
     let o = c.args.object.now in
-    let taken : is_some (bound_at o.purse c.args.name.now c.args.moment h) ≡ false =
-    sym (same-some (object_in o.purse) (bound_at o.purse c.args.name.now c.args.moment h)) ∙ ap is_some (sym (c.bound.ensures c.args.moment c.requires.later)) ∙ sym c.is_some.ensures ∙ c.if-is_some.false in
-    let count : c.bound_count.result ≡ bound_count o.purse c.args.moment h = c.bound_count.ensures c.args.moment c.requires.later in
+    let taken : is_some (bound_at base o.purse c.args.name.now c.args.moment h) ≡ false =
+    sym (same-some (object_in o.purse) (bound_at base o.purse c.args.name.now c.args.moment h)) ∙ ap is_some (sym (c.bound.ensures c.args.moment c.requires.later)) ∙ sym c.is_some.ensures ∙ c.if-is_some.false in
+    let count : c.bound_count.result ≡ bound_count base o.purse c.args.moment h = c.bound_count.ensures c.args.moment c.requires.later in
     let low : c.bound_count.result < 64 = c.if-bound_count-ge64.false in
-    let full : nat_le 64 (bound_count o.purse c.args.moment h) ≡ false = grind arith in
-    sym (told (judge h c.args.moment c.args.caller o right.Control None) _ _ false c.in_ok-judge.field-0 (sym (c.judge.ensures c.args.moment c.requires.later) ∙ c.in_ok-judge.was) taken full)
+    let full : nat_le 64 (bound_count base o.purse c.args.moment h) ≡ false = grind arith in
+    sym (told (judge base h c.args.moment c.args.caller o right.Control None) _ _ false c.in_ok-judge.field-0 (sym (c.judge.ensures c.args.moment c.requires.later) ∙ c.in_ok-judge.was) taken full)
