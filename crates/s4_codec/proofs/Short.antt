@@ -2,7 +2,7 @@
 use Rattle.std.proofs.Common.{◌≡◌, ℕ, ◌+◌, ◌*◌, ◌≤◌, ◌<◌, Bool, true, false, ◌&&◌, Option, Some, None, List, [], ◌∷◌, ◌++◌, length, refl, arith}
 use Rattle.std.specs.Prelude.{◌==◌, nat_le, nat_lt}
 use Rattle.std.specs.List.{flat_map, list_all}
-use Rattle.std.proofs.lemmas.Bool.{leb-true}
+use Rattle.std.proofs.lemmas.Bool.{leb-true, le-leb}
 use Rattle.std.proofs.lemmas.List.{length-append}
 use Rattle.byteorder.specs.Endian.{big_bytes}
 use Rattle.s4_types.specs.declared.reply.Grant.{Grant}
@@ -15,8 +15,11 @@ use Rattle.s4_types.specs.Name.{is_name, is_name_byte}
 use Rattle.s4_types.specs.Limits.{is_shown_grant, is_within_limits}
 use Rattle.s4_codec.specs.Format.{Format, nothing, ◌&◌, byte, number, only, made, fits_part, spell_part, optional, list_up_to}
 use Rattle.s4_codec.specs.Parts.{moment, principal, purse_number, index, serial, pad, object, name, byte_string, rights_given, grant, flag, flag_of, number_of_flag, right_needed, right_of, is_right}
-use Rattle.s4_codec.specs.Replies.{name_line, code, reply_code, audit_line, refusal, reply}
-use Rattle.s4_codec.proofs.Lawful.{IsWide, wide2, wide4, wide8, both_true}
+use Rattle.s4_codec.specs.Frames.{frame_limit, framed, front_of, Whole}
+use Rattle.s4_codec.specs.Replies.{name_line, code, reply_code, audit_line, refusal, reply, reply_in, has_body}
+use Rattle.s4_codec.proofs.Lawful.{IsWide, wide2, wide4, wide8, both_true, spelled_is_read}
+use Rattle.s4_codec.proofs.ReplyLaws.{reply_is}
+use Rattle.s4_codec.proofs.FrameLaws.{front-framed}
 
 -- no spelling has more bytes
 record IsShort {A : Type 0} (n : ℕ) (f : Format A) : Type 0 where
@@ -199,3 +202,18 @@ longer_exceeds r e long = of (is_within_limits r) refl
     of : (b : Bool) → is_within_limits r ≡ b → b ≡ false
     of true w = let short = spelled_short r e w in absurd (omega (arith, long, short))
     of false w = refl
+
+-- BODIES OF REPLIES
+
+pub within_has_body : (r : Reply) → reply.fits r ≡ true → is_within_limits r ≡ true → has_body r ≡ true
+within_has_body r e w = rw (e, le-leb (length (reply.spell r)) 8192 (spelled_short r e w)) refl
+
+pub body_read : (r : Reply) → has_body r ≡ true → reply_in (reply.spell r) ≡ Some r
+body_read r e =
+    let parts = both_true (reply.fits r) (nat_le (length (reply.spell r)) frame_limit) e in
+    spelled_is_read frame_limit reply reply_is (reply.spell r) r (record { fits = parts.0; spelled = refl; in_frame = parts.1 })
+
+pub body_framed : (r : Reply) (rest : List ℕ) → has_body r ≡ true → front_of frame_limit (framed (reply.spell r) ++ rest) ≡ Whole (reply.spell r) rest
+body_framed r rest e =
+    let parts = both_true (reply.fits r) (nat_le (length (reply.spell r)) frame_limit) e in
+    front-framed frame_limit (reply.spell r) rest (omega arith) (leb-true (length (reply.spell r)) frame_limit parts.1) (omega arith)

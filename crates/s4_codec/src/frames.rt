@@ -1,6 +1,6 @@
 //! Frames.
 
-ghost use Rattle.std.specs.Prelude.{◌≡◌, ◌≤◌, ◌++◌, length, OnOk};
+ghost use Rattle.std.specs.Prelude.{◌≡◌, ◌<◌, ◌≤◌, ◌++◌, length, OnOk};
 ghost use Rattle.s4_codec.specs.Frames.{frame_limit, framed, front_of};
 ghost use Rattle.s4_codec.specs.Fronts.{lists_of};
 
@@ -41,9 +41,10 @@ pub fn read_frame(limit: usize, bytes: &[u8]) -> Front
     Front::Whole { body, rest }
 }
 
-/// Adds the frame of a body to bytes.
+/// Adds the frame of a body to bytes. A body has a byte at least, since no frame is empty.
 pub fn write_frame(out: &mut Vec<u8>, body: &[u8]) -> Result<(), AllocError>
-    requires { length body.now ≤ frame_limit }
+    requires some { 0 < length body.now }
+    requires limit { length body.now ≤ frame_limit }
     ensures { OnOk result (out.new.items ≡ out.old.items ++ framed body.now) }
 {
     write_u32(out, body.len() as u32)?;

@@ -1,10 +1,12 @@
 //! What holds of all spellings.
 
-ghost use Rattle.std.specs.Prelude.{◌≡◌, ◌<◌, ◌≤◌, ◌^◌, ◌++◌, ℕ, List, length};
+ghost use Rattle.std.specs.Prelude.{◌≡◌, ◌<◌, ◌≤◌, ◌^◌, ◌++◌, ℕ, List, length, Some, IsTrue};
+ghost use Rattle.s4_types.specs.Limits.{is_within_limits};
+ghost use Rattle.s4_types.specs.declared.reply.Reply as told;
 ghost use Rattle.s4_codec.specs.Format.{AreBytes, IsPrefixFree, IsReadBack, IsSpelledAsRead};
-ghost use Rattle.s4_codec.specs.Frames.{framed, front_of, Whole};
+ghost use Rattle.s4_codec.specs.Frames.{frame_limit, framed, front_of, Whole};
 ghost use Rattle.s4_codec.specs.Parts as parts;
-ghost use Rattle.s4_codec.specs.Replies.{audit_line, name_line, refusal, reply};
+ghost use Rattle.s4_codec.specs.Replies.{audit_line, has_body, name_line, refusal, reply, reply_in};
 ghost use Rattle.s4_codec.specs.Requests.{request};
 
 /// Where the spellings of two values begin the same bytes, the values are the same. So no spelling
@@ -67,4 +69,13 @@ pub fn read_values_are_spelled()
 pub fn framed_bodies_are_read_back()
     ensures read { (limit : ℕ) (body rest : List ℕ) → 0 < length body → length body ≤ limit → limit < 2 ^ 32 → front_of limit (framed body ++ rest) ≡ Whole body rest }
     ensures framed { (limit : ℕ) (bytes body rest : List ℕ) → AreBytes bytes → front_of limit bytes ≡ Whole body rest → bytes ≡ framed body ++ rest }
+{}
+
+/// A reply of which each part has a spelling, and that keeps to the drive's limits, has a spelling
+/// within a frame. What has one is read back from that spelling, and the spelling from its frame.
+pub fn replies_within_limits_have_spellings()
+    ensures spelled { (r : told.Reply) → IsTrue (reply.fits r) → IsTrue (is_within_limits r) → IsTrue (has_body r) }
+    ensures read { (r : told.Reply) → IsTrue (has_body r) → reply_in (reply.spell r) ≡ Some r }
+    ensures framed { (r : told.Reply) (rest : List ℕ) → IsTrue (has_body r)
+        → front_of frame_limit (framed (reply.spell r) ++ rest) ≡ Whole (reply.spell r) rest }
 {}

@@ -19,7 +19,7 @@ pub use frames::{FRAME_LIMIT, Front, read_frame, write_frame};
 pub use input::Input;
 pub use laws::{
     framed_bodies_are_read_back, no_spelling_begins_another, read_values_are_spelled,
-    spelled_values_are_read_back,
+    replies_within_limits_have_spellings, spelled_values_are_read_back,
 };
 pub use read_parts::{read_block, read_byte, read_principal, read_u32};
 pub use read_replies::read_reply;

@@ -2,18 +2,19 @@
 use Rattle.std.proofs.Common.{◌≡◌, ℕ, ◌+◌, ◌≤◌, Bool, true, false, not, cond, List, [], ◌∷◌, ◌++◌, length, refl, sym, ap, subst, ◌∙◌, append_assoc, arith}
 use Rattle.std.specs.Prelude.{if◌then◌else◌, MatchBool}
 use Rattle.std.proofs.lemmas.List.{append-nil, length-append}
+use Rattle.std.specs.List.{list_all}
 use Rattle.std.proofs.lemmas.List.Elements.{filter-append}
+use Rattle.std.proofs.lemmas.List.Folds.{list_all-append}
 use Rattle.s4_types.specs.declared.principal.Caller.{Caller}
 use Rattle.s4_types.specs.declared.request.Request as asked
 use Rattle.s4_types.specs.declared.reply.Reply.{Reply}
-use Rattle.s4_types.specs.declared.record.Record.{Record}
 use Rattle.s4_types.specs.declared.record.Step.{Step}
 use Rattle.s4_types.specs.declared.record.Step.TheVariants as steps
-use Rattle.s4_types.specs.Base.{Base, opened}
-use Rattle.s4_types.specs.Play.{play_on, after_step, record_of, replies as replies_in, last_of, is_no_memory, request_count, carried_out, without_no_memory}
+use Rattle.s4_types.specs.Play.{record_of, replies as replies_in, last_of, is_no_memory, request_count, carried_out, without_no_memory}
 use Rattle.s4_types.proofs.Booleans.{by_test}
 use Rattle.s4_types.proofs.Snoc.{last_of-snoc, replies-snoc}
-use Rattle.s4_state.specs.Log.{Log}
+use Rattle.s4_state.specs.Log.{Log, base_of, log_after, steps_on}
+use Rattle.s4_codec.specs.Replies.{has_body}
 use Rattle.s4_drive.specs.Step.{Steps, Answers}
 use Rattle.s4_session.specs.declared.event.Event.{Event}
 use Rattle.s4_session.specs.declared.event.Event.TheVariants.{Welcome, Request, Fault}
@@ -23,9 +24,9 @@ use Rattle.s4_session.specs.Answered.{steps_by, Answered}
 
 -- ---- lists that are joined
 
-pub play_on-append : (base : Base) (h : List Record) (xs ys : List Step) → play_on base h (xs ++ ys) ≡ play_on base (play_on base h xs) ys
-play_on-append base h [] ys = refl
-play_on-append base h (x ∷ xs) ys = play_on-append base (after_step base h x) xs ys
+pub steps_on-append : (log : Log) (xs ys : List Step) → steps_on log (xs ++ ys) ≡ steps_on (steps_on log xs) ys
+steps_on-append log [] ys = refl
+steps_on-append log (x ∷ xs) ys = steps_on-append (log_after log x) xs ys
 
 pub request_count-append : (xs ys : List Step) → request_count (xs ++ ys) ≡ request_count xs + request_count ys
 request_count-append [] ys = omega arith
@@ -72,8 +73,8 @@ pub answered_none : (t : ℕ) (log : Log) (bytes after : List ℕ) → after ≡
 answered_none t log bytes after e = record {
   replies = [];
   each = refl;
-  window = refl;
-  history = refl;
+  bodies = refl;
+  log = refl;
   told = sym (append-nil (replies_in log.history));
   sent = e ∙ sym (append-nil bytes);
 }
@@ -85,13 +86,12 @@ answered_then t xs ys a b c p q r one two =
     record {
       replies = one.replies ++ two.replies;
       each = rw (steps_by-append t xs ys) (omega (arith, length-append one.replies two.replies, request_count-append first second, one.each, two.each));
-      window = two.window ∙ one.window;
-      history = two.history
-          ∙ ap (λ (w : ℕ). play_on (opened w) b.history (carried_out second two.replies)) one.window
-          ∙ ap (λ (h : List Record). play_on (opened a.window) h (carried_out second two.replies)) one.history
-          ∙ sym (play_on-append (opened a.window) a.history (carried_out first one.replies) (carried_out second two.replies))
-          ∙ ap (play_on (opened a.window) a.history) (sym (carried_out-append first second one.replies two.replies one.each))
-          ∙ ap (λ (w : List Step). play_on (opened a.window) a.history (carried_out w (one.replies ++ two.replies))) (sym (steps_by-append t xs ys));
+      bodies = rw (list_all-append has_body one.replies two.replies, one.bodies, two.bodies) refl;
+      log = two.log
+          ∙ ap (λ (l : Log). steps_on l (carried_out second two.replies)) one.log
+          ∙ sym (steps_on-append a (carried_out first one.replies) (carried_out second two.replies))
+          ∙ ap (steps_on a) (sym (carried_out-append first second one.replies two.replies one.each))
+          ∙ ap (λ (w : List Step). steps_on a (carried_out w (one.replies ++ two.replies))) (sym (steps_by-append t xs ys));
       told = two.told ∙ ap (λ (w : List Reply). w ++ without_no_memory two.replies) one.told
           ∙ append_assoc (replies_in a.history) (without_no_memory one.replies) (without_no_memory two.replies)
           ∙ ap (λ (w : List Reply). replies_in a.history ++ w) (sym (without-append one.replies two.replies));
@@ -106,8 +106,8 @@ pub answered_welcome : (t : ℕ) (caller : Caller) (log : Log) (p q : List ℕ) 
 answered_welcome t caller log p q e = record {
   replies = [];
   each = refl;
-  window = refl;
-  history = refl;
+  bodies = refl;
+  log = refl;
   told = sym (append-nil (replies_in log.history));
   sent = e ∙ ap (λ (w : List ℕ). p ++ w) (sym (append-nil welcome));
 }
@@ -116,8 +116,8 @@ pub answered_fault : (t : ℕ) (f : kinds.Fault) (log : Log) (p q : List ℕ) �
 answered_fault t f log p q e = record {
   replies = [];
   each = refl;
-  window = refl;
-  history = refl;
+  bodies = refl;
+  log = refl;
   told = sym (append-nil (replies_in log.history));
   sent = e ∙ ap (λ (w : List ℕ). p ++ w) (sym (append-nil (fault_frame f)));
 }
@@ -129,16 +129,16 @@ module _ (t : ℕ) (caller : Caller) (r : asked.Request) (old new : Log) (reply 
       (λ e. let same : new ≡ old = subst (λ b. MatchBool b (new ≡ old) (Answers old new t caller r reply)) e s in
       subst (λ (l : Log). last_of l.history ≤ t) (sym same) before)
       (λ e. let a : Answers old new t caller r reply = subst (λ b. MatchBool b (new ≡ old) (Answers old new t caller r reply)) e s in
-      let is : last_of new.history ≡ t = ap (λ (l : Log). last_of l.history) a.grows ∙ last_of-snoc old.history (record_of (opened old.window) old.history t caller r) in
+      let is : last_of new.history ≡ t = ap (λ (l : Log). last_of l.history) a.grows ∙ last_of-snoc old.history (record_of (base_of old) old.history t caller r) in
       omega (arith, is))
 
-  module _ (p q : List ℕ) (sent : q ≡ p ++ reply_frame reply) where
+  module _ (p q : List ℕ) (sent : q ≡ p ++ reply_frame reply) (body : has_body reply ≡ true) where
     refused : is_no_memory reply ≡ true → new ≡ old → Answered t (Request caller r ∷ []) old new p q
     refused e same = record {
       replies = reply ∷ [];
       each = refl;
-      window = ap (λ (l : Log). l.window) same;
-      history = ap (λ (l : Log). l.history) same ∙ ap (λ b. play_on (opened old.window) old.history (cond b [] (steps.Request t caller r ∷ []))) (sym e);
+      bodies = rw body refl;
+      log = same ∙ ap (λ b. steps_on old (cond b [] (steps.Request t caller r ∷ []))) (sym e);
       told = ap (λ (l : Log). replies_in l.history) same ∙ sym (append-nil (replies_in old.history)) ∙ ap (λ b. replies_in old.history ++ (if not b then reply ∷ [] else [])) (sym e);
       sent = sent ∙ ap (λ (w : List ℕ). p ++ w) (sym (append-nil (reply_frame reply)));
     }
@@ -147,9 +147,9 @@ module _ (t : ℕ) (caller : Caller) (r : asked.Request) (old new : Log) (reply 
     carried e a = record {
       replies = reply ∷ [];
       each = refl;
-      window = ap (λ (l : Log). l.window) a.grows;
-      history = ap (λ (l : Log). l.history) a.grows ∙ ap (λ b. play_on (opened old.window) old.history (cond b [] (steps.Request t caller r ∷ []))) (sym e);
-      told = ap (λ (l : Log). replies_in l.history) a.grows ∙ replies-snoc old.history (record_of (opened old.window) old.history t caller r)
+      bodies = rw body refl;
+      log = a.grows ∙ ap (λ b. steps_on old (cond b [] (steps.Request t caller r ∷ []))) (sym e);
+      told = ap (λ (l : Log). replies_in l.history) a.grows ∙ replies-snoc old.history (record_of (base_of old) old.history t caller r)
           ∙ ap (λ x. replies_in old.history ++ x ∷ []) (sym a.answer_is) ∙ ap (λ b. replies_in old.history ++ (if not b then reply ∷ [] else [])) (sym e);
       sent = sent ∙ ap (λ (w : List ℕ). p ++ w) (sym (append-nil (reply_frame reply)));
     }

@@ -4,14 +4,15 @@ use Rattle.std.specs.Prelude.{filter_map, unwrap_or, if◌then◌else◌}
 use Rattle.std.proofs.lemmas.Bool.{eqb-true, eq-eqb}
 use Rattle.std.proofs.lemmas.List.{append-nil, length-append, map-append, drop_at}
 use Rattle.std.proofs.lemmas.List.Concat.{flat_map-append, flat_map-cons}
-use Rattle.std.proofs.lemmas.List.Folds.{list_any-append}
+use Rattle.std.specs.List.{list_all}
+use Rattle.std.proofs.lemmas.List.Folds.{list_any-append, list_all-append}
 use Rattle.s4_types.specs.declared.reply.Reply.{Reply}
-use Rattle.s4_types.specs.declared.record.Record.{Record}
 use Rattle.s4_types.specs.declared.record.Step.{Step}
 use Rattle.s4_types.specs.declared.record.Step.TheVariants as steps
-use Rattle.s4_types.specs.Base.{opened}
-use Rattle.s4_types.specs.Play.{play, play_on, request_count, carried_out, without_no_memory}
+use Rattle.s4_types.specs.Play.{request_count, carried_out, without_no_memory}
 use Rattle.s4_types.proofs.Booleans.{by_test, ||-false, ||-true}
+use Rattle.s4_state.specs.Log.{Log, fresh_log, steps_on}
+use Rattle.s4_codec.specs.Replies.{has_body}
 use Rattle.s4_session.specs.declared.event.Event.{Event}
 use Rattle.s4_session.specs.declared.event.Event.TheVariants.{Welcome, Request, Fault}
 use Rattle.s4_session.specs.declared.event.Stand.TheVariants.{Greeting}
@@ -20,12 +21,13 @@ use Rattle.s4_session.specs.declared.hall_step.HallStep.TheVariants.{Arrive, Swe
 use Rattle.s4_session.specs.Logins.{Logins}
 use Rattle.s4_session.specs.Stream.{Heard, hear, events_of}
 use Rattle.s4_session.specs.Feeding.{Listening, after_events, left_by}
-use Rattle.s4_session.specs.Arrivals.{piece_on, stream_of, is_on, occurs, Asked, Asks, Sweeps, step_of, asked_by_event, events_by, asked_by_step, asked_after, asked_in, requests_of}
+use Rattle.s4_session.specs.Arrivals.{piece_on, stream_of, is_on, occurs, moment_after, Asked, Asks, Sweeps, step_of, asked_by_event, events_by, asked_by_step, asked_after, asked_in, requests_of}
 use Rattle.s4_session.specs.Sent.{sent_for, replies_on, sent_by}
+use Rattle.s4_session.specs.Determined.{requests_in}
 use Rattle.s4_session.specs.Answered.{steps_by, Answered}
 use Rattle.s4_session.specs.Halls.{Hall, fresh, session_of, session_after, heard_on, Takes, StandsAfter, Adds}
 use Rattle.s4_session.proofs.Cuts.{hear_cut}
-use Rattle.s4_session.proofs.Answering.{play_on-append, request_count-append, carried_out-append, without-append, sent_for-append}
+use Rattle.s4_session.proofs.Answering.{steps_on-append, request_count-append, carried_out-append, without-append, sent_for-append}
 
 same_number : (c : ℕ) → eqb c c ≡ true
 same_number c = eq-eqb c c refl
@@ -62,14 +64,18 @@ module _ (c t : ℕ) (piece : List ℕ) (arrivals : List HallStep) where
   stream_there : (d : ℕ) → eqb c d ≡ false → stream_of d (arrivals ++ Arrive c t piece ∷ []) ≡ stream_of d arrivals
   stream_there d e = stream_more d arrivals (Arrive c t piece) ∙ ap (λ (b : Bool). stream_of d arrivals ++ (if b then piece else [])) e ∙ append-nil (stream_of d arrivals)
 
--- ---- events
+-- the moment of the last arrival
+pub moment_more : (from : ℕ) (arrivals : List HallStep) (c t : ℕ) (piece : List ℕ) → moment_after from (arrivals ++ Arrive c t piece ∷ []) ≡ t
+moment_more from [] c t piece = refl
+moment_more from (Sweep n ∷ arrivals) c t piece = moment_more from arrivals c t piece
+moment_more from (Arrive d m first ∷ arrivals) c t piece = moment_more m arrivals c t piece
 
--- how many events are requests
-abbrev requests_in : List Event → ℕ
-requests_in [] = 0
-requests_in (Welcome caller ∷ events) = requests_in events
-requests_in (Request caller r ∷ events) = requests_in events + 1
-requests_in (Fault f ∷ events) = requests_in events
+pub moment_swept : (from : ℕ) (arrivals : List HallStep) (n : ℕ) → moment_after from (arrivals ++ Sweep n ∷ []) ≡ moment_after from arrivals
+moment_swept from [] n = refl
+moment_swept from (Sweep k ∷ arrivals) n = moment_swept from arrivals n
+moment_swept from (Arrive d m first ∷ arrivals) n = moment_swept m arrivals n
+
+-- ---- events
 
 count_steps : (t : ℕ) (events : List Event) → request_count (steps_by t events) ≡ requests_in events
 count_steps t [] = refl
@@ -138,7 +144,7 @@ requests_more logins arrivals c t piece =
 -- ---- whose replies
 
 -- how many requests are asked on the connection
-abbrev asked_on : ℕ → List Asked → ℕ
+abbrev pub asked_on : ℕ → List Asked → ℕ
 asked_on d [] = 0
 asked_on d (Sweeps n ∷ asked) = asked_on d asked
 asked_on d (Asks c t caller r ∷ asked) = cond (eqb c d) (asked_on d asked + 1) (asked_on d asked)
@@ -147,7 +153,7 @@ chosen_length : (b : Bool) (x : Reply) (xs : List Reply) (n : ℕ) → length xs
 chosen_length true x xs n e = omega (arith, e)
 chosen_length false x xs n e = e
 
-replies_length : (d : ℕ) (asked : List Asked) (told : List Reply) → length told ≡ request_count (map step_of asked) → length (replies_on d asked told) ≡ asked_on d asked
+pub replies_length : (d : ℕ) (asked : List Asked) (told : List Reply) → length told ≡ request_count (map step_of asked) → length (replies_on d asked told) ≡ asked_on d asked
 replies_length d [] told e = refl
 replies_length d (Sweeps n ∷ asked) told e = replies_length d asked told e
 replies_length d (Asks c t caller r ∷ asked) [] e = absurd (omega (arith, e))
@@ -299,18 +305,18 @@ module _ (window : ℕ) (logins : Logins) (arrivals : List HallStep) (told : Lis
   more = answered.replies
 
   stands_now : StandsAfter window logins now (told ++ more) new
-  unfolding more
+  unfolding now more
   stands_now = record {
     logins_are = tk.logins ∙ st.logins_are;
-    window_is = answered.window ∙ st.window_is;
+    last_is = tk.last ∙ sym (moment_more 0 arrivals c t piece);
     sessions = sessions_now;
     each = rw requests_now (omega (arith, length-append told more, request_count-append (requests_of logins arrivals) (steps_by t heard.events), st.each, answered.each));
-    history = answered.history
-        ∙ ap (λ (w : ℕ). play_on (opened w) hall.log.history (carried_out (steps_by t heard.events) more)) st.window_is
-        ∙ ap (λ (h : List Record). play_on (opened window) h (carried_out (steps_by t heard.events) more)) st.history
-        ∙ sym (play_on-append (opened window) [] (carried_out (requests_of logins arrivals) told) (carried_out (steps_by t heard.events) more))
-        ∙ ap (play (opened window)) (sym (carried_out-append (requests_of logins arrivals) (steps_by t heard.events) told more st.each))
-        ∙ ap (λ (w : List Step). play (opened window) (carried_out w (told ++ more))) (sym requests_now);
+    bodies = rw (list_all-append has_body told more, st.bodies, answered.bodies) refl;
+    log = answered.log
+        ∙ ap (λ (l : Log). steps_on l (carried_out (steps_by t heard.events) more)) st.log
+        ∙ sym (steps_on-append (fresh_log window) (carried_out (requests_of logins arrivals) told) (carried_out (steps_by t heard.events) more))
+        ∙ ap (steps_on (fresh_log window)) (sym (carried_out-append (requests_of logins arrivals) (steps_by t heard.events) told more st.each))
+        ∙ ap (λ (w : List Step). steps_on (fresh_log window) (carried_out w (told ++ more))) (sym requests_now);
     told = answered.told ∙ ap (λ (w : List Reply). w ++ without_no_memory more) st.told ∙ sym (without-append told more);
   }
 

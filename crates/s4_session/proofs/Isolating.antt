@@ -11,11 +11,12 @@ use Rattle.s4_types.specs.declared.reply.Reply.{Reply}
 use Rattle.s4_types.specs.declared.record.Record.{Record}
 use Rattle.s4_types.specs.declared.record.Step.{Step}
 use Rattle.s4_types.specs.declared.record.Step.TheVariants as steps
-use Rattle.s4_types.specs.Base.{Base}
+use Rattle.s4_types.specs.Base.{Base, opened}
 use Rattle.s4_types.specs.Play.{play, play_on, record_of, replies as replies_in, request_count, is_no_memory, carried_out, without_no_memory}
 use Rattle.s4_types.specs.Strike.{records_of, strike}
 use Rattle.s4_types.proofs.Booleans.{by_test, not_both}
-use Rattle.s4_types.proofs.Isolation.{records-strike}
+use Rattle.s4_laws.proofs.Isolation.{records-strike}
+use Rattle.s4_drive.proofs.Carried.{all_carried, records_after, play_is}
 use Rattle.s4_codec.specs.Requests.{request_in}
 use Rattle.s4_codec.specs.Frames.{frame_limit, Front, Whole, Part, BadLength, front_of}
 use Rattle.s4_session.specs.declared.event.Event.{Event}
@@ -154,19 +155,6 @@ mine_after c p logins past (x ∷ arrivals) all =
 
 -- ---- the plain log's replies
 
--- the records of the steps, after the records so far
-abbrev records_after : Base → List Record → List Step → List Record
-records_after base h [] = []
-records_after base h (steps.Sweep n ∷ xs) = records_after base h xs
-records_after base h (steps.Request t caller r ∷ xs) = record_of base h t caller r ∷ records_after base (h ++ record_of base h t caller r ∷ []) xs
-
-play_is : (base : Base) (h : List Record) (xs : List Step) → play_on base h xs ≡ h ++ records_after base h xs
-play_is base h [] = sym (append-nil h)
-play_is base h (steps.Sweep n ∷ xs) = play_is base h xs
-play_is base h (steps.Request t caller r ∷ xs) =
-    let new : Record = record_of base h t caller r in
-    play_is base (h ++ new ∷ []) xs ∙ append_assoc h (new ∷ []) (records_after base (h ++ new ∷ []) xs)
-
 other_way : (a b : Bool) → (a ≡ true → b ≡ true) → b ≡ false → a ≡ false
 other_way true b h e = absurd (not_both b (h refl) e)
 other_way false b h e = refl
@@ -187,44 +175,16 @@ mine_alone base c p h (Asks d t caller r ∷ asked) all =
     ap (λ (b : Bool). cond b (new.reply ∷ replies_on c asked (replies_in later)) (replies_on c asked (replies_in later))) apart ∙ rest
     ∙ ap (λ (b : Bool). replies_on c (if b then Asks d t caller r ∷ filter (is_by p) asked else filter (is_by p) asked) (replies_in (if b then new ∷ records_of p later else records_of p later))) (sym e))
 
--- ---- where no reply is NoMemory, all was carried out
-
-tail_same : (x : Reply) (xs ys : List Reply) → x ∷ xs ≡ x ∷ ys → xs ≡ ys
-tail_same x xs ys e = cc
-
-few_by : (b : Bool) (x : Reply) (xs : List Reply) (n : ℕ) → length xs ≤ n → length (if not b then x ∷ xs else xs) ≤ suc n
-few_by true x xs n le = omega arith
-few_by false x xs n le = omega arith
-
-kept_few : (xs : List Reply) → length (without_no_memory xs) ≤ length xs
-kept_few [] = omega arith
-kept_few (x ∷ xs) = few_by (is_no_memory x) x (without_no_memory xs) (length xs) (kept_few xs)
-
-kept_all : (b : Bool) (x : Reply) (xs : List Reply) → b ≡ is_no_memory x → (if not b then x ∷ without_no_memory xs else without_no_memory xs) ≡ x ∷ xs → (b ≡ false) × (without_no_memory xs ≡ xs)
-kept_all false x xs is e = (refl, tail_same x (without_no_memory xs) xs e)
-kept_all true x xs is e =
-    let short : length (without_no_memory xs) ≤ length xs = kept_few xs in
-    let len : length (without_no_memory xs) ≡ suc (length xs) = ap length e in
-    absurd (omega (arith, short, len))
-
-all_carried : (xs : List Step) (told : List Reply) → length told ≡ request_count xs → without_no_memory told ≡ told → carried_out xs told ≡ xs
-all_carried [] told e all = refl
-all_carried (steps.Sweep n ∷ xs) told e all = ap (λ (w : List Step). steps.Sweep n ∷ w) (all_carried xs told e all)
-all_carried (steps.Request t caller r ∷ xs) [] e all = absurd (omega (arith, e))
-all_carried (steps.Request t caller r ∷ xs) (x ∷ told) e all =
-    let parts = kept_all (is_no_memory x) x told refl all in
-    ap (λ (b : Bool). cond b (carried_out xs told) (steps.Request t caller r ∷ carried_out xs told)) parts.0
-    ∙ ap (λ (w : List Step). steps.Request t caller r ∷ w) (all_carried xs told (omega (arith, e)) parts.1)
-
 -- ---- isolation
 
 no_events : (p : ℕ) (logins : Logins) → list_any (is_welcome_of p) (events_of logins []) ≡ false
 no_events p logins = refl
 
-pub isolates : (base : Base) (logins : Logins) (arrivals : List HallStep) (told : List Reply) (sent : List (ℕ × List ℕ)) → AreReplies base logins arrivals told
+pub isolates : (window : ℕ) (logins : Logins) (arrivals : List HallStep) (told : List Reply) (sent : List (ℕ × List ℕ)) → AreReplies (opened window) logins arrivals told
     → ((c : ℕ) → bytes_for c sent ≡ cond (occurs c arrivals) (Some (sent_by c logins arrivals told)) None)
-    → without_no_memory told ≡ told → IsIsolated base logins arrivals sent
-isolates base logins arrivals told sent are bytes all p c other welcome =
+    → without_no_memory told ≡ told → IsIsolated (opened window) logins arrivals sent
+isolates window logins arrivals told sent are bytes all p c other welcome =
+    let base : Base = opened window in
     let xs : List Asked = asked_in logins arrivals in
     let reqs : List Step = requests_of logins arrivals in
     let there : occurs c arrivals ≡ true = by_test (occurs c arrivals) (λ e. e)
@@ -233,7 +193,7 @@ isolates base logins arrivals told sent are bytes all p c other welcome =
     let played : told ≡ replies_in (records_after base [] reqs)
     = sym all ∙ sym are.log ∙ ap (λ (w : List Step). replies_in (play base w)) (all_carried reqs told are.each all) ∙ ap replies_in (play_is base [] reqs) in
     let struck : replies_in (records_of p (records_after base [] reqs)) ≡ replies_in (records_of p (play base (strike p reqs)))
-    = ap (λ (h : List Record). replies_in (records_of p h)) (sym (play_is base [] reqs)) ∙ sym (ap replies_in (records-strike base p reqs other)) in
+    = ap (λ (h : List Record). replies_in (records_of p h)) (sym (play_is base [] reqs)) ∙ sym (ap replies_in (records-strike window p reqs other)) in
     bytes c ∙ ap (λ (b : Bool). cond b (Some (sent_by c logins arrivals told)) None) there
     ∙ ap (λ (w : List Reply). Some (sent_on c logins arrivals w))
     (ap (replies_on c xs) played ∙ mine_alone base c p [] xs mine ∙ ap (replies_on c (filter (is_by p) xs)) struck)

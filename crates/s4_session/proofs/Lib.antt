@@ -8,6 +8,7 @@ pub mod Numbers
 pub mod Feeding
 pub mod Outboxes
 pub mod Sending
+pub mod Determining
 pub mod Talking
 pub mod Hellos
 pub mod LoginLines

@@ -7,50 +7,41 @@ use Rattle.std.proofs.lemmas.List.{append-nil, map-append, take_more}
 use Rattle.s4_types.specs.declared.reply.Reply.{Reply}
 use Rattle.s4_types.specs.declared.record.Step.{Step}
 use Rattle.s4_types.specs.declared.record.Step.TheVariants as steps
-use Rattle.s4_types.specs.Base.{Base, opened}
+use Rattle.s4_types.specs.Base.{opened}
 use Rattle.s4_types.specs.Play.{play, replies as replies_in, request_count, carried_out}
 use Rattle.s4_types.proofs.Booleans.{by_test, ||-false, ||-true}
+use Rattle.s4_state.specs.Log.{Log, fresh_log, swept, steps_on}
+use Rattle.s4_state.proofs.Stepped.{steps_on-history}
 use Rattle.s4_session.specs.declared.hall_step.HallStep.{HallStep}
 use Rattle.s4_session.specs.declared.hall_step.HallStep.TheVariants.{Arrive, Sweep}
 use Rattle.s4_session.specs.declared.event.Stand.TheVariants.{Greeting}
 use Rattle.s4_session.specs.Logins.{Logins}
-use Rattle.s4_session.specs.Arrivals.{stream_of, occurs, asked_in, Asked, Sweeps, step_of, requests_of}
+use Rattle.s4_session.specs.Arrivals.{stream_of, occurs, moment_after, asked_in, Asked, Sweeps, step_of, requests_of}
 use Rattle.s4_session.specs.Stream.{hear, events_of}
 use Rattle.s4_session.specs.Feeding.{left_by}
 use Rattle.s4_session.specs.Sent.{AreRising, lists_of, bytes_for, sent_by, sent_for, replies_on, AreReplies, IsSent}
-use Rattle.s4_session.specs.Halls.{Hall, IsFresh, session_of, session_after, Takes, StandsAfter, Adds}
-use Rattle.s4_session.proofs.Answering.{play_on-append, request_count-append, carried_out-append}
-use Rattle.s4_session.proofs.Arriving.{stream_more, occurs_more, asked_more, adds, no_stream, replies_more}
+use Rattle.s4_session.specs.Halls.{Hall, IsFresh, session_of, session_after, Takes, StandsAfter, Adds, Leaves}
+use Rattle.s4_session.proofs.Answering.{steps_on-append, request_count-append, carried_out-append}
+use Rattle.s4_session.proofs.Arriving.{stream_more, occurs_more, moment_swept, asked_more, adds, no_stream, replies_more}
 use Rattle.s4_session.proofs.Isolating.{isolates}
 
 -- a fresh hall stands after nothing
 pub stands_fresh : (hall : Hall) → IsFresh hall → StandsAfter hall.log.window hall.logins [] [] hall
 stands_fresh hall fresh = record {
   logins_are = refl;
-  window_is = refl;
+  last_is = fresh.no_arrival;
   sessions = λ c. ap (session_of c) fresh.no_sessions;
   each = refl;
-  history = fresh.no_records;
+  bodies = refl;
+  log = λ i. record { window = hall.log.window; history = fresh.no_records i; held = fresh.nothing_held i };
   told = ap replies_in fresh.no_records;
 }
 
 -- ---- a sweep
 
--- the hall where so much is freed
-abbrev pub freed_to : Hall → ℕ → Hall
-freed_to hall n = record hall { log = record hall.log { freed = n } }
-
--- what a sweep frees is asked for by nobody
-pub stands_freed : (window : ℕ) (logins : Logins) (arrivals : List HallStep) (told : List Reply) (hall : Hall) (n : ℕ) → StandsAfter window logins arrivals told hall
-    → StandsAfter window logins arrivals told (freed_to hall n)
-stands_freed window logins arrivals told hall n st = record {
-  logins_are = st.logins_are;
-  window_is = st.window_is;
-  sessions = st.sessions;
-  each = st.each;
-  history = st.history;
-  told = st.told;
-}
+-- the hall where at most so much of what is expired is freed
+abbrev pub swept_hall : Hall → ℕ → Hall
+swept_hall hall n = record hall { log = swept n hall.log }
 
 module _ (window : ℕ) (logins : Logins) (arrivals : List HallStep) (told : List Reply) (hall : Hall) (n : ℕ) where
   swept_stream : (d : ℕ) → stream_of d (arrivals ++ Sweep n ∷ []) ≡ stream_of d arrivals
@@ -65,19 +56,20 @@ module _ (window : ℕ) (logins : Logins) (arrivals : List HallStep) (told : Lis
   swept_requests : requests_of logins (arrivals ++ Sweep n ∷ []) ≡ requests_of logins arrivals ++ steps.Sweep n ∷ []
   swept_requests = ap (map step_of) swept_asked ∙ map-append step_of (asked_in logins arrivals) (Sweeps n ∷ [])
 
-  pub stands_swept : StandsAfter window logins arrivals told hall → StandsAfter window logins (arrivals ++ Sweep n ∷ []) told hall
+  pub stands_swept : StandsAfter window logins arrivals told hall → StandsAfter window logins (arrivals ++ Sweep n ∷ []) told (swept_hall hall n)
   stands_swept st =
       let reqs : List Step = requests_of logins arrivals in
       record {
         logins_are = st.logins_are;
-        window_is = st.window_is;
+        last_is = st.last_is ∙ sym (moment_swept 0 arrivals n);
         sessions = λ c. st.sessions c ∙ ap (λ (b : Bool). cond b (Some (session_after c logins arrivals)) None) (sym (swept_occurs c))
             ∙ ap (λ (w : List ℕ). cond (occurs c (arrivals ++ Sweep n ∷ [])) (Some (left_by (hear logins Greeting w))) None) (sym (swept_stream c));
         each = rw swept_requests (omega (arith, st.each, request_count-append reqs (steps.Sweep n ∷ [])));
-        history = st.history ∙ sym (play_on-append (opened window) [] (carried_out reqs told) (steps.Sweep n ∷ []))
-            ∙ ap (play (opened window)) (sym (carried_out-append reqs (steps.Sweep n ∷ []) told [] st.each))
-            ∙ ap (λ (w : List Reply). play (opened window) (carried_out (reqs ++ steps.Sweep n ∷ []) w)) (append-nil told)
-            ∙ ap (λ (w : List Step). play (opened window) (carried_out w told)) (sym swept_requests);
+        bodies = st.bodies;
+        log = ap (swept n) st.log ∙ sym (steps_on-append (fresh_log window) (carried_out reqs told) (steps.Sweep n ∷ []))
+            ∙ ap (steps_on (fresh_log window)) (sym (carried_out-append reqs (steps.Sweep n ∷ []) told [] st.each))
+            ∙ ap (λ (w : List Reply). steps_on (fresh_log window) (carried_out (reqs ++ steps.Sweep n ∷ []) w)) (append-nil told)
+            ∙ ap (λ (w : List Step). steps_on (fresh_log window) (carried_out w told)) (sym swept_requests);
         told = st.told;
       }
 
@@ -102,12 +94,8 @@ pub record Sends (window : ℕ) (logins : Logins) (arrivals : List HallStep) (ha
 pub sends_nothing : (hall : Hall) (sent : List (ℕ × List ℕ)) → sent ≡ [] → IsFresh hall → Sends hall.log.window hall.logins [] hall sent
 sends_nothing hall sent e fresh = record { told = []; stands = stands_fresh hall fresh; bytes = λ d. ap (bytes_for d) e }
 
-pub sends_freed : (window : ℕ) (logins : Logins) (arrivals : List HallStep) (hall : Hall) (sent : List (ℕ × List ℕ)) (n : ℕ) → Sends window logins arrivals hall sent
-    → Sends window logins arrivals (freed_to hall n) sent
-sends_freed window logins arrivals hall sent n s = record { told = s.told; stands = stands_freed window logins arrivals s.told hall n s.stands; bytes = s.bytes }
-
 pub sends_swept : (window : ℕ) (logins : Logins) (arrivals : List HallStep) (hall : Hall) (sent : List (ℕ × List ℕ)) (n : ℕ) → Sends window logins arrivals hall sent
-    → Sends window logins (arrivals ++ Sweep n ∷ []) hall sent
+    → Sends window logins (arrivals ++ Sweep n ∷ []) (swept_hall hall n) sent
 sends_swept window logins arrivals hall sent n s = record {
   told = s.told;
   stands = stands_swept window logins arrivals s.told hall n s.stands;
@@ -116,7 +104,7 @@ sends_swept window logins arrivals hall sent n s = record {
 }
 
 -- on a connection that doesn't occur nothing was sent
-sent_none : (d : ℕ) (logins : Logins) (arrivals : List HallStep) (told : List Reply) → occurs d arrivals ≡ false → sent_by d logins arrivals told ≡ []
+pub sent_none : (d : ℕ) (logins : Logins) (arrivals : List HallStep) (told : List Reply) → occurs d arrivals ≡ false → sent_by d logins arrivals told ≡ []
 sent_none d logins arrivals told e = ap (λ (w : List ℕ). sent_for (events_of logins w) (replies_on d (asked_in logins arrivals) told)) (no_stream d arrivals e)
 
 module _ (window : ℕ) (logins : Logins) (arrivals : List HallStep) (hall new : Hall) (sent after : List (ℕ × List ℕ)) (c t : ℕ) (piece bytes : List ℕ)
@@ -155,16 +143,23 @@ module _ (window : ℕ) (logins : Logins) (arrivals : List HallStep) (hall new :
             ∙ ap (λ (w : List ℕ). cond (occurs d now) (Some w) None) (sym same));
       }
 
--- where all steps were taken, that is what the run sends
-pub sends_all : (window : ℕ) (logins : Logins) (arrivals : List HallStep) (hall : Hall) (sent : List (ℕ × List ℕ)) → Sends window logins arrivals hall sent → AreRising sent → IsSent (opened window) logins arrivals sent
-sends_all window logins arrivals hall sent s rising =
-    let are : AreReplies (opened window) logins arrivals s.told = record { each = s.stands.each; log = ap replies_in (sym s.stands.history) ∙ s.stands.told } in
+-- where all steps were taken, that is what the run sends, and so it leaves the hall
+pub leaves_all : (window : ℕ) (logins : Logins) (arrivals : List HallStep) (hall : Hall) (sent : List (ℕ × List ℕ)) → Sends window logins arrivals hall sent → hall.failed ≡ false → AreRising sent
+    → Leaves window logins arrivals sent hall
+leaves_all window logins arrivals hall sent s whole rising =
+    let made : List Step = carried_out (requests_of logins arrivals) s.told in
+    let records : hall.log.history ≡ play (opened window) made = ap (λ (l : Log). l.history) s.stands.log ∙ steps_on-history (fresh_log window) made in
+    let are : AreReplies (opened window) logins arrivals s.told = record { each = s.stands.each; bodies = s.stands.bodies; log = ap replies_in (sym records) ∙ s.stands.told } in
     record {
-      replies = s.told;
-      are_replies = are;
-      rising = rising;
-      bytes = s.bytes;
-      isolated = isolates (opened window) logins arrivals s.told sent are s.bytes;
+      sends = record {
+        replies = s.told;
+        are_replies = are;
+        rising = rising;
+        bytes = s.bytes;
+        isolated = isolates window logins arrivals s.told sent are s.bytes;
+      };
+      stands = s.stands;
+      not_failed = whole;
     }
 
 -- ---- one step of the list
@@ -175,9 +170,15 @@ item_at arrivals i x d h at is = rw add-one (drop-cons arrivals i d h ∙ ap (λ
 pub front_more : (arrivals : List HallStep) (i : ℕ) (x d : HallStep) → i < length arrivals → d ≡ get_or arrivals i d → d ≡ x → take (i + 1) arrivals ≡ take i arrivals ++ x ∷ []
 front_more arrivals i x d h at is = take_more arrivals i d h ∙ ap (λ w. take i arrivals ++ w ∷ []) (sym at ∙ is)
 
-pub on_sent : {E : Type 0} (window : ℕ) (logins : Logins) (arrivals : List HallStep) (hall : Hall) (sent : List (ℕ × List ℕ)) (result : Result (Vec (ℕ × Vec ℕ)) E)
-    → IfOk result (λ list. lists_of list.items ≡ sent) → IfOk result (λ list. AreRising (lists_of list.items)) → Sends window logins arrivals hall sent
-    → IfOk result (λ list. IsSent (opened window) logins arrivals (lists_of list.items))
-on_sent window logins arrivals hall sent (Ok list) same rising s =
-    sends_all window logins arrivals hall (lists_of list.items) (subst (Sends window logins arrivals hall) (sym same) s) rising
-on_sent window logins arrivals hall sent (Err e) same rising s = tt
+pub on_left : {E : Type 0} (window : ℕ) (logins : Logins) (arrivals : List HallStep) (hall : Hall) (sent : List (ℕ × List ℕ)) (result : Result (Vec (ℕ × Vec ℕ)) E)
+    → IfOk result (λ list. lists_of list.items ≡ sent) → IfOk result (λ list. AreRising (lists_of list.items)) → Sends window logins arrivals hall sent → hall.failed ≡ false
+    → IfOk result (λ list. Leaves window logins arrivals (lists_of list.items) hall)
+on_left window logins arrivals hall sent (Ok list) same rising s whole =
+    leaves_all window logins arrivals hall (lists_of list.items) (subst (Sends window logins arrivals hall) (sym same) s) whole rising
+on_left window logins arrivals hall sent (Err e) same rising s whole = tt
+
+-- what it leaves says what it sends
+pub on_sent : {E : Type 0} (window : ℕ) (logins : Logins) (arrivals : List HallStep) (hall : Hall) (result : Result (Vec (ℕ × Vec ℕ)) E)
+    → IfOk result (λ list. Leaves window logins arrivals (lists_of list.items) hall) → IfOk result (λ list. IsSent (opened window) logins arrivals (lists_of list.items))
+on_sent window logins arrivals hall (Ok list) left = left.sends
+on_sent window logins arrivals hall (Err e) left = tt

@@ -1,11 +1,12 @@
 -- What answering events makes of a drive, and what is sent.
-use Rattle.std.specs.Prelude.{◌≡◌, ℕ, Option, Some, None, List, ◌++◌, length, filter_map}
+use Rattle.std.specs.Prelude.{◌≡◌, ℕ, IsTrue, Option, Some, None, List, ◌++◌, length, filter_map}
+use Rattle.std.specs.List.{list_all}
 use Rattle.s4_types.specs.declared.reply.Reply.{Reply}
 use Rattle.s4_types.specs.declared.record.Step.{Step}
 use Rattle.s4_types.specs.declared.record.Step.TheVariants as steps
-use Rattle.s4_types.specs.Base.{opened}
-use Rattle.s4_types.specs.Play.{play_on, replies as replies_in, carried_out, without_no_memory, request_count}
-use Rattle.s4_state.specs.Log.{Log}
+use Rattle.s4_types.specs.Play.{replies as replies_in, carried_out, without_no_memory, request_count}
+use Rattle.s4_state.specs.Log.{Log, steps_on}
+use Rattle.s4_codec.specs.Replies.{has_body}
 use Rattle.s4_session.specs.declared.event.Event.{Event}
 use Rattle.s4_session.specs.declared.event.Event.TheVariants.{Welcome, Request, Fault}
 use Rattle.s4_session.specs.Sent.{sent_for}
@@ -20,11 +21,12 @@ step_by_event t (Fault f) = None
 abbrev pub steps_by : ℕ → List Event → List Step
 steps_by t events = filter_map (step_by_event t) events
 
--- The events are answered: their requests by the drive, one reply each, and what is sent for them is added to the bytes.
+-- The events are answered: their requests by the drive, and by nothing else, one reply each, which has a spelling within a frame,
+-- and what is sent for them is added to the bytes.
 pub record Answered (t : ℕ) (events : List Event) (old new : Log) (before after : List ℕ) : Type 0 where
   pub replies : List Reply
   pub each : length replies ≡ request_count (steps_by t events)
-  pub window : new.window ≡ old.window
-  pub history : new.history ≡ play_on (opened old.window) old.history (carried_out (steps_by t events) replies)
+  pub bodies : IsTrue (list_all has_body replies)
+  pub log : new ≡ steps_on old (carried_out (steps_by t events) replies)
   pub told : replies_in new.history ≡ replies_in old.history ++ without_no_memory replies
   pub sent : after ≡ before ++ sent_for events replies

@@ -48,6 +48,12 @@ NeverDown from [] = Unit {0}
 NeverDown from (Arrive conn moment piece ∷ arrivals) = (from ≤ moment) × NeverDown moment arrivals
 NeverDown from (Sweep n ∷ arrivals) = NeverDown from arrivals
 
+-- the moment of the last arrival, or this one where there is none
+abbrev pub moment_after : ℕ → List HallStep → ℕ
+moment_after from [] = from
+moment_after from (Arrive conn moment piece ∷ arrivals) = moment_after moment arrivals
+moment_after from (Sweep n ∷ arrivals) = moment_after from arrivals
+
 -- REQUESTS
 
 -- What is asked of the drive: a request of a connection at a moment, or a sweep.

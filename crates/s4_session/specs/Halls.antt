@@ -1,19 +1,21 @@
 -- What a hall is, and what an arrival makes of it.
-use Rattle.std.specs.Prelude.{◌≡◌, ℕ, Bool, ◌==◌, Option, Some, None, unwrap_or, cond, List, [], ◌∷◌, ◌++◌, length}
+use Rattle.std.specs.Prelude.{◌≡◌, ℕ, Bool, false, ◌==◌, IsTrue, Option, Some, None, unwrap_or, cond, List, [], ◌∷◌, ◌++◌, length}
+use Rattle.std.specs.List.{list_all}
 use Rattle.std.specs.Map.{lookup}
 use Rattle.std.specs.Ordering.{is_eq, nat_cmp}
 use Rattle.s4_types.specs.declared.reply.Reply.{Reply}
 use Rattle.s4_types.specs.Base.{opened}
-use Rattle.s4_types.specs.Play.{play, replies as replies_in, carried_out, without_no_memory, request_count}
-use Rattle.s4_state.specs.Log.{Log}
+use Rattle.s4_types.specs.Play.{replies as replies_in, carried_out, without_no_memory, request_count}
+use Rattle.s4_state.specs.Log.{Log, fresh_log, steps_on}
+use Rattle.s4_codec.specs.Replies.{has_body}
 use Rattle.s4_session.specs.declared.event.Stand.TheVariants.{Greeting}
 use Rattle.s4_session.specs.declared.hall_step.HallStep.{HallStep}
 use Rattle.s4_session.specs.declared.hall_step.HallStep.TheVariants.{Arrive}
 use Rattle.s4_session.specs.Logins.{Logins}
 use Rattle.s4_session.specs.Stream.{Heard, hear}
 use Rattle.s4_session.specs.Feeding.{Listening, hear_piece, left_by}
-use Rattle.s4_session.specs.Arrivals.{requests_of, stream_of, occurs}
-use Rattle.s4_session.specs.Sent.{sent_by}
+use Rattle.s4_session.specs.Arrivals.{requests_of, stream_of, occurs, moment_after}
+use Rattle.s4_session.specs.Sent.{sent_by, IsSent}
 use Rattle.s4_session.specs.Answered.{Answered}
 
 -- CONNECTIONS
@@ -49,30 +51,35 @@ pub record Hall : Type 0 where
   pub last : ℕ
   pub failed : Bool
 
--- Nothing came yet, and no request was answered.
+-- Nothing came yet, no request was answered, nothing is held, and no growth was refused.
 pub record IsFresh (hall : Hall) : Type 0 where
   pub no_records : hall.log.history ≡ []
+  pub nothing_held : hall.log.held ≡ 0
   pub no_sessions : hall.sessions ≡ []
   pub no_arrival : hall.last ≡ 0
+  pub not_failed : hall.failed ≡ false
 
--- The piece is heard on its connection, its events are answered at the moment, and this is sent.
+-- The piece is heard on its connection, its events are answered at the moment, and this is sent. The hall hasn't failed.
 pub record Takes (c t : ℕ) (piece : List ℕ) (old new : Hall) (sent : List ℕ) : Type 0 where
   pub logins : new.logins ≡ old.logins
   pub last : new.last ≡ t
   pub sessions : Feeds old.logins c piece old.sessions new.sessions
   pub answered : Answered t (heard_on old.logins c old.sessions piece).events old.log new.log [] sent
+  pub not_failed : new.failed ≡ false
 
 -- the session of a connection after the arrivals
 abbrev pub session_after : ℕ → Logins → List HallStep → Listening
 session_after c logins arrivals = left_by (hear logins Greeting (stream_of c arrivals))
 
--- So a hall of these logins stands after the arrivals from its opening on, where their requests, each in its turn, had these replies.
+-- So a hall of these logins stands after the arrivals from its opening on, where their requests, each in its turn, had these replies,
+-- and the sweeps among them freed what they free.
 pub record StandsAfter (window : ℕ) (logins : Logins) (arrivals : List HallStep) (replies : List Reply) (hall : Hall) : Type 0 where
   pub logins_are : hall.logins ≡ logins
-  pub window_is : hall.log.window ≡ window
+  pub last_is : hall.last ≡ moment_after 0 arrivals
   pub sessions : (c : ℕ) → session_of c hall.sessions ≡ cond (occurs c arrivals) (Some (session_after c logins arrivals)) None
   pub each : length replies ≡ request_count (requests_of logins arrivals)
-  pub history : hall.log.history ≡ play (opened window) (carried_out (requests_of logins arrivals) replies)
+  pub bodies : IsTrue (list_all has_body replies)
+  pub log : hall.log ≡ steps_on (fresh_log window) (carried_out (requests_of logins arrivals) replies)
   pub told : replies_in hall.log.history ≡ without_no_memory replies
 
 -- What an arrival adds to the arrivals before it: some replies, and on its connection these bytes, and on no other.
@@ -86,3 +93,9 @@ abbrev pub Arrives : ℕ → ℕ → List ℕ → Hall → Hall → List ℕ →
 Arrives c t piece old new sent =
     (window : ℕ) (logins : Logins) (arrivals : List HallStep) (replies : List Reply) → StandsAfter window logins arrivals replies old
     → Adds window logins arrivals replies c t piece new sent
+
+-- What a run sends and the hall that it leaves, which hasn't failed: it stands after the steps with the replies that were sent.
+pub record Leaves (window : ℕ) (logins : Logins) (arrivals : List HallStep) (sent : List (ℕ × List ℕ)) (hall : Hall) : Type 0 where
+  pub sends : IsSent (opened window) logins arrivals sent
+  pub stands : StandsAfter window logins arrivals sends.replies hall
+  pub not_failed : hall.failed ≡ false

@@ -5,6 +5,7 @@ pub mod Stream
 pub mod Feeding
 pub mod Arrivals
 pub mod Sent
+pub mod Determined
 pub mod Talk
 pub mod Answered
 pub mod Halls

@@ -1,5 +1,6 @@
 -- What is sent on each connection.
 use Rattle.std.specs.Prelude.{◌≡◌, ℕ, Bool, false, ◌==◌, IsTrue, Option, Some, None, List, [], ◌∷◌, ◌++◌, length, map, filter, cond}
+use Rattle.std.specs.List.{list_all}
 use Rattle.std.specs.List.Sorted.{IsStrictlySortedBy}
 use Rattle.std.specs.Map.{keys_of, lookup}
 use Rattle.std.specs.Ordering.{is_eq, nat_cmp}
@@ -9,7 +10,7 @@ use Rattle.s4_types.specs.Base.{Base}
 use Rattle.s4_types.specs.Play.{play, replies as replies_in, carried_out, without_no_memory, request_count}
 use Rattle.s4_types.specs.Strike.{records_of, strike}
 use Rattle.s4_codec.specs.Frames.{framed}
-use Rattle.s4_codec.specs.Replies.{reply}
+use Rattle.s4_codec.specs.Replies.{reply, has_body}
 use Rattle.s4_session.specs.declared.event.Event.{Event}
 use Rattle.s4_session.specs.declared.event.Event.TheVariants.{Welcome, Request, Fault}
 use Rattle.s4_session.specs.declared.event.Fault as kinds
@@ -96,8 +97,10 @@ IsIsolated base logins arrivals sent =
     → bytes_for c sent ≡ Some (sent_without_strangers base p c logins arrivals)
 
 -- The replies, one to each request that the arrivals ask, are those of the plain log, where a request that was answered NoMemory counts as not made.
+-- Each has a spelling within a frame.
 pub record AreReplies (base : Base) (logins : Logins) (arrivals : List HallStep) (replies : List Reply) : Type 0 where
   pub each : length replies ≡ request_count (requests_of logins arrivals)
+  pub bodies : IsTrue (list_all has_body replies)
   pub log : replies_in (play base (carried_out (requests_of logins arrivals) replies)) ≡ without_no_memory replies
 
 -- What a run sends: exactly on the connections that occur, by rising number, the bytes of the definition; and where no reply is NoMemory, strangers change nothing.

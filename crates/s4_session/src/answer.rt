@@ -3,6 +3,7 @@
 ghost use Rattle.std.specs.Prelude.{◌≡◌, ◌≤◌, ◌++◌, ◌∷◌, [], IfOk, IsTrue, OnOk};
 ghost use Rattle.s4_types.specs.Limits.{is_within_limits};
 ghost use Rattle.s4_types.specs.Play.{last_of};
+ghost use Rattle.s4_codec.specs.Replies.{has_body};
 ghost use Rattle.s4_session.specs.Answered.{Answered};
 ghost use Rattle.s4_session.specs.Sent.{reply_frame, fault_number};
 
@@ -62,7 +63,8 @@ fn answer(
 /// Adds the frame of a reply of the drive, which is never too big for one.
 fn send_reply(alloc: Global, reply: &Reply, out: &mut Vec<u8>) -> Result<(), NoMemory>
     requires { IsTrue (is_within_limits reply.now) }
-    ensures { OnOk result (out.new.items ≡ out.old.items ++ reply_frame reply.now) }
+    ensures sent { OnOk result (out.new.items ≡ out.old.items ++ reply_frame reply.now) }
+    ensures body { OnOk result (IsTrue (has_body reply.now)) }
 {
     match write_reply(alloc, reply) {
         Ok(body) => write_frame(out, body.as_slice()),

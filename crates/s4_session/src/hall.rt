@@ -1,12 +1,10 @@
 //! The hall: many connections over one drive.
 
-ghost use Rattle.std.specs.Prelude.{◌≡◌, ◌≤◌, ◌+◌, ◌-◌, min, [], true, false, IfOk, OnOk, OnErr, IsErr};
+ghost use Rattle.std.specs.Prelude.{◌≡◌, ◌≤◌, min, [], true, false, IfOk, OnErr, IsErr};
 ghost use Rattle.s4_types.specs.Base.{opened};
-ghost use Rattle.s4_types.specs.Horizon.{horizon_at};
-ghost use Rattle.s4_types.specs.Play.{last_of};
-ghost use Rattle.s4_state.specs.Counts.{made_count, ended_count};
+ghost use Rattle.s4_state.specs.Log.{fresh_log, needed, expired_in, swept};
 ghost use Rattle.s4_session.specs.Arrivals.{NeverDown};
-ghost use Rattle.s4_session.specs.Halls.{Takes, Arrives, IsFresh};
+ghost use Rattle.s4_session.specs.Halls.{Takes, Arrives, IsFresh, Leaves};
 ghost use Rattle.s4_session.specs.Sent.{IsSent, lists_of};
 
 use crate::answer::answer_all;
@@ -48,7 +46,7 @@ impl Hall {
     /// A hall without connections over a fresh drive, whose window has so many ticks. Takes no
     /// memory.
     pub fn open(alloc: Global, window: u64, logins: Logins) -> Hall
-        ensures { result ≡ record { logins = logins; log = record { window = window; history = []; freed = 0 }; sessions = []; last = 0; failed = false } }
+        ensures { result ≡ record { logins = logins; log = fresh_log window; sessions = []; last = 0; failed = false } }
     {
         Hall {
             alloc,
@@ -91,7 +89,8 @@ impl Hall {
 
     fn try_arrive(&mut self, conn: u32, moment: Moment, piece: &[u8]) -> Result<Vec<u8>, NoMemory>
         requires { self.old.last ≤ moment }
-        ensures takes { IfOk result (λ sent. Takes conn moment piece.now self.old self.new sent.items) }
+        // The hall that `arrive` leaves is this one, not failed.
+        ensures takes { IfOk result (λ sent. Takes conn moment piece.now self.old (record self.new { failed = false }) sent.items) }
         ensures failed { self.new.failed ≡ self.old.failed }
     {
         self.last = moment;
@@ -103,21 +102,23 @@ impl Hall {
     /// of its newest record and still held, and tells how many: the smaller of the two numbers. It
     /// takes no memory, and changes nothing of what is sent.
     pub fn sweep(&mut self, most: u64) -> u64
-        ensures freed { result ≡ min most (ended_count (horizon_at (opened self.old.log.window) self.old.log.history (last_of self.old.log.history)) self.old.log.history - self.old.log.freed) }
-        ensures swept { self.new ≡ record self.old { log = record self.old.log { freed = self.old.log.freed + result } } }
+        ensures freed { result ≡ min most (expired_in self.old.log) }
+        ensures swept { self.new ≡ record self.old { log = swept most self.old.log } }
     {
         self.drive.sweep(most)
     }
 
-    /// How many values and bindings the drive holds.
+    /// How many values and bindings the drive's store holds: at least those that aren't expired.
     pub fn used(&self) -> u64
-        ensures { result ≡ made_count self.now.log.history - self.now.log.freed }
+        ensures held { result ≡ self.now.log.held }
+        ensures least { needed self.now.log ≤ result }
     {
         self.drive.used()
     }
 
-    /// Takes the steps in turn on a fresh hall, and gives all that is sent, by connection. Where it
-    /// answers `NoMemory`, `arrive` does so from then on.
+    /// Takes the steps in turn on a fresh hall, and gives all that is sent, by connection. The hall is
+    /// then as `arrive` and `sweep` leave it. Where it answers `NoMemory`, `arrive` does so from then
+    /// on.
     ///
     /// For each principal other than the administrator, and where no request met want of memory,
     /// the bytes sent on its connections are those that the plain log gives once all strangers'
@@ -126,8 +127,9 @@ impl Hall {
         requires fresh { IsFresh self.old }
         requires moments { NeverDown 0 steps.now }
         ensures sent { IfOk result (λ sent. IsSent (opened self.old.log.window) self.old.logins steps.now (lists_of sent.items)) }
+        // The hall stands after the steps, with the replies that were sent, and hasn't failed.
+        ensures leaves { IfOk result (λ sent. Leaves self.old.log.window self.old.logins steps.now (lists_of sent.items) self.new) }
         ensures fails { OnErr result (self.new.failed ≡ true) }
-        ensures stays_failed { self.old.failed ≡ true → self.new.failed ≡ true }
     {
         let sent = self.try_run(steps);
         if sent.is_err() {
@@ -140,7 +142,7 @@ impl Hall {
         requires fresh { IsFresh self.old }
         requires moments { NeverDown 0 steps.now }
         ensures sent { IfOk result (λ sent. IsSent (opened self.old.log.window) self.old.logins steps.now (lists_of sent.items)) }
-        ensures stays_failed { OnOk result (self.old.failed ≡ true → self.new.failed ≡ true) }
+        ensures leaves { IfOk result (λ sent. Leaves self.old.log.window self.old.logins steps.now (lists_of sent.items) self.new) }
     {
         let mut outbox = Outbox::new(self.alloc);
         for step in steps {

@@ -5,6 +5,7 @@ ghost use Rattle.s4_types.specs.declared.principal.Caller as callers;
 ghost use Rattle.s4_types.specs.declared.reply.Reply as told;
 ghost use Rattle.s4_types.specs.declared.request.Request as asked;
 ghost use Rattle.s4_codec.specs.Format.{IsPrefixFree, IsReadBack, IsSpelledAsRead};
+ghost use Rattle.s4_session.specs.Determined.{EachRequestHasOneReply, RunsHaveOneListOfReplies, SentBytesDetermineReplies};
 ghost use Rattle.s4_session.specs.Hello as hellos;
 ghost use Rattle.s4_session.specs.Logins as table;
 ghost use Rattle.s4_session.specs.Sent.{sent_for};
@@ -38,4 +39,18 @@ pub fn hellos_have_one_spelling()
     ensures prefix_free { IsPrefixFree hellos.hello }
     ensures read_back { IsReadBack hellos.hello }
     ensures spelled { IsSpelledAsRead hellos.hello }
+{}
+
+/// Of replies, one to each request that is asked of a hall, each connection has one to each request
+/// that its bytes say. So what is sent on it drops nothing.
+pub fn each_request_has_one_reply()
+    ensures { EachRequestHasOneReply }
+{}
+
+/// The bytes that are sent on all connections determine the replies: two lists, each with one reply
+/// to each request and with replies that have spellings, are the same where the same bytes are sent.
+/// So what is said of the replies of a run of a hall is said of the bytes that it sends.
+pub fn sent_bytes_determine_replies()
+    ensures replies { SentBytesDetermineReplies }
+    ensures runs { RunsHaveOneListOfReplies }
 {}

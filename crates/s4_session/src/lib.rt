@@ -16,6 +16,9 @@ mod sessions;
 pub use event::{Event, Fault, Stand};
 pub use hall::Hall;
 pub use hall_step::HallStep;
-pub use laws::{connections_speak_in_order, cuts_change_nothing, hellos_have_one_spelling};
+pub use laws::{
+    connections_speak_in_order, cuts_change_nothing, each_request_has_one_reply,
+    hellos_have_one_spelling, sent_bytes_determine_replies,
+};
 pub use logins::{LoginFault, Logins};
 pub use session::{FeedError, Session};

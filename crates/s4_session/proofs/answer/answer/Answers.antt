@@ -1,10 +1,11 @@
 use Rattle.std.proofs.Common.{◌≡◌, ◌++◌, ◌∷◌, [], List, ℕ, sym, subst}
-use Rattle.std.specs.Prelude.{OnOk, Result, Ok, Err}
+use Rattle.std.specs.Prelude.{OnOk, IsTrue, Result, Ok, Err}
 use Rattle.s4_types.specs.declared.reply.Reply.{Reply}
 use Rattle.s4_types.specs.declared.request.Request as asked
 use Rattle.s4_types.specs.declared.principal.Caller.{Caller}
 use Rattle.s4_state.specs.Log.{Log}
 use Rattle.s4_drive.specs.Step.{Steps}
+use Rattle.s4_codec.specs.Replies.{has_body}
 use Rattle.s4_session.specs.declared.event.Event.{Event}
 use Rattle.s4_session.specs.declared.event.Event.TheVariants.{Request}
 use Rattle.s4_session.specs.Answered.{Answered}
@@ -14,15 +15,15 @@ use Rattle.s4_session.proofs.answer.answer.Goals as goal
 
 -- the same, where the frame was written
 on_ok : {E : Type 0} (result : Result (Unit {0}) E) (t : ℕ) (event : Event) (caller : Caller) (r : asked.Request) (old new : Log) (reply : Reply) (p q : List ℕ) → event ≡ Request caller r
-    → Steps old new t caller r reply → OnOk result (q ≡ p ++ reply_frame reply) → OnOk result (Answered t (event ∷ []) old new p q)
-on_ok (Ok x) t event caller r old new reply p q is made sent =
-    subst (λ (e : Event). Answered t (e ∷ []) old new p q) (sym is) (answered_request t caller r old new reply p q sent made)
-on_ok (Err x) t event caller r old new reply p q is made sent = tt
+    → Steps old new t caller r reply → OnOk result (q ≡ p ++ reply_frame reply) → OnOk result (IsTrue (has_body reply)) → OnOk result (Answered t (event ∷ []) old new p q)
+on_ok (Ok x) t event caller r old new reply p q is made sent body =
+    subst (λ (e : Event). Answered t (e ∷ []) old new p q) (sym is) (answered_request t caller r old new reply p q sent body made)
+on_ok (Err x) t event caller r old new reply p q is made sent body = tt
 
 pub returns-in-Request-clause-answered : goal.returns-in-Request-clause-answered
 returns-in-Request-clause-answered c =
     on_ok c.send_reply.result c.args.moment c.args.event.now c.in-Request.caller c.in-Request.request c.args.drive.now c.step-reply.new.self c.step-reply.result c.args.out.now.items c.send_reply.new.out.items
-    c.in-Request.is c.step-reply.ensures.steps c.send_reply.ensures
+    c.in-Request.is c.step-reply.ensures.steps c.send_reply.ensures.sent c.send_reply.ensures.body
 
 pub returns-in-Request-clause-last : goal.returns-in-Request-clause-last
 returns-in-Request-clause-last c =

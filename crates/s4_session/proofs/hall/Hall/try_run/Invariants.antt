@@ -1,4 +1,4 @@
-use Rattle.std.proofs.Common.{◌≡◌, true, take, drop}
+use Rattle.std.proofs.Common.{◌≡◌, false, take, drop}
 use Rattle.s4_session.specs.Arrivals.{NeverDown}
 use Rattle.s4_session.proofs.Sending.{Sends}
 use Rattle.s4_session.proofs.hall.Hall.try_run.Given as goal
@@ -7,5 +7,5 @@ abbrev pub invariant-loop-step : goal.invariant-loop-step
 invariant-loop-step l = record {
   sends : Sends l.fn.self.log.window l.fn.self.logins (take l.step-index l.steps) l.self l.outbox;
   down : NeverDown l.self.last (drop l.step-index l.steps);
-  failed : l.fn.self.failed ≡ true → l.self.failed ≡ true;
+  whole : l.self.failed ≡ false;
 }
