@@ -16,6 +16,10 @@ fn serial_of(drawn: Result<ObjectId, DrawError>) -> Option<u16> {
     }
 }
 
+fn next_serial(names: &Names, purse: &Purse) -> Option<u16> {
+    Some(names.next_object(purse)?.serial.number())
+}
+
 #[test]
 fn each_purse_draws_its_own_serials(rt: HostRuntime) -> Result<(), Fail> {
     let mut names = Names::new(rt.alloc());
@@ -26,6 +30,7 @@ fn each_purse_draws_its_own_serials(rt: HostRuntime) -> Result<(), Fail> {
     assert_eq!(rt; serial_of(names.draw(&home)), Some(1));
     assert_eq!(rt; serial_of(names.draw(&home)), Some(2));
     assert_eq!(rt; serial_of(names.draw(&other)), Some(1));
+    assert_eq!(rt; next_serial(&names, &home), Some(3));
     assert_eq!(rt; names.drawn(&home), 2);
     assert_eq!(rt; names.drawn(&other), 1);
     Ok(())
@@ -39,6 +44,7 @@ fn the_last_serial_is_65535(rt: HostRuntime) -> Result<(), Fail> {
         let _ = names.draw(&home);
     }
     assert_eq!(rt; serial_of(names.draw(&home)), Some(65535));
+    assert_eq!(rt; next_serial(&names, &home), None);
     assert_eq!(rt; names.draw(&home), Err(DrawError::NamesSpent));
     assert_eq!(rt; names.drawn(&home), 65535);
     assert_eq!(rt; names.drawn(&purse(0, 14)?), 0);

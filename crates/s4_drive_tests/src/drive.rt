@@ -1,34 +1,13 @@
 //! Requests to a drive over the plain store, and what it has to answer.
 
+use crate::given::{bytes, caller, object, purse};
 use s4_drive::{Drive, never_down};
 use s4_store::{Chain, PlainStore, Store};
-use s4_types::{
-    Bytes, Caller, Grant, Item, Moment, NoMemory, ObjectId, Principal, Purse, PurseNo, Reply,
-    Request, Serial, Step, Version,
-};
+use s4_types::{Grant, Item, Moment, NoMemory, ObjectId, Reply, Request, Step, Version};
 use std::alloc::Global;
 use std::cell::Cell;
 use std::process::Abort;
 use std::test::Fail;
-
-fn caller(who: u32) -> Result<Caller, Fail> {
-    let who = Principal::new(who).ok_or("a principal")?;
-    Ok(Caller { who, client: 3 })
-}
-
-fn object(creator: u32, number: u8, serial: u16) -> Result<ObjectId, Fail> {
-    Ok(ObjectId {
-        purse: Purse {
-            creator: Principal::new(creator).ok_or("a principal")?,
-            number: PurseNo::new(number).ok_or("a purse")?,
-        },
-        serial: Serial::new(serial).ok_or("a serial")?,
-    })
-}
-
-fn bytes(alloc: Global, text: &[u8]) -> Result<Bytes, Fail> {
-    Ok(Bytes::new(Vec::from_slice(alloc, text)?))
-}
 
 fn ask(moment: u64, who: u32, request: Request) -> Result<Step, Fail> {
     Ok(Step::Request {
@@ -39,7 +18,7 @@ fn ask(moment: u64, who: u32, request: Request) -> Result<Step, Fail> {
 }
 
 fn create(number: u8) -> Result<Request, Fail> {
-    let number = PurseNo::new(number).ok_or("a purse")?;
+    let number = purse(7, number)?.number;
     Ok(Request::Create { number })
 }
 
@@ -162,6 +141,79 @@ fn steps_are_answered_one_by_one(rt: HostRuntime) -> Result<(), Fail> {
 fn steps_are_answered_at_once(rt: HostRuntime) -> Result<(), Fail> {
     let alloc = rt.alloc();
     check_at_once(&rt, alloc, &mut fresh(alloc))
+}
+
+// Object 7.0.1 is made at 5 and written at 7, 8 and 9, and 7 reads it at this moment. At last a sweep
+// comes.
+fn written_thrice(alloc: Global, moment: u64, n: u64) -> Result<Vec<Step>, Fail> {
+    let o = object(7, 0, 1)?;
+    let mut steps = Vec::new(alloc);
+    steps.push(ask(5, 7, create(0)?)?)?;
+    steps.push(ask(7, 7, write(alloc, o, 0, b"a")?)?)?;
+    steps.push(ask(8, 7, write(alloc, o, 0, b"b")?)?)?;
+    steps.push(ask(9, 7, write(alloc, o, 0, b"c")?)?)?;
+    steps.push(ask(moment, 7, read(o, 0, 100))?)?;
+    steps.push(Step::Sweep { n })?;
+    Ok(steps)
+}
+
+// That the drive holds so many values once it was given these steps at once.
+fn check_used<S: Store<Version>>(
+    rt: &impl Abort,
+    drive: &mut Drive<S>,
+    steps: &[Step],
+    used: u64,
+) -> Result<(), Fail> {
+    assert!(rt; never_down(drive.last(), steps));
+    let replies = drive.run(steps)?;
+    assert_eq!(rt; replies.len(), steps.len().saturating_sub(1));
+    assert_eq!(rt; drive.used(), used);
+    Ok(())
+}
+
+// That the drive frees so many of what it holds, and holds so many then.
+fn check_rest<S: Store<Version>>(rt: &impl Abort, drive: &mut Drive<S>, freed: u64, used: u64) {
+    assert_eq!(rt; drive.sweep(1000000), freed);
+    assert_eq!(rt; drive.used(), used);
+}
+
+// That a drive holds so many values behind a sweep of n, and that a further one frees so many.
+fn check_swept<S: Store<Version>>(
+    rt: &impl Abort,
+    alloc: Global,
+    drive: &mut Drive<S>,
+    (moment, n): (u64, u64),
+    (used, rest): (u64, u64),
+) -> Result<(), Fail> {
+    assert_eq!(rt; drive.used(), 0);
+    check_used(rt, drive, &written_thrice(alloc, moment, n)?, used)?;
+    check_rest(rt, drive, rest, used.saturating_sub(rest));
+    Ok(())
+}
+
+// A window of 10 ticks. Of six values the data end at 7, 8 and 9. At 16 none of them is expired, at 17
+// the first is, at 18 the second, and at 19 all are.
+const SWEPT: [((u64, u64), (u64, u64)); 10] = [
+    ((16, 1000000), (6, 0)),
+    ((17, 1000000), (5, 0)),
+    ((18, 1000000), (4, 0)),
+    ((18, 1), (5, 1)),
+    ((18, 0), (6, 2)),
+    ((19, 0), (6, 3)),
+    ((19, 1), (5, 2)),
+    ((19, 2), (4, 1)),
+    ((19, 3), (3, 0)),
+    ((1000, 18446744073709551615), (3, 0)),
+];
+
+#[test]
+fn sweeps_of_a_run_free_what_is_expired(rt: HostRuntime) -> Result<(), Fail> {
+    let alloc = rt.alloc();
+    for (place, wanted) in SWEPT {
+        let store = PlainStore::new(alloc);
+        check_swept(&rt, alloc, &mut Drive::new(alloc, store, 10), place, wanted)?;
+    }
+    Ok(())
 }
 
 #[test]
@@ -292,7 +344,7 @@ fn check_spent<S: Store<Version>>(
 ) -> Result<(), Fail> {
     step_at(rt, drive, moment, request)?;
     assert_eq!(rt; drive.horizon(), Moment::new(horizon));
-    assert_eq!(rt; drive.spent(&object(7, 0, 1)?.purse), spent, "at {moment}");
+    assert_eq!(rt; drive.spent(&purse(7, 0)?), spent, "at {moment}");
     Ok(())
 }
 

@@ -1,6 +1,7 @@
 //! Readers and writers that are slow, narrow or fail.
 
 use std::alloc::Global;
+use std::cell::Cell;
 use std::io;
 use std::io::{ErrorKind, Read, Write};
 
@@ -10,6 +11,16 @@ pub struct Trickle<'a> {
     pub bytes: &'a [u8],
     pub is_ready: bool,
     pub fails: bool,
+}
+
+impl<'a> Trickle<'a> {
+    pub fn new(bytes: &'a [u8]) -> Trickle<'a> {
+        Trickle {
+            bytes,
+            is_ready: false,
+            fails: false,
+        }
+    }
 }
 
 impl Read for Trickle<'_> {
@@ -23,6 +34,44 @@ impl Read for Trickle<'_> {
         }
         let most = buf.len().min(1);
         self.bytes.read(&mut buf[..most])
+    }
+}
+
+/// Gives a byte at a time.
+#[derive(Drop)]
+pub struct Bytewise<'a>(pub &'a [u8]);
+
+impl Read for Bytewise<'_> {
+    fn read(&mut self, buf: &mut [u8]) -> io::Result<usize> {
+        let most = buf.len().min(1);
+        self.0.read(&mut buf[..most])
+    }
+}
+
+/// Is interrupted whenever it is asked, and counts how often.
+#[derive(Drop)]
+pub struct Restless<'a> {
+    pub asked: &'a Cell<u64>,
+}
+
+impl Read for Restless<'_> {
+    fn read(&mut self, _buf: &mut [u8]) -> io::Result<usize> {
+        self.asked.set(self.asked.get().wrapping_add(1));
+        Err(io::Error::from(ErrorKind::Interrupted))
+    }
+}
+
+/// Gives whatever stands where it is to write, and counts the bytes.
+#[derive(Drop)]
+pub struct Endless<'a> {
+    pub given: &'a Cell<u64>,
+}
+
+impl Read for Endless<'_> {
+    fn read(&mut self, buf: &mut [u8]) -> io::Result<usize> {
+        self.given
+            .set(self.given.get().wrapping_add(buf.len() as u64));
+        Ok(buf.len())
     }
 }
 

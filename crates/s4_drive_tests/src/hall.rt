@@ -5,6 +5,22 @@ use std::alloc::Global;
 use std::process::Abort;
 use std::test::Fail;
 
+/// That the hall sends this for a piece on a connection.
+pub fn check_arrival_on<A: Abort>(
+    rt: &A,
+    hall: &mut Hall,
+    (conn, tick): (u32, u64),
+    piece: &[u8],
+    sent: &[u8],
+) -> Result<(), Fail> {
+    let moment = Moment::new(tick);
+    assert!(rt; hall.last() <= moment);
+    let bytes = hall.arrive(conn, moment, piece)?;
+    assert_eq!(rt; bytes.as_slice(), sent);
+    assert_eq!(rt; hall.last(), moment);
+    Ok(())
+}
+
 /// That the hall sends this for a piece on connection 1.
 fn check_arrival<A: Abort>(
     rt: &A,
@@ -13,12 +29,7 @@ fn check_arrival<A: Abort>(
     piece: &[u8],
     sent: &[u8],
 ) -> Result<(), Fail> {
-    let moment = Moment::new(tick);
-    assert!(rt; hall.last() <= moment);
-    let bytes = hall.arrive(1, moment, piece)?;
-    assert_eq!(rt; bytes.as_slice(), sent);
-    assert_eq!(rt; hall.last(), moment);
-    Ok(())
+    check_arrival_on(rt, hall, (1, tick), piece, sent)
 }
 
 fn opened(alloc: Global, window: u64) -> Result<Hall, Fail> {

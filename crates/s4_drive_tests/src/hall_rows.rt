@@ -17,9 +17,10 @@ pub struct HallRow {
 pub const SEVEN: &str = "7 000102030405060708090a0b0c0d0e0f\n";
 
 /// Of streams without a fault.
-pub const ROWS_OF_STREAMS: [HallRow; 4] = [
+pub const ROWS_OF_STREAMS: [HallRow; 5] = [
     FIRST_STREAM,
     STRANGER_BETWEEN,
+    SWEPT_BETWEEN,
     LAST_BYTE_MISSING,
     EMPTY_PIECE,
 ];
@@ -66,6 +67,39 @@ pub const STRANGER_BETWEEN: HallRow = HallRow {
                8 1 00000012030000000700000001000000000000000500\n",
     output: "1 000000021001000000090100000007000000010000000100000000120201000000000000000006000568656c6c6f\n\
              2 000000021001000000090100000009000000010000000308010100000003060000\n",
+    error: "",
+};
+
+/// Principal 7 writes `hello` at moment 7 and makes `jello` of it at moment 8. With a window of 10, the
+/// empty data that ended at 7 are expired at 17 and `hello` is at 18: then it is too old. Each is freed
+/// by the sweep that comes next.
+pub const SWEPT_BETWEEN: HallRow = HallRow {
+    name: "swept_between",
+    logins: SEVEN,
+    arrivals: "window 10\n\
+               5 1 0000001a00010000000700000001000102030405060708090a0b0c0d0e0f\n\
+               6 1 000000020100\n\
+               7 1 0000001404000000070000000100000000000568656c6c6f\n\
+               8 1 000000100400000007000000010000000000016a\n\
+               sweep 1000000\n\
+               17 1 0000001a030000000700000001000000000000000501\
+               0000000000000007\n\
+               sweep 1000000\n\
+               17 1 0000001a030000000700000001000000000000000501\
+               0000000000000007\n\
+               18 1 0000001a030000000700000001000000000000000501\
+               0000000000000007\n\
+               sweep 1\n\
+               18 1 0000001a030000000700000001000000000000000501\
+               0000000000000008\n",
+    output: "1 000000021001\
+             00000009010000000700000001\
+             0000000100\
+             0000000100\
+             000000120201000000000000000006000568656c6c6f\
+             000000120201000000000000000006000568656c6c6f\
+             0000000a08050000000000000008\
+             00000012020100000000000000000600056a656c6c6f\n",
     error: "",
 };
 

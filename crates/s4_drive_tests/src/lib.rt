@@ -4,13 +4,21 @@
 #![tactic(auto)]
 
 #[cfg(test)]
+mod between;
+#[cfg(test)]
+mod bounds;
+#[cfg(test)]
 mod drive;
 #[cfg(test)]
 mod fakes;
 #[cfg(test)]
+mod given;
+#[cfg(test)]
 mod hall;
 #[cfg(test)]
 mod hall_rows;
+#[cfg(test)]
+mod hall_runs;
 #[cfg(test)]
 mod logins;
 #[cfg(test)]
@@ -19,6 +27,8 @@ mod rows;
 mod run_hall;
 #[cfg(test)]
 mod run_script;
+#[cfg(test)]
+mod scripts;
 #[cfg(test)]
 mod sessions;
 #[cfg(test)]

@@ -1,6 +1,6 @@
+use crate::given::principal;
 use crate::stream::logins;
 use s4_session::{LoginFault, Logins};
-use s4_types::Principal;
 use std::test::Fail;
 
 const SECRET: &[u8] = b"\x00\x01\x02\x03\x04\x05\x06\x07\x08\x09\x0a\x0b\x0c\x0d\x0e\x0f";
@@ -8,8 +8,8 @@ const SECRET: &[u8] = b"\x00\x01\x02\x03\x04\x05\x06\x07\x08\x09\x0a\x0b\x0c\x0d
 #[test]
 fn the_secret_of_a_login_is_accepted(rt: HostRuntime) -> Result<(), Fail> {
     let logins = logins(rt.alloc())?;
-    let seven = Principal::new(7).ok_or("a principal")?;
-    let nine = Principal::new(9).ok_or("a principal")?;
+    let seven = principal(7)?;
+    let nine = principal(9)?;
     assert!(rt; logins.accepts(&seven, SECRET));
     assert!(rt; !logins.accepts(&nine, SECRET));
     assert!(rt; !logins.accepts(&seven, &SECRET[1..]));
@@ -43,6 +43,10 @@ fn the_first_faulty_line_is_told(rt: HostRuntime) {
         ),
     ] {
         let read = Logins::read(alloc, text);
-        assert!(rt; matches!(&read, Err(fault) if *fault == wanted), "{text:?}");
+        assert!(rt;
+            matches!(&read, Err(fault) if *fault == wanted),
+            "{}",
+            text.escape_ascii()
+        );
     }
 }

@@ -917,7 +917,7 @@ const SMALLER_WINDOW_ACTS_AT_ONCE: Row = Row {
 };
 
 /// What a purse's past costs is compared with its budget, and what is expired costs nothing.
-const BUDGET_AND_HORIZON: Row = Row {
+pub const BUDGET_AND_HORIZON: Row = Row {
     name: "budget_and_horizon",
     script: "window 50\n\
              0 0 setbudget 7.0 200\n\

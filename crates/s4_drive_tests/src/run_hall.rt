@@ -32,22 +32,23 @@ fn written(alloc: Global, logins: &str, arrivals: &[u8]) -> Result<(Vec<u8>, Str
     }
 }
 
-/// That the program writes this for logins and arrivals.
+/// That the program writes this for the logins and arrivals of that name.
 fn check_written<A: Abort>(
     rt: &A,
     alloc: Global,
-    (logins, arrivals): (&str, &[u8]),
+    (name, logins, arrivals): (&str, &str, &[u8]),
     wanted: &str,
     told: &str,
 ) -> Result<(), Fail> {
     let (output, error) = written(alloc, logins, arrivals)?;
-    assert_eq!(rt; output.as_slice(), wanted.as_bytes(), "at {arrivals:?}");
-    assert_eq!(rt; error.as_str(), told, "at {arrivals:?}");
+    let output = std::str::from_utf8(&output).map_err(|_| "a text")?;
+    assert_eq!(rt; output, wanted, "{name}: {}", arrivals.escape_ascii());
+    assert_eq!(rt; error.as_str(), told, "{name}: {}", arrivals.escape_ascii());
     Ok(())
 }
 
 fn check_row<A: Abort>(rt: &A, alloc: Global, row: &HallRow) -> Result<(), Fail> {
-    let texts = (row.logins, row.arrivals.as_bytes());
+    let texts = (row.name, row.logins, row.arrivals.as_bytes());
     check_written(rt, alloc, texts, row.output, row.error)
 }
 
@@ -93,7 +94,8 @@ fn rows_of_largest_frames(rt: HostRuntime) -> Result<(), Fail> {
     let alloc = rt.alloc();
     for (count, answer) in [("1ff1", "0807"), ("1ff0", "1101")] {
         let (arrivals, wanted) = largest_frame(alloc, count, answer)?;
-        check_written(&rt, alloc, (SEVEN, arrivals.as_bytes()), &wanted, "")?;
+        let texts = ("largest_frame", SEVEN, arrivals.as_bytes());
+        check_written(&rt, alloc, texts, &wanted, "")?;
     }
     Ok(())
 }
@@ -102,7 +104,8 @@ fn rows_of_largest_frames(rt: HostRuntime) -> Result<(), Fail> {
 fn row_of_a_cut_at_any_byte(rt: HostRuntime) -> Result<(), Fail> {
     let alloc = rt.alloc();
     let (arrivals, wanted) = cut_at_any_byte(alloc)?;
-    check_written(&rt, alloc, (SEVEN, arrivals.as_bytes()), &wanted, "")
+    let texts = ("cut_at_any_byte", SEVEN, arrivals.as_bytes());
+    check_written(&rt, alloc, texts, &wanted, "")
 }
 
 /// Whatever the pieces, the same is sent.
@@ -111,13 +114,8 @@ fn first_stream_cut_at_every_byte(rt: HostRuntime) -> Result<(), Fail> {
     let alloc = rt.alloc();
     for width in 1..=30u8 {
         let arrivals = first_stream_in_pieces(alloc, width)?;
-        check_written(
-            &rt,
-            alloc,
-            (SEVEN, arrivals.as_bytes()),
-            FIRST_STREAM.output,
-            "",
-        )?;
+        let texts = ("first_stream in pieces", SEVEN, arrivals.as_bytes());
+        check_written(&rt, alloc, texts, FIRST_STREAM.output, "")?;
     }
     Ok(())
 }
@@ -155,7 +153,8 @@ const GOOD_ARRIVALS: [(&str, &str); 4] = [
 fn good_arrivals(rt: HostRuntime) -> Result<(), Fail> {
     let alloc = rt.alloc();
     for (arrivals, wanted) in &GOOD_ARRIVALS {
-        check_written(&rt, alloc, (SEVEN, arrivals.as_bytes()), wanted, "")?;
+        let texts = ("good_arrivals", SEVEN, arrivals.as_bytes());
+        check_written(&rt, alloc, texts, wanted, "")?;
     }
     Ok(())
 }
@@ -183,7 +182,7 @@ const BAD_ARRIVALS: [(&[u8], &str); 8] = [
 fn bad_arrivals(rt: HostRuntime) -> Result<(), Fail> {
     let alloc = rt.alloc();
     for (arrivals, told) in &BAD_ARRIVALS {
-        check_written(&rt, alloc, (SEVEN, arrivals), "", told)?;
+        check_written(&rt, alloc, ("bad_arrivals", SEVEN, arrivals), "", told)?;
     }
     Ok(())
 }

@@ -1,47 +1,31 @@
 //! A state without records. The calls on one with records are tried through the drive.
 
+ghost use Rattle.s4_state.specs.Log.{fresh_log};
 ghost use Rattle.std.specs.Prelude.{◌≡◌, []};
 
+use crate::given::{caller, object, purse};
 use s4_state::State;
 use s4_store::{PlainStore, Store};
-use s4_types::{
-    Caller, Moment, Name, ObjectId, Principal, Purse, PurseNo, Refusal, Right, Serial, Version,
-};
+use s4_types::{Moment, Name, Refusal, Right, Version};
 use std::alloc::Global;
 use std::process::Abort;
 use std::test::Fail;
 
-fn seven() -> Result<Caller, Fail> {
-    let who = Principal::new(7).ok_or("a principal")?;
-    Ok(Caller { who, client: 0 })
-}
-
-// The first object of purse 7.0.
-fn first_object() -> Result<ObjectId, Fail> {
-    let creator = seven()?.who;
-    let number = PurseNo::new(0).ok_or("a purse")?;
-    let serial = Serial::new(1).ok_or("a serial")?;
-    Ok(ObjectId {
-        purse: Purse { creator, number },
-        serial,
-    })
-}
-
 // It was never made.
 fn check_object<S: Store<Version>>(rt: &impl Abort, state: &State<S>) -> Result<(), Fail> {
-    let object = first_object()?;
+    let object = object(7, 0, 1)?;
     assert_eq!(rt; state.next_object(&object.purse), Some(object));
     assert!(rt; !state.has_name(&object));
-    let judged = state.judge(seven()?, &object, Right::Write, None);
+    let judged = state.judge(caller(7)?, &object, Right::Write, None);
     assert_eq!(rt; judged.err(), Some(Refusal::NoObject));
     Ok(())
 }
 
 // It has empty values.
 fn check_values<S: Store<Version>>(rt: &impl Abort, state: &State<S>) -> Result<(), Fail>
-    requires { state.now ≡ record { window = 100; history = []; freed = 0 } }
+    requires { state.now ≡ fresh_log 100 }
 {
-    let object = first_object()?;
+    let object = object(7, 0, 1)?;
     let at = Some(Moment::new(3));
     let data = state.data(&object, at).ok_or("data")?;
     let attributes = state.attributes(&object, None).ok_or("attributes")?;
@@ -52,14 +36,14 @@ fn check_values<S: Store<Version>>(rt: &impl Abort, state: &State<S>) -> Result<
 
 // No name is bound.
 fn check_names<S: Store<Version>>(rt: &impl Abort, state: &State<S>) -> Result<(), Fail>
-    requires { state.now ≡ record { window = 100; history = []; freed = 0 } }
+    requires { state.now ≡ fresh_log 100 }
 {
-    let purse = first_object()?.purse;
+    let purse = purse(7, 0)?;
     let name = Name::new(b"home").ok_or("a name")?;
     let at = Some(Moment::new(3));
     assert_eq!(rt; state.bound(&purse, &name, at), None);
     assert_eq!(rt; state.bound_count(&purse), 0);
-    let caller = seven()?;
+    let caller = caller(7)?;
     let page = state.page(Moment::new(5), caller, caller.who, &None, &at)?;
     assert!(rt; page.lines.as_slice().is_empty() && !page.more);
     Ok(())
@@ -68,14 +52,14 @@ fn check_names<S: Store<Version>>(rt: &impl Abort, state: &State<S>) -> Result<(
 // Nothing was asked.
 fn check_records<S: Store<Version>>(rt: &impl Abort, state: &State<S>) -> Result<(), Fail> {
     assert!(rt; state.history().is_empty());
-    let caller = seven()?;
+    let caller = caller(7)?;
     let page = state.audit_page(&caller, caller.who, 0, Moment::new(0))?;
     assert!(rt; page.lines.as_slice().is_empty() && !page.more);
     Ok(())
 }
 
 fn fresh(alloc: Global) -> State<PlainStore<Version>>
-    ensures { result ≡ record { window = 100; history = []; freed = 0 } }
+    ensures { result ≡ fresh_log 100 }
 {
     State::new(alloc, PlainStore::new(alloc), 100)
 }

@@ -30,6 +30,9 @@ pub const DONE: &[u8] = b"\x00\x00\x00\x01\x00";
 pub const DATA: &[u8] =
     b"\x00\x00\x00\x12\x02\x01\x00\x00\x00\x00\x00\x00\x00\x00\x06\x00\x05hello";
 
+/// That 9, which isn't in the ACL of the object 7.0.1, may not read it.
+pub const DENIED: &[u8] = b"\x00\x00\x00\x03\x08\x01\x01";
+
 pub fn logins(alloc: Global) -> Result<Logins, Fail> {
     match Logins::read(alloc, LOGINS) {
         Ok(logins) => Ok(logins),

@@ -98,7 +98,7 @@ struct Run {
 
 impl Run {
     fn open(alloc: Global, window: u64) -> Run
-        ensures drive { result.drive ≡ record { window = window; history = []; freed = 0 } }
+        ensures drive { result.drive ≡ record { window = window; history = []; held = 0 } }
         ensures moment { result.moment ≡ 0 }
     {
         Run {

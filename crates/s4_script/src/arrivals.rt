@@ -14,7 +14,7 @@ pub enum ArrivalLine {
         conn: u32,
         piece: Bytes,
     },
-    /// At most `n` values may be freed that no request can reach any more.
+    /// At most `n` values and bindings are freed that are expired and still held.
     Sweep {
         n: u64,
     },

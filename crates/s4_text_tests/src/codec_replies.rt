@@ -1,28 +1,13 @@
 //! Bytes of replies, taken from the format's table and from worked examples.
 
+use crate::given::{bytes, name, object, principal};
 use s4_codec::{FRAME_LIMIT, ReadError, WriteError, read_reply, write_reply};
 use s4_types::{
-    AuditLine, AuditLines, Bytes, Grant, Moment, Name, NameLine, NameLines, ObjectId, Principal,
-    Purse, PurseNo, Refusal, Reply, Right, Rights, Serial,
+    AuditLine, AuditLines, Bytes, Grant, Moment, NameLine, NameLines, Refusal, Reply, Right, Rights,
 };
 use std::alloc::Global;
 use std::process::Abort;
 use std::test::Fail;
-
-fn bytes(alloc: Global, text: &[u8]) -> Result<Bytes, Fail> {
-    Ok(Bytes::new(Vec::from_slice(alloc, text)?))
-}
-
-/// The object 7.0.1.
-fn object() -> Result<ObjectId, Fail> {
-    Ok(ObjectId {
-        purse: Purse {
-            creator: Principal::new(7).ok_or("a principal")?,
-            number: PurseNo::new(0).ok_or("a purse")?,
-        },
-        serial: Serial::new(1).ok_or("a serial")?,
-    })
-}
 
 fn entry(index: u8, since: u64) -> Grant {
     Grant::Entry {
@@ -33,8 +18,8 @@ fn entry(index: u8, since: u64) -> Grant {
 
 fn name_line(grant: Grant) -> Result<NameLine, Fail> {
     Ok(NameLine {
-        name: Name::new(b"home").ok_or("a name")?,
-        object: object()?,
+        name: name(b"home")?,
+        object: object(7, 0, 1)?,
         grant,
     })
 }
@@ -54,7 +39,7 @@ fn page(alloc: Global, count: usize) -> Result<Reply, Fail> {
 fn audit_line(code: u8, is_wide: bool, reply: u8) -> Result<AuditLine, Fail> {
     Ok(AuditLine {
         moment: Moment::new(8),
-        who: Principal::new(7).ok_or("a principal")?,
+        who: principal(7)?,
         client: 0,
         code,
         is_wide,
@@ -75,7 +60,7 @@ fn check_spelling(rt: &impl Abort, alloc: Global, reply: Reply, body: &[u8]) -> 
 #[test]
 fn spellings_of_replies_to_changes(rt: HostRuntime) -> Result<(), Fail> {
     let alloc = rt.alloc();
-    let object = object()?;
+    let object = object(7, 0, 1)?;
     check_spelling(&rt, alloc, Reply::Done, b"\x00")?;
     check_spelling(
         &rt,
@@ -112,7 +97,7 @@ fn spellings_of_replies_to_reads(rt: HostRuntime) -> Result<(), Fail> {
         Reply::Entry {
             grant: entry(15, 258),
             index: 15,
-            user: Principal::new(9).ok_or("a principal")?,
+            user: principal(9)?,
             rights: Rights::all(),
         },
         b"\x04\x01\x0f\x00\x00\x00\x00\x00\x00\x01\x02\x0f\x00\x00\x00\x09\x1f",
@@ -122,7 +107,7 @@ fn spellings_of_replies_to_reads(rt: HostRuntime) -> Result<(), Fail> {
         alloc,
         Reply::Mounted {
             grant: Grant::Admin,
-            object: object()?,
+            object: object(7, 0, 1)?,
         },
         b"\x05\x00\x00\x00\x00\x07\x00\x00\x00\x01",
     )
@@ -242,7 +227,7 @@ fn bodies_of_no_reply(rt: HostRuntime) {
 #[test]
 fn replies_without_a_spelling(rt: HostRuntime) -> Result<(), Fail> {
     let alloc = rt.alloc();
-    let user = object()?.purse.creator;
+    let user = object(7, 0, 1)?.purse.creator;
     for (grant, index, rights) in [
         (Grant::Owner, 0, Rights::all()),
         (entry(16, 6), 0, Rights::all()),

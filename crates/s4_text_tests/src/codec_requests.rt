@@ -1,41 +1,13 @@
 //! Bytes of frames and requests, taken from the format's table and from worked examples.
 
+use crate::given::{bytes, name, object, principal, purse, purse_number};
 use s4_codec::{
     FRAME_LIMIT, Front, ReadError, WriteError, read_frame, read_request, write_request,
 };
-use s4_types::{
-    After, Bytes, Moment, Name, ObjectId, Principal, Purse, PurseNo, Request, Rights, Serial,
-};
+use s4_types::{After, Bytes, Moment, Request, Rights};
 use std::alloc::Global;
 use std::process::Abort;
 use std::test::Fail;
-
-fn bytes(alloc: Global, text: &[u8]) -> Result<Bytes, Fail> {
-    Ok(Bytes::new(Vec::from_slice(alloc, text)?))
-}
-
-fn named(text: &[u8]) -> Result<Name, Fail> {
-    Ok(Name::new(text).ok_or("a name")?)
-}
-
-fn principal(number: u32) -> Result<Principal, Fail> {
-    Ok(Principal::new(number).ok_or("a principal")?)
-}
-
-fn purse(creator: u32, number: u8) -> Result<Purse, Fail> {
-    Ok(Purse {
-        creator: principal(creator)?,
-        number: PurseNo::new(number).ok_or("a purse")?,
-    })
-}
-
-/// The object 7.0.1.
-fn object() -> Result<ObjectId, Fail> {
-    Ok(ObjectId {
-        purse: purse(7, 0)?,
-        serial: Serial::new(1).ok_or("a serial")?,
-    })
-}
 
 /// That the request is written as this body, and read from it.
 fn is_spelled(alloc: Global, request: &Request, body: &[u8]) -> Result<bool, Fail> {
@@ -83,13 +55,13 @@ fn frames_at_their_borders(rt: HostRuntime) {
 #[test]
 fn spellings_of_changes_of_objects(rt: HostRuntime) -> Result<(), Fail> {
     let alloc = rt.alloc();
-    let object = object()?;
+    let object = object(7, 0, 1)?;
     let user = principal(9)?;
     check_spelling(
         &rt,
         alloc,
         Request::Create {
-            number: PurseNo::new(0).ok_or("a purse")?,
+            number: purse_number(0)?,
         },
         b"\x01\x00",
     )?;
@@ -123,7 +95,7 @@ fn spellings_of_changes_of_objects(rt: HostRuntime) -> Result<(), Fail> {
 #[test]
 fn spellings_of_changes_that_bring_bytes(rt: HostRuntime) -> Result<(), Fail> {
     let alloc = rt.alloc();
-    let object = object()?;
+    let object = object(7, 0, 1)?;
     check_spelling(
         &rt,
         alloc,
@@ -157,12 +129,12 @@ fn spellings_of_changes_that_bring_bytes(rt: HostRuntime) -> Result<(), Fail> {
 #[test]
 fn spellings_of_changes_of_names(rt: HostRuntime) -> Result<(), Fail> {
     let alloc = rt.alloc();
-    let object = object()?;
+    let object = object(7, 0, 1)?;
     check_spelling(
         &rt,
         alloc,
         Request::PCreate {
-            name: named(b"home")?,
+            name: name(b"home")?,
             object,
         },
         b"\x0c\x04home\x00\x00\x00\x07\x00\x00\x00\x01",
@@ -172,7 +144,7 @@ fn spellings_of_changes_of_names(rt: HostRuntime) -> Result<(), Fail> {
         alloc,
         Request::PDelete {
             purse: purse(7, 15)?,
-            name: named(b"a-0")?,
+            name: name(b"a-0")?,
         },
         b"\x0d\x00\x00\x00\x07\x0f\x03a-0",
     )
@@ -181,7 +153,7 @@ fn spellings_of_changes_of_names(rt: HostRuntime) -> Result<(), Fail> {
 #[test]
 fn spellings_of_what_the_administrator_changes(rt: HostRuntime) -> Result<(), Fail> {
     let alloc = rt.alloc();
-    let object = object()?;
+    let object = object(7, 0, 1)?;
     let (from, to) = (Moment::new(5), Moment::new(6));
     check_spelling(
         &rt,
@@ -221,7 +193,7 @@ fn spellings_of_reads_of_objects(rt: HostRuntime) -> Result<(), Fail> {
         &rt,
         alloc,
         Request::Read {
-            object: object()?,
+            object: object(7, 0, 1)?,
             offset: 0,
             length: 5,
             at: None,
@@ -232,7 +204,7 @@ fn spellings_of_reads_of_objects(rt: HostRuntime) -> Result<(), Fail> {
         &rt,
         alloc,
         Request::GetAttr {
-            object: object()?,
+            object: object(7, 0, 1)?,
             at: Some(Moment::new(258)),
         },
         b"\x07\x00\x00\x00\x07\x00\x00\x00\x01\x01\x00\x00\x00\x00\x00\x00\x01\x02",
@@ -241,7 +213,7 @@ fn spellings_of_reads_of_objects(rt: HostRuntime) -> Result<(), Fail> {
         &rt,
         alloc,
         Request::GetAclByUser {
-            object: object()?,
+            object: object(7, 0, 1)?,
             user,
             at: None,
         },
@@ -251,7 +223,7 @@ fn spellings_of_reads_of_objects(rt: HostRuntime) -> Result<(), Fail> {
         &rt,
         alloc,
         Request::GetAclByIndex {
-            object: object()?,
+            object: object(7, 0, 1)?,
             index: 255,
             at: None,
         },
@@ -280,8 +252,8 @@ fn spellings_of_reads_of_names(rt: HostRuntime) -> Result<(), Fail> {
         Request::PList {
             range,
             after: Some(After {
-                number: PurseNo::new(1).ok_or("a purse")?,
-                name: named(b"b1")?,
+                number: purse_number(1)?,
+                name: name(b"b1")?,
             }),
             at: None,
         },
@@ -292,7 +264,7 @@ fn spellings_of_reads_of_names(rt: HostRuntime) -> Result<(), Fail> {
         alloc,
         Request::PMount {
             purse: purse(7, 0)?,
-            name: named(b"home")?,
+            name: name(b"home")?,
             at: None,
         },
         b"\x0f\x00\x00\x00\x07\x00\x04home\x00",
@@ -350,7 +322,7 @@ fn largest_request(rt: HostRuntime) -> Result<(), Fail> {
     let alloc = rt.alloc();
     for (length, fits) in [(8177, true), (8178, false), (65536, false)] {
         let request = Request::Write {
-            object: object()?,
+            object: object(7, 0, 1)?,
             offset: 0,
             bytes: Bytes::new(vec![in alloc; 97; length]?),
         };

@@ -8,4 +8,6 @@ mod codec_replies;
 #[cfg(test)]
 mod codec_requests;
 #[cfg(test)]
+mod given;
+#[cfg(test)]
 mod script;

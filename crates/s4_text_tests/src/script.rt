@@ -1,33 +1,20 @@
+use crate::given::{name, object, principal, purse, purse_number};
 use s4_script::{Line, ParseError, ReplyText, UsedText, parse_line, parse_window};
 use s4_types::{
-    AuditLine, AuditLines, Bytes, Caller, Grant, Moment, Name, NameLine, NameLines, ObjectId,
-    Principal, Purse, PurseNo, Refusal, Reply, Request, Right, Rights, Serial, Step,
+    AuditLine, AuditLines, Bytes, Caller, Grant, Moment, NameLine, NameLines, Refusal, Reply,
+    Request, Right, Rights, Step,
 };
 use std::alloc::Global;
 use std::process::Abort;
 use std::test::Fail;
 
-fn principal(number: u32) -> Result<Principal, Fail> {
-    Ok(Principal::new(number).ok_or("a principal")?)
-}
-
-fn purse_number(number: u8) -> Result<PurseNo, Fail> {
-    Ok(PurseNo::new(number).ok_or("a purse number")?)
-}
-
-fn object(creator: u32, number: u8, serial: u16) -> Result<ObjectId, Fail> {
-    Ok(ObjectId {
-        purse: Purse {
-            creator: principal(creator)?,
-            number: purse_number(number)?,
-        },
-        serial: Serial::new(serial).ok_or("a serial")?,
-    })
-}
-
 /// That a line spells this.
 fn check_line<A: Abort>(rt: &A, alloc: Global, text: &[u8], line: &Line) {
-    assert!(rt; parse_line(alloc, text).as_ref() == Ok(line), "at {text:?}");
+    assert!(rt;
+        parse_line(alloc, text).as_ref() == Ok(line),
+        "at {}",
+        text.escape_ascii()
+    );
 }
 
 /// That this is the text of a reply.
@@ -74,7 +61,7 @@ fn good_lines_of_budgets(rt: HostRuntime) -> Result<(), Fail> {
         moment: Moment::new(0),
         caller: Caller { who, client: 0 },
         request: Request::SetBudget {
-            purse: object(7, 15, 1)?.purse,
+            purse: purse(7, 15)?,
             budget: u32::MAX,
         },
     });
@@ -290,9 +277,9 @@ fn by_an_entry() -> Grant {
 fn page(alloc: Global, names: &[&str], more: bool) -> Result<Reply, Fail> {
     let object = object(9, 0, 2)?;
     let mut lines = Vec::new(alloc);
-    for name in names {
+    for text in names {
         lines.push(NameLine {
-            name: Name::new(name.as_bytes()).ok_or("a name")?,
+            name: name(text.as_bytes())?,
             object,
             grant: by_an_entry(),
         })?;
