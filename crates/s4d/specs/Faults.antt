@@ -1,8 +1,9 @@
 -- What the program exits with, and what it tells.
-use Rattle.std.specs.Prelude.{ℕ, List, string_bytes}
+use Rattle.std.specs.Prelude.{◌≡◌, ⊤, ℕ, List, string_bytes}
 use Rattle.s4d.specs.declared.fault.Fault.{Fault}
 use Rattle.s4d.specs.declared.fault.Fault.TheVariants as fault
 use Rattle.s4_run.specs.Texts as run
+use Rattle.s4_run.specs.declared.fault.RunFault.TheVariants as run_fault
 
 -- what the program exits with: 2 where the command line spells no command, or else 1
 abbrev pub exit_status : Fault → ℕ
@@ -13,3 +14,9 @@ exit_status (fault.Run why) = 1
 abbrev pub fault_text : Fault → List ℕ
 fault_text (fault.CommandLine text) = string_bytes text
 fault_text (fault.Run why) = run.fault_text why
+
+-- it is the fault of a command line that is told by this text, unless memory ran out
+abbrev pub IsFaultOf : List ℕ → Fault → Type 0
+IsFaultOf said (fault.CommandLine text) = string_bytes text ≡ said
+IsFaultOf said (fault.Run run_fault.NoMemory) = ⊤
+IsFaultOf said (fault.Run other) = ⊥

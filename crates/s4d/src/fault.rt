@@ -1,12 +1,12 @@
 //! What ends the program without success.
 
 ghost use Rattle.std.specs.Prelude.{◌≡◌, ◌++◌, Some, codes};
-ghost use Rattle.s4d.specs.Faults.{exit_status, fault_text};
+ghost use Rattle.s4d.specs.Faults.{IsFaultOf, exit_status, fault_text};
 ghost use Rattle.s4d.specs.declared.fault.Fault.TheVariants as fault;
 ghost use Rattle.s4_run.specs.declared.fault.RunFault.TheVariants as run_fault;
 
 use s4_run::RunFault;
-use std::alloc::{AllocError, AllocFailed};
+use std::alloc::{AllocError, AllocFailed, Global};
 use std::fmt;
 use thiserror::Error;
 
@@ -20,6 +20,13 @@ pub enum Fault {
 }
 
 impl Fault {
+    /// The fault of words that spell no command, of which the text says how.
+    pub fn of_words(alloc: Global, text: &str) -> Fault
+        ensures { IsFaultOf text.now result }
+    {
+        String::from_str(alloc, text).map_or_else(Fault::from, Fault::CommandLine)
+    }
+
     /// What the program exits with.
     pub fn status(&self) -> u8
         ensures { result ≡ exit_status self.now }

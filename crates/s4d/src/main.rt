@@ -1,6 +1,12 @@
 //! The command `s4d`, by which the drive is used.
 #![tactic(auto)]
 
+ghost use Rattle.std.specs.Prelude.{◌≡◌, IsOk, IfErr, OnOk};
+ghost use Rattle.std.specs.Io.KnownBytes.{Appends};
+ghost use Rattle.std.specs.Process.{exit_status as code_of};
+ghost use Rattle.s4d.specs.Commands.{IsObeyed};
+ghost use Rattle.s4d.specs.Faults.{exit_status};
+
 mod command;
 mod fault;
 #[cfg(test)]
@@ -10,39 +16,70 @@ use command::Command;
 use fault::{Fault, FaultText};
 use s4_run::RunFault;
 use std::io;
-use std::io::BufWriter;
+use std::io::{BufWriter, Read, Write};
 use std::process::ExitCode;
 use std::rt::Files;
 
 fn main(rt: HostRuntime) -> ExitCode {
-    match command::given(&rt).and_then(|command| obey(&rt, &command)) {
+    let outcome = command::given(&rt).and_then(|command| answer(&rt, &command));
+    ended(&rt, &outcome)
+}
+
+/// What the program exits with; a fault is told on standard error.
+fn ended<R: Eprint>(rt: &R, outcome: &Result<(), Fault>) -> ExitCode
+    ensures done { IsOk outcome.now → code_of result ≡ 0 }
+    ensures fault { IfErr outcome.now (λ fault. code_of result ≡ exit_status fault) }
+{
+    match outcome {
         Ok(()) => ExitCode::SUCCESS,
         Err(fault) => {
-            let _ = eprintln!(rt; "{}", FaultText(&fault));
+            let _ = eprintln!(rt; "{}", FaultText(fault));
             ExitCode::from(fault.status())
         }
     }
 }
 
-fn obey<R: Files + Input + Print + AllocGlobal>(rt: &R, command: &Command) -> Result<(), Fault> {
+/// Does what the command asks for, from standard input to standard output.
+fn answer<R: Files + Input + Print + AllocGlobal>(rt: &R, command: &Command) -> Result<(), Fault> {
+    let mut output = BufWriter::new(rt.alloc(), io::writer(rt)).map_err(RunFault::writing)?;
+    obey(rt, command, rt.reader(), &mut output)
+}
+
+/// Does what the command asks for, from the input to the output. A file of logins is one of `files`.
+fn obey<F: Files + AllocGlobal, R: Read + Drop, W: Write>(
+    files: &F,
+    command: &Command,
+    input: R,
+    output: &mut W,
+) -> Result<(), Fault>
+    ensures shown { OnOk result (IsObeyed command.now (W.contents output.old) (W.contents output.new)) }
+{
     match command {
-        Command::Help(text) => print!(rt; "{text}").map_err(RunFault::writing)?,
-        Command::Run => run(rt)?,
-        Command::Hall(logins) => run_hall(rt, logins)?,
+        Command::Show(text) => show(output, text)?,
+        Command::Run => s4_run::run_script(files.alloc(), input, output)?,
+        Command::Hall(path) => run_hall(files, path, input, output)?,
     }
     Ok(())
 }
 
-/// Runs the script on standard input, and writes its replies to standard output.
-fn run<R: Input + Print + AllocGlobal>(rt: &R) -> Result<(), RunFault> {
-    let mut writer = BufWriter::new(rt.alloc(), io::writer(rt)).map_err(RunFault::writing)?;
-    s4_run::run_script(rt.alloc(), rt.reader(), &mut writer)
+/// Writes the text.
+fn show<W: Write>(output: &mut W, text: &str) -> Result<(), RunFault>
+    ensures shown { OnOk result (Appends (W.contents output.old) (W.contents output.new) text.now) }
+{
+    output
+        .write_all(text.as_bytes())
+        .map_err(RunFault::writing)?;
+    output.flush().map_err(RunFault::writing)
 }
 
-/// Runs the arrivals on standard input on a hall of the logins in the file with that path, and writes
-/// what each connection is sent to standard output.
-fn run_hall<R: Files + Input + Print + AllocGlobal>(rt: &R, path: &str) -> Result<(), RunFault> {
-    let logins = s4_run::open_logins(rt, path)?;
-    let mut writer = BufWriter::new(rt.alloc(), io::writer(rt)).map_err(RunFault::writing)?;
-    s4_run::run_hall(rt.alloc(), logins, rt.reader(), &mut writer)
+/// Runs the arrivals of the input on a hall of the logins in the file with that path, and writes what
+/// each connection is sent.
+fn run_hall<F: Files + AllocGlobal, R: Read + Drop, W: Write>(
+    files: &F,
+    path: &str,
+    input: R,
+    output: &mut W,
+) -> Result<(), RunFault> {
+    let logins = s4_run::open_logins(files, path)?;
+    s4_run::run_hall(files.alloc(), logins, input, output)
 }
