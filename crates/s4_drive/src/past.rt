@@ -29,7 +29,8 @@ pub enum Past {
 impl Past {
     /// What the request makes past, where it is carried out.
     pub fn of<S: Store<Version>>(state: &State<S>, request: &Request) -> Past
-        ensures value { (t : ℕ) → last_of state.now.history ≤ t → costs_of result ≡ made_past (base_of state.now) state.now.history t request.now }
+        ensures value { (t : ℕ) → last_of state.now.history ≤ t
+            → costs_of result ≡ made_past (base_of state.now) state.now.history t request.now }
         ensures small { sum (costs_of result) ≤ 4800 }
         ensures positive { ArePositive (costs_of result) }
     {
