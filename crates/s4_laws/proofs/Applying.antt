@@ -14,7 +14,7 @@ use Rattle.s4_laws.specs.Bases.{IsBase}
 use Rattle.s4_types.proofs.Booleans.{by_test, &&-false, &&-true}
 use Rattle.s4_laws.proofs.Old.{EndsBy, Old, IsKept, step-old}
 
-not-by : (m n : ℕ) → m < n → nat_le n m ≡ false
+pub not-by : (m n : ℕ) → m < n → nat_le n m ≡ false
 not-by m n e = by_test (nat_le n m) (λ f. let g : n ≤ m = leb-true n m f in absurd (omega (arith, e, g))) (λ f. f)
 
 ends-later : (m n : ℕ) (end : Option ℕ) → m < n → ends_by m (end_at n end) ≡ ends_by m end
@@ -23,10 +23,10 @@ ends-later m n (Some x) e = refl
 
 module _ {V : Type 0} where
   -- the value, but for the moments at which it began and ended
-  abbrev held : Option (Value V) → Option V
+  abbrev pub held : Option (Value V) → Option V
   held kept = option_map (λ (v : Value V). v.value) kept
 
-  abbrev current : Option (Standing V) → Option V
+  abbrev pub current : Option (Standing V) → Option V
   current kept = option_map (λ (v : Standing V). v.value) kept
 
   -- WHAT IS CURRENT
@@ -36,13 +36,13 @@ module _ {V : Type 0} where
   unended-force m v (Some x) f = ap (λ b. held (if b then None else Some v)) (le-leb x m f)
 
   -- of values that are old by then the current one is in force
-  force-current : (m : ℕ) (vs : List (Value V)) → Old m vs → held (in_force_by m vs) ≡ current (standing vs)
+  pub force-current : (m : ℕ) (vs : List (Value V)) → Old m vs → held (in_force_by m vs) ≡ current (standing vs)
   force-current m [] f = refl
   force-current m (v ∷ past) f =
       ap (λ b. held (if b then (if ends_by m v.end then None else Some v) else in_force_by m past)) (le-leb v.begin m f.0)
       ∙ unended-force m v v.end f.1
 
-  current-end : (m : ℕ) (vs : List (Value V)) → current (standing (with_end m vs)) ≡ None
+  pub current-end : (m : ℕ) (vs : List (Value V)) → current (standing (with_end m vs)) ≡ None
   current-end m [] = refl
   current-end m (v ∷ past) = of v.end
     where
@@ -74,7 +74,7 @@ module _ {V : Type 0} where
 
   -- WHAT COMES LATER
 
-  force-end : (m n : ℕ) (vs : List (Value V)) → m < n → held (in_force_by m (with_end n vs)) ≡ held (in_force_by m vs)
+  pub force-end : (m n : ℕ) (vs : List (Value V)) → m < n → held (in_force_by m (with_end n vs)) ≡ held (in_force_by m vs)
   force-end m n [] e = refl
   force-end m n (v ∷ past) e = of (nat_le v.begin m) (ends_by m v.end) (ends-later m n v.end e)
     where
@@ -83,7 +83,7 @@ module _ {V : Type 0} where
       of true false f = ap (λ c. held (if c then None else Some (ended n v))) f
       of false b f = refl
 
-  force-begun : (m n : ℕ) (x : V) (vs : List (Value V)) → m < n → held (in_force_by m (begun n x ∷ vs)) ≡ held (in_force_by m vs)
+  pub force-begun : (m n : ℕ) (x : V) (vs : List (Value V)) → m < n → held (in_force_by m (begun n x ∷ vs)) ≡ held (in_force_by m vs)
   force-begun m n x vs e = ap (λ b. held (if b then Some (begun n x) else in_force_by m vs)) (not-by m n e)
 
   force-value : (m n : ℕ) (next : Option V) (v : Value V) (past : List (Value V)) → m < n → held (in_force_by m (with_value n next v past)) ≡ held (in_force_by m (v ∷ past))

@@ -32,7 +32,7 @@ without_purse base t caller request h e =
     ap (λ place. timely (horizon_at base h t) t (at_of request) >> (outcome_by_kind base h t caller request >>= λ reply. affordable base h t request place >> Ok reply)) e
 
 -- it is answered the same from two histories that agree on what concerns all purses, where its kind is
-placeless-same : (base : Base) (t : ℕ) (caller : Caller) (request : Request) (h k : List Record) → purse_of caller request ≡ None → filter concerns_all h ≡ filter concerns_all k → outcome_by_kind base h t caller request ≡ outcome_by_kind base k t caller request → outcome base h t caller request ≡ outcome base k t caller request
+pub placeless-same : (base : Base) (t : ℕ) (caller : Caller) (request : Request) (h k : List Record) → purse_of caller request ≡ None → filter concerns_all h ≡ filter concerns_all k → outcome_by_kind base h t caller request ≡ outcome_by_kind base k t caller request → outcome base h t caller request ≡ outcome base k t caller request
 placeless-same base t caller request h k e f g =
     without_purse base t caller request h e
     ∙ ap (λ horizon. timely horizon t (at_of request) >> at_no_cost (outcome_by_kind base h t caller request)) (horizon_at-agree base t h k f)

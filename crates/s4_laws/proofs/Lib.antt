@@ -20,3 +20,5 @@ pub mod MadeOnce
 pub mod InStep
 pub mod Fresh
 pub mod BoundInTurn
+pub mod Ruled
+pub mod BoundApplied

@@ -4,3 +4,4 @@ pub mod Applied
 pub mod InForce
 pub mod Later
 pub mod Kept
+pub mod Windows

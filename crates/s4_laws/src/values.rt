@@ -9,11 +9,11 @@ ghost use Rattle.s4_types.specs.declared.acl.AclEntry.{AclEntry};
 ghost use Rattle.s4_types.specs.declared.record.Record.{Record};
 ghost use Rattle.s4_types.specs.declared.record.Step.{Step};
 ghost use Rattle.s4_types.specs.Base.{Base, opened};
-ghost use Rattle.s4_types.specs.Bindings.{bindings};
+ghost use Rattle.s4_types.specs.Bindings.{bindings, bound_at};
 ghost use Rattle.s4_types.specs.Play.{play, InOrder, NeverDown};
 ghost use Rattle.s4_types.specs.Erased.{is_whole, is_past_or_whole};
 ghost use Rattle.s4_types.specs.Versions.{Value, versions, value_at, in_force_by, data_track, attribute_track, acl_track};
-ghost use Rattle.s4_laws.specs.Applied.{applied};
+ghost use Rattle.s4_laws.specs.Applied.{applied, bound_in_turn};
 ghost use Rattle.s4_laws.specs.Bases.{IsBase};
 ghost use Rattle.s4_laws.specs.InForce.{is_in_force, made_count, IsDrawn};
 ghost use Rattle.s4_laws.specs.Later.{left_by, newer_by};
@@ -28,6 +28,14 @@ pub fn values_are_applied_in_order()
         → option_map (λ v. v.value) (value_at base attribute_track o m h) ≡ applied base attribute_track o m h }
     ensures acl_track { (base : Base) (o : ObjectId) (m : ℕ) (h : List Record) → IsBase base → base.cut ≤ m → InOrder base.cut h
         → option_map (λ v. v.value) (value_at base acl_track o m h) ≡ applied base acl_track o m h }
+{}
+
+/// From the base on, a name is bound at a moment to what its bindings and unbindings up to that moment leave, carried out
+/// in the order of the list: the object of the last PCreate, if no PDelete of the name comes after it (docs/MODEL.md,
+/// "Partitions").
+pub fn bindings_are_carried_out_in_order()
+    ensures { (base : Base) (purse : Purse) (name : List ℕ) (m : ℕ) (h : List Record)
+        → IsBase base → base.cut ≤ m → InOrder base.cut h → bound_at base purse name m h ≡ bound_in_turn base purse name m h }
 {}
 
 /// A value is in force from its begin up to, and without, its end: what `value_at` finds began by the moment and hasn't
