@@ -1,13 +1,15 @@
 -- How many values a flush erases, and what it tells of them.
-use Rattle.std.proofs.Common.{◌≡◌, ℕ, zero, ◌+◌, Bool, true, false, cond, Option, Some, None, List, ◌∷◌, refl, sym, ◌∙◌, ap, arith, take, length}
-use Rattle.std.specs.Prelude.{slice_get, count_by, is_some, nat_le, if◌then◌else◌}
+use Rattle.std.proofs.Common.{◌≡◌, ℕ, zero, ◌+◌, Bool, true, false, cond, Option, Some, None, List, ◌∷◌, refl, sym, ◌∙◌, ap, subst, arith, take, length}
+use Rattle.std.specs.Prelude.{slice_get, count_by, is_some, nat_le, IfSome, if◌then◌else◌}
 use Rattle.std.specs.List.{cons_option}
+use Rattle.std.proofs.lemmas.List.{take_all}
 use Rattle.std.proofs.lemmas.List.Sums.{count_by_more_yes, count_by_more_no}
 use Rattle.std.proofs.lemmas.List.Recursion.{is_count_by}
 use Rattle.std.proofs.lemmas.Option.{slice_get_within, get_or_from_slice_get}
 use Rattle.s4_types.specs.declared.version.Version.{Version}
 use Rattle.s4_types.specs.Versions.{ends_by}
 use Rattle.s4_types.proofs.Booleans.{by_test, both}
+use Rattle.s4_store.specs.Chains.{reach}
 use Rattle.s4_tracks.specs.Chain.{is_within, is_erasable, told, told_if, told_of, first_told, with_first_erased}
 use Rattle.s4_tracks.proofs.Erasing.{told_next}
 
@@ -50,3 +52,23 @@ module _ (from to : ℕ) where
   count_next vs t e =
       let all : length (told from to vs) ≡ length (t ∷ told from to (with_first_erased from to vs)) = ap length (told_next from to vs t e) in
       omega (arith, told_count vs, told_count (with_first_erased from to vs))
+
+-- FROM PLACE TO PLACE
+
+-- all values are older than none
+pub count_all : (p : Version → Bool) (vs : List Version) (n : ℕ) → n ≡ length vs → count_by p (take n vs) ≡ count_by p vs
+count_all p vs n l = ap (count_by p) (take_all n vs (omega arith))
+
+module _ {P : Type 0} (index chain_at : P → ℕ) (p : Version → Bool) (c count : ℕ) (items : ℕ → List Version) (at : Option P) (place : P) (v : Version)
+    (here : at ≡ Some place) (same : IfSome at (λ q. chain_at q ≡ c)) (so_far : count + count_by p (take (reach index at) (items c)) ≡ count_by p (items c)) (there : slice_get (items (chain_at place)) (index place) ≡ Some v) where
+  of_chain : chain_at place ≡ c
+  of_chain = subst (λ (o : Option P). IfSome o (λ q. chain_at q ≡ c)) here same
+
+  -- the value here counts, or it does not
+  pub stepped : count + (count_by p (take (index place) (items c)) + cond (p v) 1 0) ≡ count_by p (items c)
+  stepped = ap (λ n. count + n) (sym (count_more p (items c) (index place) v (subst (λ k. slice_get (items k) (index place) ≡ Some v) of_chain there)))
+      ∙ ap (λ (o : Option P). count + count_by p (take (reach index o) (items c))) (sym here) ∙ so_far
+
+  pub same_chain : (next : Option P) → IfSome next (λ q. chain_at q ≡ chain_at place) → IfSome next (λ q. chain_at q ≡ c)
+  same_chain None h = h
+  same_chain (Some q) h = h ∙ of_chain

@@ -1,5 +1,5 @@
 -- A flush erases no more values than the store holds.
-use Rattle.std.proofs.Common.{◌≡◌, ◌≤◌, ℕ, ◌+◌, false, Option, Some, None, List, [], ◌∷◌, refl, sym, ◌∙◌, ap, arith, length}
+use Rattle.std.proofs.Common.{◌≡◌, ◌≤◌, ℕ, ◌+◌, Bool, false, Option, Some, None, List, [], ◌∷◌, refl, sym, ◌∙◌, ap, arith, length, count_by}
 use Rattle.std.specs.Prelude.{◌==◌, is_some, map}
 use Rattle.std.specs.List.{All, AllByRecursion, sum_by}
 use Rattle.std.specs.List.Sorted.{IsStrictlySortedBy}
@@ -120,3 +120,7 @@ module _ (m : Chains Version) (from to : ℕ) where
   -- and of all objects
   pub all_erasable_fit : {found : ObjectId → Option Kept} → Chained m found → (es : List (ObjectId × Kept)) → All (λ (e : ObjectId × Kept). found e.0 ≡ Some e.1) es → IsStrictlySortedBy object_cmp (map (λ e. e.0) es) → erasable_in m from to es ≤ item_count m
   all_erasable_fit c es mapped sorted = let fit = all_fit c m es mapped sorted in let some = fewer_in es in omega (arith, fit, some)
+
+-- no track holds more values than the store
+pub track_fits : (m : Chains Version) (c : ℕ) (p : Version → Bool) → count_by p (items_of m c) ≤ item_count m
+track_fits m c p = let closed = count_closed m c in let some = count_by-le-length p (items_of m c) in omega (arith, closed, some)

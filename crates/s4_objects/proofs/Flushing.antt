@@ -33,7 +33,7 @@ turned a b e = by_test (b == a) (λ f. absurd (not_both _ (eq-eqb a b (sym (eqb-
 
 -- A TRACK
 
-module _ (m0 m new : Chains Version) (t from to : ℕ) (e : Eraser) (chain : e.chain ≡ t) (is_from : e.from ≡ from) (is_to : e.to ≡ to) (so_far : m ≡ finmap.insert m0 t (items_of m t))
+module _ {P : Type 0} (m0 m new : Chains Version) (t from to : ℕ) (e : Eraser P) (chain : e.chain ≡ t) (is_from : e.from ≡ from) (is_to : e.to ≡ to) (so_far : m ≡ finmap.insert m0 t (items_of m t))
     (step : new ≡ finmap.insert m e.chain (with_first_erased e.from e.to (items_of m e.chain))) where
   erased_is : new ≡ finmap.insert m t (with_first_erased from to (items_of m t))
   erased_is = step ∙ ap (λ x. finmap.insert m x (with_first_erased e.from e.to (items_of m x))) chain

@@ -1,6 +1,6 @@
 //! Flushes: values of the past lose their items, on all objects or on one.
 
-ghost use Rattle.std.specs.Prelude.{◌≡◌, ◌+◌, ◌≤◌, ◌==◌, ℕ, true, false, length, vec_capacity, count_by, sum_by, ◌++◌, IfOk, OnErr};
+ghost use Rattle.std.specs.Prelude.{◌≡◌, ◌+◌, ◌≤◌, ◌==◌, ℕ, true, false, length, vec_capacity, count_by, sum_by, [], ◌++◌, IfOk, IsOk, OnOk, OnErr};
 ghost use Rattle.std.specs.BTreeMap.{get};
 ghost use Rattle.std.specs.FinMap as finmap;
 ghost use Rattle.s4_types.specs.Names.{same_object};
@@ -14,7 +14,6 @@ use crate::kept::Kept;
 use s4_store::Store;
 use s4_tracks::{Eraser, Track};
 use s4_types::{Moment, NoMemory, ObjectId, Purse, Version};
-use std::alloc::Global;
 use std::collections::BTreeMap;
 
 /// What a flush takes back of a purse's charges: those for one value, which had that end and that
@@ -27,51 +26,59 @@ pub struct Refund {
 }
 
 /// Erases the past values of all objects' data and attributes that begin at or after `from` and end
-/// at or before `to`, and tells what that takes back of the purses' charges. It looks at each value
-/// that is held.
+/// at or before `to`, and puts what that takes back of the purses' charges into a list that is empty.
+/// It looks at each value that is held. It takes no memory where the list has room for as many as the
+/// store holds.
 pub fn flush<S: Store<Version>>(
-    alloc: Global,
     store: &mut S,
     objects: &BTreeMap<ObjectId, Kept>,
     from: Moment,
     to: Moment,
-) -> Result<Vec<Refund>, NoMemory>
-    requires { Chained (S.chains store.old) (get object_cmp objects.now) }
-    ensures ok { IfOk result (λ refunds. Flushes (S.chains store.old) (S.chains store.new) (get object_cmp objects.now) (λ o. true) from to refunds.items) }
+    refunds: &mut Vec<Refund>,
+) -> Result<(), NoMemory>
+    requires chained { Chained (S.chains store.old) (get object_cmp objects.now) }
+    requires empty { refunds.old.items ≡ [] }
+    ensures ok { OnOk result (Flushes (S.chains store.old) (S.chains store.new) (get object_cmp objects.now) (λ o. true) from to refunds.new.items) }
     ensures err { OnErr result (S.chains store.new ≡ S.chains store.old) }
+    ensures none { OnErr result (refunds.new.items ≡ []) }
+    ensures capacity { vec_capacity refunds.old ≤ vec_capacity refunds.new }
+    ensures enough { item_count (S.chains store.old) ≤ vec_capacity refunds.old → IsOk result }
     ensures room { S.room store.new ≡ S.room store.old }
 {
     let count = count_all(store, objects, from, to);
-    let mut refunds = Vec::with_capacity(alloc, count)?;
+    refunds.reserve(count)?;
     for (object, kept) in objects {
-        flush_kept(store, &object.purse, kept, from, to, &mut refunds);
+        flush_kept(store, &object.purse, kept, from, to, refunds);
     }
-    Ok(refunds)
+    Ok(())
 }
 
 /// Erases the past values of one object's data and attributes that begin at or after `from` and end
-/// at or before `to`, and tells what that takes back of its purse's charges. It looks at each value
-/// that is held of the object.
+/// at or before `to`, and puts what that takes back of its purse's charges into a list that is empty.
+/// It looks at each value that is held of the object.
 pub fn flush_object<S: Store<Version>>(
-    alloc: Global,
     store: &mut S,
     objects: &BTreeMap<ObjectId, Kept>,
     object: &ObjectId,
     from: Moment,
     to: Moment,
-) -> Result<Vec<Refund>, NoMemory>
-    requires { Chained (S.chains store.old) (get object_cmp objects.now) }
-    ensures ok { IfOk result (λ refunds. Flushes (S.chains store.old) (S.chains store.new) (get object_cmp objects.now) (same_object object.now) from to refunds.items) }
+    refunds: &mut Vec<Refund>,
+) -> Result<(), NoMemory>
+    requires chained { Chained (S.chains store.old) (get object_cmp objects.now) }
+    requires empty { refunds.old.items ≡ [] }
+    ensures ok { OnOk result (Flushes (S.chains store.old) (S.chains store.new) (get object_cmp objects.now) (same_object object.now) from to refunds.new.items) }
     ensures err { OnErr result (S.chains store.new ≡ S.chains store.old) }
+    ensures none { OnErr result (refunds.new.items ≡ []) }
+    ensures capacity { vec_capacity refunds.old ≤ vec_capacity refunds.new }
     ensures room { S.room store.new ≡ S.room store.old }
 {
     let Some(kept) = objects.get(object) else {
-        return Ok(Vec::new(alloc));
+        return Ok(());
     };
     let count = count_kept(store, kept, from, to);
-    let mut refunds = Vec::with_capacity(alloc, count)?;
-    flush_kept(store, &object.purse, kept, from, to, &mut refunds);
-    Ok(refunds)
+    refunds.reserve(count)?;
+    flush_kept(store, &object.purse, kept, from, to, refunds);
+    Ok(())
 }
 
 // How many values of all objects a flush erases.
@@ -82,7 +89,8 @@ fn count_all<S: Store<Version>>(
     to: Moment,
 ) -> usize
     requires { Chained (S.chains store.now) (get object_cmp objects.now) }
-    ensures { result ≡ erasable_in (S.chains store.now) from to objects.now.entries }
+    ensures value { result ≡ erasable_in (S.chains store.now) from to objects.now.entries }
+    ensures fits { result ≤ item_count (S.chains store.now) }
 {
     let mut count: usize = 0;
     for (_, kept) in objects {
@@ -115,16 +123,18 @@ fn added<S: Store<Version>>(store: &S, a: usize, b: usize) -> usize
     a + b
 }
 
-// How many values of one track a flush erases.
+// How many values of one track a flush erases. It looks at each value once.
 fn count_track<S: Store<Version>>(store: &S, track: Track, from: Moment, to: Moment) -> usize
     requires { IsOpen (S.chains store.now) track.chain }
     ensures { result ≡ count_by (can_be_erased from to) (items_of (S.chains store.now) track.chain) }
 {
-    let mut count = 0;
-    for place in 0..store.len(track.chain) {
-        if is_erasable(store.get(track.chain, place), from, to) {
-            count += 1;
+    let mut count: usize = 0;
+    let mut at = store.newest_place(track.chain);
+    while let Some(place) = at {
+        if is_erasable(store.item(place), from, to) {
+            count = added(store, count, 1);
         }
+        at = store.older(place);
     }
     count
 }
@@ -166,7 +176,8 @@ fn flush_kept<S: Store<Version>>(
     flush_track(store, purse, &kept.attributes, from, to, refunds);
 }
 
-// Flushes one track, and adds the refunds in room that was reserved. Takes no memory.
+// Flushes one track, and adds the refunds in room that was reserved. It looks at each value once.
+// Takes no memory.
 fn flush_track<S: Store<Version>>(
     store: &mut S,
     purse: &Purse,

@@ -1,6 +1,6 @@
 //! The objects that are kept.
 
-ghost use Rattle.std.specs.Prelude.{◌≡◌, ◌+◌, ◌<◌, ◌≤◌, ℕ, true, false, ◌||◌, ◌&&◌, is_some, Some, List, [], ◌∷◌, ◌++◌, IfOk, OnOk, OnErr, min, drop, count_by, if◌then◌else◌};
+ghost use Rattle.std.specs.Prelude.{◌≡◌, ◌+◌, ◌<◌, ◌≤◌, ℕ, true, false, ◌||◌, ◌&&◌, is_some, Some, List, [], ◌∷◌, ◌++◌, IfOk, IsOk, OnOk, OnErr, vec_capacity, min, drop, count_by, if◌then◌else◌};
 ghost use Rattle.std.specs.List.{prefix_len};
 ghost use Rattle.std.specs.BTreeMap.{get};
 ghost use Rattle.std.specs.Option.{option_copied};
@@ -222,44 +222,52 @@ impl Objects {
     }
 
     /// Erases the past values of all objects' data and attributes that begin at or after `from` and
-    /// end at or before `to`, and tells what that takes back of the purses' charges. It looks at each
-    /// value that is held.
+    /// end at or before `to`, and puts what that takes back of the purses' charges into a list that is
+    /// empty. It looks at each value that is held. It takes no memory where the list has room for as
+    /// many as the store holds.
     pub fn flush<S: Store<Version>>(
         &self,
-        alloc: Global,
         store: &mut S,
         from: Moment,
         to: Moment,
-    ) -> Result<Vec<Refund>, NoMemory>
-        requires { Holds (S.chains store.old) self.now }
-        ensures ok { IfOk result (λ refunds. Flushes (S.chains store.old) (S.chains store.new) (found_in self.now) (λ o. true) from to refunds.items) }
+        refunds: &mut Vec<Refund>,
+    ) -> Result<(), NoMemory>
+        requires holds { Holds (S.chains store.old) self.now }
+        requires empty { refunds.old.items ≡ [] }
+        ensures ok { OnOk result (Flushes (S.chains store.old) (S.chains store.new) (found_in self.now) (λ o. true) from to refunds.new.items) }
         ensures err { OnErr result (S.chains store.new ≡ S.chains store.old) }
+        ensures none { OnErr result (refunds.new.items ≡ []) }
+        ensures capacity { vec_capacity refunds.old ≤ vec_capacity refunds.new }
+        ensures enough { item_count (S.chains store.old) ≤ vec_capacity refunds.old → IsOk result }
         ensures holds { Holds (S.chains store.new) self.now }
         ensures leaves { LeavesNoChain (S.chains store.old) (S.chains store.new) self.now self.now }
         ensures room { S.room store.new ≡ S.room store.old }
     {
-        flushes::flush(alloc, store, &self.kept, from, to)
+        flushes::flush(store, &self.kept, from, to, refunds)
     }
 
     /// Erases the past values of one object's data and attributes that begin at or after `from` and
-    /// end at or before `to`, and tells what that takes back of its purse's charges. It looks at each
-    /// value that is held of the object.
+    /// end at or before `to`, and puts what that takes back of its purse's charges into a list that is
+    /// empty. It looks at each value that is held of the object.
     pub fn flush_object<S: Store<Version>>(
         &self,
-        alloc: Global,
         store: &mut S,
         object: &ObjectId,
         from: Moment,
         to: Moment,
-    ) -> Result<Vec<Refund>, NoMemory>
-        requires { Holds (S.chains store.old) self.now }
-        ensures ok { IfOk result (λ refunds. Flushes (S.chains store.old) (S.chains store.new) (found_in self.now) (same_object object.now) from to refunds.items) }
+        refunds: &mut Vec<Refund>,
+    ) -> Result<(), NoMemory>
+        requires holds { Holds (S.chains store.old) self.now }
+        requires empty { refunds.old.items ≡ [] }
+        ensures ok { OnOk result (Flushes (S.chains store.old) (S.chains store.new) (found_in self.now) (same_object object.now) from to refunds.new.items) }
         ensures err { OnErr result (S.chains store.new ≡ S.chains store.old) }
+        ensures none { OnErr result (refunds.new.items ≡ []) }
+        ensures capacity { vec_capacity refunds.old ≤ vec_capacity refunds.new }
         ensures holds { Holds (S.chains store.new) self.now }
         ensures leaves { LeavesNoChain (S.chains store.old) (S.chains store.new) self.now self.now }
         ensures room { S.room store.new ≡ S.room store.old }
     {
-        flushes::flush_object(alloc, store, &self.kept, object, from, to)
+        flushes::flush_object(store, &self.kept, object, from, to, refunds)
     }
 
     /// Frees at most so many past values that have ended by the horizon, those that ended first before

@@ -222,7 +222,8 @@ impl Parts {
         shelf.free(store, name);
     }
 
-    /// The object that a name in the purse is bound to, now or at a moment.
+    /// The object that a name in the purse is bound to, now or at a moment. It looks at the bindings of
+    /// that name from the newest to the one that it finds, each once.
     pub fn mount<S: Store<Version>>(
         &self,
         store: &S,

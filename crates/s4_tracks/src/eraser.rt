@@ -1,84 +1,104 @@
 //! Erasing: values of the past lose their items, and keep begin, end and cost.
 
-ghost use Rattle.std.specs.Prelude.{◌≡◌, ◌+◌, ◌<◌, ◌≤◌, ◌^◌, List, Some, true, false, take, length, slice_get, slice_set, IfSome, IfNone};
+ghost use Rattle.std.specs.Prelude.{◌≡◌, ◌+◌, ◌<◌, ◌≤◌, Some, None, false, length, slice_get, slice_set, IfSome, IfNone};
 ghost use Rattle.std.specs.List.{list_any};
 ghost use Rattle.std.specs.FinMap as finmap;
 ghost use Rattle.s4_types.specs.declared.version.Version.{Version};
 ghost use Rattle.s4_store.specs.Chains.{items_of, IsOpen, StillOpen};
 ghost use Rattle.s4_tracks.specs.Chain.{erased, is_erasable as can_be_erased, told_of, first_told, with_first_erased};
-ghost use Rattle.s4_tracks.specs.Eraser.{IsPassed, SameWalk, looked};
+ghost use Rattle.s4_tracks.specs.Eraser.{chain_of, from_of, to_of, last_of, looked, Stands, IsPassed, IsNext, SameWalk};
 
 use crate::track::{Track, is_by};
 use s4_store::{Chain, Store};
 use s4_types::{Moment, Version};
 
 /// A walk along a track that erases the past values that begin at or after a moment and end at or
-/// before another, one after the other. It looks at no value twice.
+/// before another, one after the other. It goes from each place of the store to the next newer one,
+/// and looks at no value twice.
 #[derive(Clone, Copy, Debug, PartialEq, Eq)]
-pub struct Eraser {
+pub struct Eraser<P> {
     chain: Chain,
     from: Moment,
     to: Moment,
-    place: usize,
+    // Where the value stands that it looked at last.
+    last: Option<P>,
 }
 
-impl Eraser {
-    /// A walk that stands at the oldest value.
-    pub fn new(track: &Track, from: Moment, to: Moment) -> Eraser
-        ensures chain { result.chain ≡ track.now.chain }
-        ensures from { result.from ≡ from }
-        ensures to { result.to ≡ to }
-        ensures passed { (vs : List Version) → IsPassed result vs }
+impl<P: Copy> Eraser<P> {
+    /// A walk that has looked at no value yet.
+    pub fn new(track: &Track, from: Moment, to: Moment) -> Eraser<P>
+        ensures chain { chain_of result ≡ track.now.chain }
+        ensures from { from_of result ≡ from }
+        ensures to { to_of result ≡ to }
+        ensures last { last_of result ≡ None }
     {
         Eraser {
             chain: track.chain,
             from,
             to,
-            place: 0,
+            last: None,
         }
     }
 
     /// Erases the next value, and tells its end and its cost. None where there is none left. Takes no
     /// memory.
-    pub fn erase_next<S: Store<Version>>(&mut self, store: &mut S) -> Option<(Moment, u32)>
-        requires open { IsOpen (S.chains store.old) self.old.chain }
-        requires passed { IsPassed self.old (items_of (S.chains store.old) self.old.chain) }
-        ensures told { result ≡ first_told self.old.from self.old.to (items_of (S.chains store.old) self.old.chain) }
-        ensures chains { S.chains store.new ≡ finmap.insert (S.chains store.old) self.old.chain (with_first_erased self.old.from self.old.to (items_of (S.chains store.old) self.old.chain)) }
+    pub fn erase_next<S: Store<Version, Place = P>>(
+        &mut self,
+        store: &mut S,
+    ) -> Option<(Moment, u32)>
+        requires open { IsOpen (S.chains store.old) (chain_of self.old) }
+        requires stands { Stands (S.is_place store.old) S.chain_at self.old }
+        requires passed { IsPassed S.index_at self.old (items_of (S.chains store.old) (chain_of self.old)) }
+        ensures told { result ≡ first_told (from_of self.old) (to_of self.old) (items_of (S.chains store.old) (chain_of self.old)) }
+        ensures chains { S.chains store.new ≡ finmap.insert (S.chains store.old) (chain_of self.old) (with_first_erased (from_of self.old) (to_of self.old) (items_of (S.chains store.old) (chain_of self.old))) }
         ensures still { StillOpen (S.chains store.old) (S.chains store.new) }
         ensures room { S.room store.new ≡ S.room store.old }
         ensures same { SameWalk self.old self.new }
-        ensures passed { IsPassed self.new (items_of (S.chains store.new) self.new.chain) }
+        ensures stands { Stands (S.is_place store.new) S.chain_at self.new }
+        ensures passed { IsPassed S.index_at self.new (items_of (S.chains store.new) (chain_of self.new)) }
         // It never goes back, so it looks at no value twice.
-        ensures onward { IfSome result (λ _. looked self.old < looked self.new) }
-        ensures ended { IfNone result (looked self.new ≡ length (items_of (S.chains store.old) self.old.chain)) }
+        ensures onward { IfSome result (λ _. looked S.index_at self.old < looked S.index_at self.new) }
+        ensures ended { IfNone result (looked S.index_at self.new ≡ length (items_of (S.chains store.old) (chain_of self.old))) }
     {
-        let Some(place) = self.next_place(store) else {
-            self.place = store.len(self.chain);
-            return None;
-        };
-        self.place = place + 1;
-        erase(store, self.chain, place)
+        let place = self.find_next(store)?;
+        erase(store, place)
     }
 
-    // Where the next value stands that is yet to be erased.
-    fn next_place<S: Store<Version>>(&self, store: &S) -> Option<usize>
-        requires open { IsOpen (S.chains store.now) self.now.chain }
-        requires passed { IsPassed self.now (items_of (S.chains store.now) self.now.chain) }
-        ensures small { IfSome result (λ place. place + 1 < 2 ^ 64) }
-        ensures onward { IfSome result (λ place. looked self.now ≤ place) }
-        ensures within { IfSome result (λ place. place < length (items_of (S.chains store.now) self.now.chain)) }
-        ensures passed { IfSome result (λ place. list_any (can_be_erased self.now.from self.now.to) (take place (items_of (S.chains store.now) self.now.chain)) ≡ false) }
-        ensures here { IfSome result (λ place. (v : Version) → slice_get (items_of (S.chains store.now) self.now.chain) place ≡ Some v → can_be_erased self.now.from self.now.to v ≡ true) }
-        ensures none { IfNone result (list_any (can_be_erased self.now.from self.now.to) (items_of (S.chains store.now) self.now.chain) ≡ false) }
+    // Goes on to the next value that is yet to be erased, or else to the newest value.
+    fn find_next<S: Store<Version, Place = P>>(&mut self, store: &S) -> Option<P>
+        requires open { IsOpen (S.chains store.now) (chain_of self.old) }
+        requires stands { Stands (S.is_place store.now) S.chain_at self.old }
+        requires passed { IsPassed S.index_at self.old (items_of (S.chains store.now) (chain_of self.old)) }
+        ensures same { SameWalk self.old self.new }
+        ensures stands { Stands (S.is_place store.now) S.chain_at self.new }
+        ensures last { IfSome result (λ place. last_of self.new ≡ Some place) }
+        ensures onward { IfSome result (λ place. looked S.index_at self.old ≤ S.index_at place) }
+        ensures next { IfSome result (λ place. IsNext (from_of self.old) (to_of self.old) (items_of (S.chains store.now) (chain_of self.old)) (S.index_at place)) }
+        ensures none { IfNone result (list_any (can_be_erased (from_of self.old) (to_of self.old)) (items_of (S.chains store.now) (chain_of self.old)) ≡ false) }
+        ensures ended { IfNone result (looked S.index_at self.new ≡ length (items_of (S.chains store.now) (chain_of self.old))) }
     {
-        let count = store.len(self.chain);
-        for place in self.place..count {
-            if is_erasable(store.get(self.chain, place), self.from, self.to) {
+        while let Some(place) = self.next_place(store) {
+            self.last = Some(place);
+            if is_erasable(store.item(place), self.from, self.to) {
                 return Some(place);
             }
         }
         None
+    }
+
+    // Where the value stands that comes after those that it has looked at.
+    fn next_place<S: Store<Version, Place = P>>(&self, store: &S) -> Option<P>
+        requires open { IsOpen (S.chains store.now) (chain_of self.now) }
+        requires stands { Stands (S.is_place store.now) S.chain_at self.now }
+        ensures place { IfSome result (λ place. S.is_place store.now place) }
+        ensures chain { IfSome result (λ place. S.chain_at place ≡ chain_of self.now) }
+        ensures index { IfSome result (λ place. S.index_at place ≡ looked S.index_at self.now) }
+        ensures none { IfNone result (looked S.index_at self.now ≡ length (items_of (S.chains store.now) (chain_of self.now))) }
+    {
+        match self.last {
+            Some(last) => store.newer(last),
+            None => store.oldest_place(self.chain),
+        }
     }
 }
 
@@ -90,12 +110,13 @@ fn is_erasable(version: &Version, from: Moment, to: Moment) -> bool
 }
 
 // Erases the value at that place, and tells its end and its cost.
-fn erase<S: Store<Version>>(store: &mut S, chain: Chain, place: usize) -> Option<(Moment, u32)>
-    requires open { IsOpen (S.chains store.old) chain }
-    requires within { place < length (items_of (S.chains store.old) chain) }
-    ensures told { (v : Version) → slice_get (items_of (S.chains store.old) chain) place ≡ Some v → result ≡ told_of v }
-    ensures chains { (v : Version) → slice_get (items_of (S.chains store.old) chain) place ≡ Some v → S.chains store.new ≡ finmap.insert (S.chains store.old) chain (slice_set (items_of (S.chains store.old) chain) place (erased v)) }
+fn erase<S: Store<Version>>(store: &mut S, place: S::Place) -> Option<(Moment, u32)>
+    requires { S.is_place store.old place }
+    ensures told { (v : Version) → slice_get (items_of (S.chains store.old) (S.chain_at place)) (S.index_at place) ≡ Some v → result ≡ told_of v }
+    ensures chains { (v : Version) → slice_get (items_of (S.chains store.old) (S.chain_at place)) (S.index_at place) ≡ Some v
+        → S.chains store.new ≡ finmap.insert (S.chains store.old) (S.chain_at place) (slice_set (items_of (S.chains store.old) (S.chain_at place)) (S.index_at place) (erased v)) }
     ensures still { StillOpen (S.chains store.old) (S.chains store.new) }
+    ensures places { (other : S.Place) → S.is_place store.old other → S.is_place store.new other }
     ensures room { S.room store.new ≡ S.room store.old }
 {
     let nothing = Version {
@@ -104,10 +125,10 @@ fn erase<S: Store<Version>>(store: &mut S, chain: Chain, place: usize) -> Option
         item: None,
         cost: 0,
     };
-    let mut version = store.set(chain, place, nothing);
+    let mut version = store.set_at(place, nothing);
     version.item = None;
     let end = version.end;
     let cost = version.cost;
-    store.set(chain, place, version);
+    store.set_at(place, version);
     end.map(|end| (end, cost))
 }

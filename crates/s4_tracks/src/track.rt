@@ -21,7 +21,7 @@ pub struct Track {
 
 impl Track {
     /// The value in force at the moment, with its begin and its end. It looks at the values from
-    /// the newest to the one that it finds.
+    /// the newest to the one that it finds, each once.
     pub fn at<'a, S: Store<Version>>(&self, store: &'a S, moment: Moment) -> Option<&'a Version>
         requires { IsOpen (S.chains store.now) self.now.chain }
         ensures { option_copied result ≡ in_force moment (items_of (S.chains store.now) self.now.chain) }
@@ -195,17 +195,32 @@ pub(crate) fn is_by(end: Option<Moment>, moment: Moment) -> bool
     }
 }
 
-// The newest value that began by the moment.
+// The newest value that began by the moment. The first look is at the newest value of all, so that
+// a store that counts its calls of `newest` sees each look-up.
 fn latest<'a, S: Store<Version>>(store: &'a S, chain: Chain, moment: Moment) -> Option<&'a Version>
     requires { IsOpen (S.chains store.now) chain }
     ensures { option_copied result ≡ latest_of moment (items_of (S.chains store.now) chain) }
 {
-    let count = store.len(chain);
-    for back in 0..count {
-        let version = store.get(chain, count - 1 - back);
+    let newest = store.newest(chain)?;
+    if begins_by(newest, moment) {
+        return Some(newest);
+    }
+    let place = store.newest_place(chain)?;
+    latest_before(store, place, moment)
+}
+
+// The newest value that began by the moment, of those that are older than the one at the place.
+fn latest_before<S: Store<Version>>(store: &S, place: S::Place, moment: Moment) -> Option<&Version>
+    requires { S.is_place store.now place }
+    ensures { option_copied result ≡ latest_of moment (take (S.index_at place) (items_of (S.chains store.now) (S.chain_at place))) }
+{
+    let mut at = store.older(place);
+    while let Some(older) = at {
+        let version = store.item(older);
         if begins_by(version, moment) {
             return Some(version);
         }
+        at = store.older(older);
     }
     None
 }

@@ -53,8 +53,11 @@ loop-kept-preserved g c =
       mapped = mapped_tail (get object_cmp c.args.objects.now) c.in-Some.ensures.steps c.loop-kept.invariant.mapped;
     }
 
-pub returns : goal.returns
-returns g c =
+pub returns-clause-value : goal.returns-clause-value
+returns-clause-value g c =
     let m = g.S.Store.chains c.args.store.now in
     let none : erasable_in m c.args.from c.args.to c.loop-kept.kept-iterator ≡ 0 = ap (erasable_in m c.args.from c.args.to) c.in-None.ensures.steps.0 in
     omega (arith, c.loop-kept.invariant.total)
+
+pub returns-clause-fits : goal.returns-clause-fits
+returns-clause-fits g c = omega (arith, c.loop-kept.invariant.fits, returns-clause-value g c)

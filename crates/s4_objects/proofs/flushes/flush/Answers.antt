@@ -1,4 +1,4 @@
-use Rattle.std.proofs.Common.{◌≡◌, ◌+◌, ◌≤◌, false, Some, List, ◌++◌, refl, sym, ◌∙◌, ap, subst, arith, length}
+use Rattle.std.proofs.Common.{◌≡◌, ◌+◌, ◌≤◌, false, Some, List, [], ◌++◌, refl, sym, ◌∙◌, ap, subst, arith, length}
 use Rattle.std.specs.Prelude.{◌||◌}
 use Rattle.std.specs.BTreeMap.{get}
 use Rattle.std.specs.List.{All}
@@ -25,13 +25,15 @@ loop-object-init g c =
     let found = get object_cmp c.args.objects.now in
     let all : c.into_iter-object-iterator.result ≡ c.args.objects.now.entries = c.into_iter-object-iterator.ensures.into_iter_gives.0 in
     let count : erasable_in m c.args.from c.args.to c.into_iter-object-iterator.result ≡ erasable_in m c.args.from c.args.to c.args.objects.now.entries = ap (erasable_in m c.args.from c.args.to) all in
-    let none : length c.in_ok-refunds.refunds.items ≡ 0 = ap length c.in_ok-refunds.ensures.items in
+    let still : c.reserve.new.self.items ≡ [] = c.reserve.ensures.items ∙ c.requires.empty in
+    let none : length c.reserve.new.self.items ≡ 0 = ap length still in
     record {
       asked = λ o. false;
-      flushed = subst (λ rs. Flushes m m found (λ o. false) c.args.from c.args.to rs) (sym c.in_ok-refunds.ensures.items) (flushes_none c.args.from c.args.to m);
+      flushed = subst (λ rs. Flushes m m found (λ o. false) c.args.from c.args.to rs) (sym still) (flushes_none c.args.from c.args.to m);
       left = λ o k got e. ap (is_among o) all ∙ found_among o k c.args.objects.now.entries got;
       mapped = subst (All (λ e. found e.0 ≡ Some e.1)) (sym all) c.into_iter-object-iterator.ensures.into_iter_gives.6;
-      fits = omega (arith, c.in_ok-refunds.ensures.capacity, c.count_all-count.ensures);
+      fits = omega (arith, c.in_ok-reserve.ensures.ok, c.count_all-count.ensures.value);
+      capacity = c.reserve.ensures.capacity;
       room = refl;
     }
 
@@ -40,7 +42,7 @@ kept-next : (g : Over) (c : In-Some g) → get object_cmp c.args.objects.now c.i
 kept-next g c = mapped_head (get object_cmp c.args.objects.now) c.in-Some.ensures.steps c.loop-object.invariant.mapped
 
 chained-next : (g : Over) (c : In-Some g) → Chained (g.S.Store.chains c.loop-object.store) (get object_cmp c.args.objects.now)
-chained-next g c = flushed_chained c.args.from c.args.to c.requires c.loop-object.invariant.flushed
+chained-next g c = flushed_chained c.args.from c.args.to c.requires.chained c.loop-object.invariant.flushed
 
 count-next : (g : Over) (c : In-Some g) → erasable_in (g.S.Store.chains c.args.store.now) c.args.from c.args.to c.loop-object.object-iterator
     ≡ erasable_count (g.S.Store.chains c.args.store.now) c.args.from c.args.to c.in-Some.kept.now + erasable_in (g.S.Store.chains c.args.store.now) c.args.from c.args.to c.next.new.self
@@ -55,7 +57,7 @@ pub flush_kept-requires-clause-attributes : goal.flush_kept-requires-clause-attr
 flush_kept-requires-clause-attributes g c = (chained-next g (goal.at.flush_kept-requires-clause-attributes g c).In-Some).opened c.in-Some.object.now c.in-Some.kept.now which.Attributes (kept-next g (goal.at.flush_kept-requires-clause-attributes g c).In-Some)
 
 pub flush_kept-requires-clause-apart : goal.flush_kept-requires-clause-apart
-flush_kept-requires-clause-apart g c = chained_apart c.requires c.in-Some.object.now c.in-Some.kept.now (kept-next g (goal.at.flush_kept-requires-clause-apart g c).In-Some)
+flush_kept-requires-clause-apart g c = chained_apart c.requires.chained c.in-Some.object.now c.in-Some.kept.now (kept-next g (goal.at.flush_kept-requires-clause-apart g c).In-Some)
 
 pub flush_kept-requires-clause-room : goal.flush_kept-requires-clause-room
 flush_kept-requires-clause-room g c =
@@ -85,6 +87,7 @@ loop-object-preserved g c =
       left = λ q l got e. among_after (i.asked q) o q k c.loop-object.object-iterator c.next.new.self c.in-Some.ensures.steps e (i.left q l got);
       mapped = mapped_tail found c.in-Some.ensures.steps i.mapped;
       fits = omega (arith, i.fits, count-next g at.In-Some, c.flush_kept.ensures.capacity);
+      capacity = omega (arith, i.capacity, c.flush_kept.ensures.capacity);
       room = c.flush_kept.ensures.room ∙ i.room;
     }
 

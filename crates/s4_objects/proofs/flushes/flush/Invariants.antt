@@ -18,5 +18,6 @@ invariant-loop-object g l =
       left : (o : ObjectId) (k : Kept) → found o ≡ Some k → asked o ≡ false → list_any (λ e. same_object o e.0) l.object-iterator ≡ true;
       mapped : All (λ e. found e.0 ≡ Some e.1) l.object-iterator;
       fits : length l.refunds.items + erasable_in (g.S.Store.chains l.fn.store) l.from l.to l.object-iterator ≤ vec_capacity l.refunds;
+      capacity : vec_capacity l.fn.refunds ≤ vec_capacity l.refunds;
       room : g.S.Store.room l.store ≡ g.S.Store.room l.fn.store;
     }

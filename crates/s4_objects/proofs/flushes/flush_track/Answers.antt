@@ -2,6 +2,7 @@ use Rattle.std.proofs.Common.{◌≡◌, ◌+◌, [], ◌∷◌, ◌++◌, refl,
 use Rattle.std.proofs.lemmas.List.{append-nil, length-append}
 use Rattle.s4_store.specs.Chains.{items_of, IsOpen}
 use Rattle.s4_store.specs.Laws.{insert_same, StillOpen-insert}
+use Rattle.s4_tracks.proofs.Walking.{stands_at_first, passed_at_first}
 use Rattle.s4_objects.specs.Flushes.{refund_to, refunds_of}
 use Rattle.s4_objects.proofs.Flushing.{one_changed, leaves_same, refunds_next, fewer_left, all_flushed, no_refunds}
 use Rattle.s4_objects.proofs.flushes.flush_track.Goals as goal
@@ -11,7 +12,8 @@ loop-told-init g c = record {
   chain = c.new-eraser.ensures.chain;
   from = c.new-eraser.ensures.from;
   to = c.new-eraser.ensures.to;
-  passed = c.new-eraser.ensures.passed (items_of (g.S.Store.chains c.args.store.now) c.new-eraser.result.chain);
+  stands = stands_at_first (g.S.Store.is_place c.args.store.now) g.S.Store.chain_at c.new-eraser.result c.new-eraser.ensures.last;
+  passed = passed_at_first g.S.Store.index_at c.new-eraser.result (items_of (g.S.Store.chains c.args.store.now) c.new-eraser.result.chain) c.new-eraser.ensures.last;
   chains = sym (insert_same (g.S.Store.chains c.args.store.now) c.args.track.now.chain c.requires.open);
   flushed = refl;
   refunds = refl;
@@ -55,6 +57,7 @@ loop-told-preserved g c =
       chain = c.erase_next.ensures.same.chain ∙ i.chain;
       from = c.erase_next.ensures.same.from ∙ i.from;
       to = c.erase_next.ensures.same.to ∙ i.to;
+      stands = c.erase_next.ensures.stands;
       passed = c.erase_next.ensures.passed;
       chains = one_changed (g.S.Store.chains c.args.store.now) m new t c.args.from c.args.to c.loop-told.eraser i.chain i.from i.to i.chains c.in-Some.ensures.chains;
       flushed = leaves_same (g.S.Store.chains c.args.store.now) m new t c.args.from c.args.to c.loop-told.eraser i.chain i.from i.to i.chains c.in-Some.ensures.chains ∙ i.flushed;

@@ -2,7 +2,7 @@ use Rattle.std.proofs.Common.{◌≡◌, ◌+◌, ◌≤◌, ◌++◌, length, c
 use Rattle.std.specs.FinMap as finmap
 use Rattle.s4_store.specs.Chains.{items_of}
 use Rattle.s4_tracks.specs.Chain.{flushed, is_erasable}
-use Rattle.s4_tracks.specs.Eraser.{IsPassed}
+use Rattle.s4_tracks.specs.Eraser.{Stands, IsPassed}
 use Rattle.s4_objects.specs.Flushes.{refunds_of}
 use Rattle.s4_objects.proofs.flushes.flush_track.Given as goal
 
@@ -15,7 +15,8 @@ invariant-loop-told g l =
       chain : l.eraser.chain ≡ l.track.chain;
       from : l.eraser.from ≡ l.fn.from;
       to : l.eraser.to ≡ l.fn.to;
-      passed : IsPassed l.eraser (items_of (g.S.Store.chains l.store) l.eraser.chain);
+      stands : Stands (g.S.Store.is_place l.store) g.S.Store.chain_at l.eraser;
+      passed : IsPassed g.S.Store.index_at l.eraser (items_of (g.S.Store.chains l.store) l.eraser.chain);
       chains : g.S.Store.chains l.store ≡ finmap.insert (g.S.Store.chains l.fn.store) l.track.chain now;
       flushed : flushed l.fn.from l.fn.to now ≡ flushed l.fn.from l.fn.to before;
       refunds : l.refunds.items ++ refunds_of l.purse l.fn.from l.fn.to now ≡ l.fn.refunds.items ++ refunds_of l.purse l.fn.from l.fn.to before;

@@ -4,19 +4,15 @@ use Rattle.std.specs.FinMap as finmap
 use Rattle.s4_types.specs.declared.version.Version.{Version}
 use Rattle.s4_store.specs.Chains.{items_of}
 use Rattle.s4_tracks.specs.Chain.{erased}
-use Rattle.s4_tracks.proofs.Ending.{within_still}
 use Rattle.s4_tracks.proofs.Erasing.{changed_in}
 use Rattle.s4_tracks.proofs.eraser.erase.Goals as goal
 
 some_is : (u v : Version) → Some u ≡ Some v → u ≡ v
 some_is u v e = cc
 
-pub set-requires-clause-within : goal.set-requires-clause-within
-set-requires-clause-within g c = within_still (g.S.Store.chains c.args.store.now) (g.S.Store.chains c.set-version.new.self) c.args.chain c.args.place _ c.set-version.ensures.chains c.requires.within
-
 pub returns-clause-chains : goal.returns-clause-chains
 returns-clause-chains g c v got =
-    let m = g.S.Store.chains c.args.store.now in
-    let same : c.set-version.result ≡ v = some_is c.set-version.result v (sym c.set-version.ensures.old ∙ got) in
-    changed_in m (g.S.Store.chains c.set-version.new.self) (g.S.Store.chains c.set.new.self) c.args.chain c.args.place _ (erased c.set-version.result) c.set-version.ensures.chains c.set.ensures.chains
-    ∙ ap (λ w. finmap.insert m c.args.chain (slice_set (items_of m c.args.chain) c.args.place (erased w))) same
+    let s = g.S.Store in let m = s.chains c.args.store.now in let chain = s.chain_at c.args.place in let index = s.index_at c.args.place in
+    let same : c.set_at-version.result ≡ v = some_is c.set_at-version.result v (sym c.set_at-version.ensures.old ∙ got) in
+    changed_in m (s.chains c.set_at-version.new.self) (s.chains c.set_at.new.self) chain index _ (erased c.set_at-version.result) c.set_at-version.ensures.chains c.set_at.ensures.chains
+    ∙ ap (λ w. finmap.insert m chain (slice_set (items_of m chain) index (erased w))) same
