@@ -1,0 +1,13 @@
+//! A store whose items stand in nodes, linked both ways by raw pointers, that lie in blocks of 64.
+#![tactic(auto)]
+
+mod arena;
+mod block;
+mod chain;
+mod heap;
+mod node;
+mod table;
+mod walk;
+
+pub use arena::{Arena, ArenaPlace};
+pub use walk::Walk;

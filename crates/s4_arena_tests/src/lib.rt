@@ -1,0 +1,12 @@
+//! Tests of the arena: each call once, how many nodes and blocks there are, and what a refused growth
+//! leaves. What is proved stands in `s4_arena`; here stands what no clause says.
+#![tactic(auto)]
+
+#[cfg(test)]
+mod blocks;
+#[cfg(test)]
+mod calls;
+#[cfg(test)]
+mod many;
+#[cfg(test)]
+mod nodes;
