@@ -1,10 +1,11 @@
 -- What one call of the drive does.
-use Rattle.std.specs.Prelude.{◌≡◌, ◌==◌, ℕ, cond, MatchBool, Result, Err, List, [], ◌∷◌}
+use Rattle.std.specs.Prelude.{◌≡◌, ◌==◌, ℕ, Bool, true, false, cond, MatchBool, Result, Err, List, [], ◌∷◌}
 use Rattle.s4_types.specs.declared.principal.Caller.{Caller}
 use Rattle.s4_types.specs.declared.request.Request.{Request}
 use Rattle.s4_types.specs.declared.reply.Refusal.{Refusal}
 use Rattle.s4_types.specs.declared.reply.Refusal.TheVariants.{NoMemory}
 use Rattle.s4_types.specs.declared.reply.Reply.{Reply}
+use Rattle.s4_types.specs.declared.reply.Reply.TheVariants.{Done, Refused}
 use Rattle.s4_types.specs.declared.record.Step as steps
 use Rattle.s4_types.specs.declared.record.Step.TheVariants.{Request as Asks, Sweep as Sweeps}
 use Rattle.s4_types.specs.Base.{Base}
@@ -26,6 +27,17 @@ Steps old new t caller request reply = MatchBool (is_no_memory reply) (new ≡ o
 abbrev pub IsOutcome : Result Reply Refusal → Result Reply Refusal → Type 0
 IsOutcome (Err NoMemory) outcome = Unit {0}
 IsOutcome result outcome = result ≡ outcome
+
+-- whether what comes of a request is want of memory
+abbrev pub is_wanting : {A : Type 0} → Result A Refusal → Bool
+is_wanting (Err NoMemory) = true
+is_wanting result = false
+
+-- whether a copy of the reply takes no memory: it is no more than a word, or a refusal
+abbrev pub is_bare : Reply → Bool
+is_bare Done = true
+is_bare (Refused refusal) = true
+is_bare _ = false
 
 -- of the replies, one to each request of the steps, those to the principal's requests
 abbrev pub replies_to : ℕ → List steps.Step → List Reply → List Reply

@@ -1,12 +1,12 @@
 //! How far back the past is told, and what it may cost.
 
-ghost use Rattle.std.specs.Prelude.{◌≡◌, ◌<◌, ◌≤◌, ◌+◌, ℕ, false, List, Some, sum_by, Contains, OnOk, []};
+ghost use Rattle.std.specs.Prelude.{◌≡◌, ◌<◌, ◌≤◌, ◌+◌, ℕ, true, false, List, Some, sum_by, Contains, IsOk, OnOk, []};
 ghost use Rattle.s4_types.specs.declared.object.Purse.{Purse};
 ghost use Rattle.s4_types.specs.declared.record.Record.{Record};
 ghost use Rattle.s4_types.specs.Answer.{within};
 ghost use Rattle.s4_types.specs.Base.{Base, opened};
 ghost use Rattle.s4_types.specs.Horizon.{horizon_of};
-ghost use Rattle.s4_types.specs.Kinds.{is_refused, purse_of};
+ghost use Rattle.s4_types.specs.Kinds.{is_refused, is_wide, purse_of};
 ghost use Rattle.s4_types.specs.Play.{last_of};
 ghost use Rattle.s4_types.specs.Spending.{spent_at, budget_of, budget_by};
 ghost use Rattle.s4_ledger.specs.declared.charge.Charge.{Charge};
@@ -14,6 +14,7 @@ ghost use Rattle.s4_ledger.specs.Books as books;
 ghost use Rattle.s4_objects.specs.Flushes.{refunded};
 ghost use Rattle.s4_state.specs.Log.{base_of};
 ghost use Rattle.s4_drive.specs.Stands.{LimitsStand, HasRoom, HasPlaces, HasBudget, ArePositive, above, charge_weight, charged, costs_of};
+ghost use Rattle.s4_drive.specs.Step.{is_wanting};
 
 use crate::past::Past;
 use s4_ledger::Ledger;
@@ -42,12 +43,14 @@ impl Limits {
     }
 
     /// Makes room for what an accepted record changes here: places for the charges of what it makes
-    /// past, and an account for the budget that it sets. A refused one changes nothing here.
+    /// past, and an account for the budget that it sets. A refused one changes nothing here, and a wide
+    /// request's needs no room.
     pub fn reserve(&mut self, added: &Record, past: Past) -> Result<(), NoMemory>
         ensures places { is_refused added.now.reply ≡ false → OnOk result ((p : Purse) → purse_of added.now.caller added.now.request ≡ Some p
             → HasPlaces p added.now.moment (costs_of past) self.new.ledger.places) }
         ensures budget { is_refused added.now.reply ≡ false → OnOk result (HasBudget added.now.request self.new.ledger.budgets) }
         ensures stand { (base : Base) (h : List Record) → LimitsStand base h self.old → LimitsStand base h self.new }
+        ensures wide { is_wide added.now.caller added.now.request ≡ true → IsOk result }
     {
         if added.reply.is_refused() {
             return Ok(());
@@ -180,8 +183,9 @@ pub fn afford<S: Store<Version>>(
 ) -> Result<(), Refusal>
     requires stand { LimitsStand (base_of state.now) state.now.history limits.now }
     requires later { last_of state.now.history ≤ moment }
-    ensures { result ≡ within (budget_of (base_of state.now) purse.now state.now.history)
+    ensures value { result ≡ within (budget_of (base_of state.now) purse.now state.now.history)
         (spent_at (base_of state.now) purse.now state.now.history moment) charge }
+    ensures known { is_wanting result ≡ false }
 {
     let horizon = limits.window.horizon(moment);
     if charge == 0 || limits.ledger.room_at(purse, horizon, charge) {

@@ -1,9 +1,10 @@
 //! Which moments a run and a request may name.
 
-ghost use Rattle.std.specs.Prelude.{◌≡◌, ◌↔◌, IsTrue, OnOk};
+ghost use Rattle.std.specs.Prelude.{◌≡◌, ◌↔◌, false, IsTrue, OnOk};
 ghost use Rattle.s4_types.specs.Answer.{timely as timely_at};
 ghost use Rattle.s4_types.specs.Play.{NeverDown};
 ghost use Rattle.s4_tracks.specs.Swept.{IsFrom};
+ghost use Rattle.s4_drive.specs.Step.{is_wanting};
 
 use s4_types::{Moment, Refusal, Step};
 
@@ -30,6 +31,7 @@ pub fn never_down(from: Moment, steps: &[Step]) -> bool
 pub fn timely(horizon: Moment, moment: Moment, at: Option<Moment>) -> Result<(), Refusal>
     ensures value { result ≡ timely_at horizon moment at }
     ensures told { OnOk result (IsFrom horizon at) }
+    ensures known { is_wanting result ≡ false }
 {
     match at {
         Some(at) if at > moment => Err(Refusal::Future),

@@ -1,13 +1,13 @@
 //! What a request is answered. Nothing changes by it.
 
-ghost use Rattle.std.specs.Prelude.{◌≡◌, ◌≤◌, IfOk};
+ghost use Rattle.std.specs.Prelude.{◌≡◌, ◌≤◌, true, false, IfOk, IsOk};
 ghost use Rattle.s4_types.specs.Answer.{answer as answer_of, outcome as outcome_of, outcome_by_kind as outcome_by_kind_of};
 ghost use Rattle.s4_types.specs.Horizon.{horizon_at};
-ghost use Rattle.s4_types.specs.Kinds.{at_of};
+ghost use Rattle.s4_types.specs.Kinds.{at_of, is_wide};
 ghost use Rattle.s4_types.specs.Play.{last_of};
 ghost use Rattle.s4_state.specs.Log.{base_of, IsTold};
 ghost use Rattle.s4_drive.specs.Stands.{LimitsStand};
-ghost use Rattle.s4_drive.specs.Step.{IsOutcome};
+ghost use Rattle.s4_drive.specs.Step.{IsOutcome, is_wanting};
 
 use crate::limits::{Limits, afford};
 use crate::moments::timely;
@@ -22,7 +22,7 @@ use s4_store::Store;
 use s4_types::{Caller, Moment, NoMemory, Purse, Refusal, Reply, Request, Version};
 use std::alloc::{AllocError, Global};
 
-/// The reply that the history so far gives.
+/// The reply that the history so far gives. That to a wide request takes no memory.
 pub fn answer<S: Store<Version>>(
     alloc: Global,
     state: &State<S>,
@@ -33,7 +33,8 @@ pub fn answer<S: Store<Version>>(
 ) -> Result<Reply, NoMemory>
     requires stand { LimitsStand (base_of state.now) state.now.history limits.now }
     requires later { last_of state.now.history ≤ moment }
-    ensures { IfOk result (λ reply. reply ≡ answer_of (base_of state.now) state.now.history moment caller request.now) }
+    ensures value { IfOk result (λ reply. reply ≡ answer_of (base_of state.now) state.now.history moment caller request.now) }
+    ensures wide { is_wide caller request.now ≡ true → IsOk result }
 {
     match outcome(alloc, state, limits, moment, caller, request) {
         Ok(reply) => Ok(reply),
@@ -53,7 +54,8 @@ fn outcome<S: Store<Version>>(
 ) -> Result<Reply, Refusal>
     requires stand { LimitsStand (base_of state.now) state.now.history limits.now }
     requires later { last_of state.now.history ≤ moment }
-    ensures { IsOutcome result (outcome_of (base_of state.now) state.now.history moment caller request.now) }
+    ensures value { IsOutcome result (outcome_of (base_of state.now) state.now.history moment caller request.now) }
+    ensures wide { is_wide caller request.now ≡ true → is_wanting result ≡ false }
 {
     let horizon = limits.window.horizon(moment);
     timely(horizon, moment, request.at())?;
@@ -77,7 +79,8 @@ fn outcome_by_kind<S: Store<Version>>(
     requires horizon { horizon ≡ horizon_at (base_of state.now) state.now.history moment }
     requires later { last_of state.now.history ≤ moment }
     requires told { IsTold state.now (at_of request.now) }
-    ensures { IsOutcome result (outcome_by_kind_of (base_of state.now) state.now.history moment caller request.now) }
+    ensures value { IsOutcome result (outcome_by_kind_of (base_of state.now) state.now.history moment caller request.now) }
+    ensures wide { is_wide caller request.now ≡ true → is_wanting result ≡ false }
 {
     match request {
         Request::Create { number } => {

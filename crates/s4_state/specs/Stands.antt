@@ -1,5 +1,6 @@
 -- What the drive keeps stands for its history.
-use Rattle.std.specs.Prelude.{◌≡◌, ℕ, true, false, ◌+◌, ◌-◌, ◌&&◌, Some, List, [], ◌∷◌, ◌++◌, map, filter, length, if◌then◌else◌}
+use Rattle.std.specs.Prelude.{◌≡◌, ℕ, Bool, true, false, ◌+◌, ◌-◌, ◌≤◌, ◌&&◌, Some, List, [], ◌∷◌, ◌++◌, map, filter, length, vec_capacity, if◌then◌else◌}
+use Rattle.std.specs.Global.{Vec}
 use Rattle.s4_store.specs.Chains.{Chains, IsOpen, item_count}
 use Rattle.s4_types.specs.declared.object.Purse.{Purse}
 use Rattle.s4_types.specs.declared.object.ObjectId.{ObjectId}
@@ -17,6 +18,7 @@ use Rattle.s4_names.specs.Drawn.{drawn_in}
 use Rattle.s4_tracks.specs.Chain.{with_put, with_end}
 use Rattle.s4_tracks.specs.Swept.{IsSwept}
 use Rattle.s4_objects.specs.declared.kept.Which.{Which}
+use Rattle.s4_objects.specs.declared.flushes.Refund.{Refund}
 use Rattle.s4_objects.specs.declared.objects.Objects.{Objects}
 use Rattle.s4_objects.specs.Chains.{same_which}
 use Rattle.s4_objects.specs.Ends.{all_by}
@@ -84,9 +86,13 @@ pub record StandsFor (base : Base) (freed : ℕ) (chains : Chains Version) (kept
 abbrev pub base_in : {S : Type 0} → Parts S → Base
 base_in parts = opened parts.window
 
--- what callers see
+-- what callers see, where it is made ready or isn't
+abbrev pub log_where : {S : Type 0} → Bool → (S → Chains Version) → Parts S → Log
+log_where ready chains parts = record { window = parts.window; history = parts.history.records; held = item_count (chains parts.store); ready = ready }
+
+-- what callers see where it isn't
 abbrev pub log_in : {S : Type 0} → (S → Chains Version) → Parts S → Log
-log_in chains parts = record { window = parts.window; history = parts.history.records; held = item_count (chains parts.store) }
+log_in chains parts = log_where false chains parts
 
 -- how many values and bindings sweeps have freed: those that were made, but for those that the store holds
 abbrev pub freed_in : {S : Type 0} → (S → Chains Version) → Parts S → ℕ
@@ -99,6 +105,17 @@ Stands chains parts freed h = StandsFor (base_in parts) freed (chains parts.stor
 -- what is kept stands for the history beside it
 abbrev pub IsKept : {S : Type 0} → (S → Chains Version) → Parts S → Type 0
 IsKept chains parts = Stands chains parts (freed_in chains parts) parts.history.records
+
+-- one more record takes no memory, and there is room for a refund to each value that is held
+pub record HasRoom {S : Type 0} (chains : S → Chains Version) (parts : Parts S) (refunds : Vec Refund) : Type 0 where
+  pub for_record : parts.history.has_room ≡ true
+  pub for_refunds : item_count (chains parts.store) ≤ vec_capacity refunds
+
+-- what is kept stands for the history beside it, no refund waits, and where it was made ready there is room for the next record
+pub record StateStands {S : Type 0} (chains : S → Chains Version) (parts : Parts S) (refunds : Vec Refund) (ready : Bool) : Type 0 where
+  pub kept : IsKept chains parts
+  pub none : refunds.items ≡ []
+  pub room : ready ≡ true → HasRoom chains parts refunds
 
 -- the record makes no object, and draws no serial
 pub record MakesNone (r : Record) : Type 0 where

@@ -1,6 +1,7 @@
 //! Flush and FlushO: past data and attributes that the administrator erases.
 
-ghost use Rattle.std.specs.Prelude.{◌≡◌, ℕ, false, IfOk, OnOk, OnErr, ◌++◌, ◌∷◌, []};
+ghost use Rattle.std.specs.Prelude.{◌≡◌, ◌≤◌, ℕ, false, IsOk, OnOk, OnErr, vec_capacity, ◌++◌, ◌∷◌, []};
+ghost use Rattle.s4_store.specs.Chains.{item_count};
 ghost use Rattle.s4_types.specs.declared.request.Request.TheVariants as request;
 ghost use Rattle.s4_types.specs.declared.object.Purse.{Purse};
 ghost use Rattle.s4_types.specs.Kinds.{is_refused};
@@ -12,55 +13,63 @@ use crate::parts::Parts;
 use s4_objects::Refund;
 use s4_store::Store;
 use s4_types::{Moment, NoMemory, ObjectId, Record, Version};
-use std::alloc::Global;
 
-/// Carries out the Flush that the record tells of, and answers what it takes back of charges.
+/// Carries out the Flush that the record tells of, and puts what it takes back of charges into a list
+/// that is empty.
 pub fn apply<S: Store<Version>>(
-    alloc: Global,
     parts: &mut Parts<S>,
     added: &Record,
     from: Moment,
     to: Moment,
-) -> Result<Vec<Refund>, NoMemory>
+    refunds: &mut Vec<Refund>,
+) -> Result<(), NoMemory>
     requires kept { IsKept S.chains parts.old }
     requires asked { added.now.request ≡ request.Flush from to }
     requires next { IsNext (base_in parts.old) parts.old.history.records added.now }
     requires granted { is_refused added.now.reply ≡ false }
     requires sound { IsSound (base_in parts.old) (parts.old.history.records ++ added.now ∷ []) }
+    requires empty { refunds.old.items ≡ [] }
     ensures ok { OnOk result (Stands S.chains parts.new (freed_in S.chains parts.old) (parts.old.history.records ++ added.now ∷ [])) }
-    ensures charged { IfOk result (λ refunds. (weight : ℕ → ℕ → ℕ) (p : Purse)
+    ensures charged { OnOk result ((weight : ℕ → ℕ → ℕ) (p : Purse)
         → IsNothingBy (horizon_now (base_in parts.old) parts.old.history.records) weight
-        → IsCharged (base_in parts.old) weight p parts.old.history.records added.now refunds.items) }
+        → IsCharged (base_in parts.old) weight p parts.old.history.records added.now refunds.new.items) }
     ensures err { OnErr result (Stands S.chains parts.new (freed_in S.chains parts.old) parts.old.history.records) }
+    ensures none { OnErr result (refunds.new.items ≡ []) }
+    ensures capacity { vec_capacity refunds.old ≤ vec_capacity refunds.new }
+    ensures enough { item_count (S.chains parts.old.store) ≤ vec_capacity refunds.old → IsOk result }
     ensures history { parts.new.history ≡ parts.old.history }
     ensures window { parts.new.window ≡ parts.old.window }
 {
     let store = &mut parts.store;
-    parts.objects.flush(alloc, store, from, to)
+    parts.objects.flush(store, from, to, refunds)
 }
 
-/// Carries out the FlushO that the record tells of, and answers what it takes back of charges.
+/// Carries out the FlushO that the record tells of, and puts what it takes back of charges into a list
+/// that is empty.
 pub fn apply_to_one<S: Store<Version>>(
-    alloc: Global,
     parts: &mut Parts<S>,
     added: &Record,
     object: &ObjectId,
     from: Moment,
     to: Moment,
-) -> Result<Vec<Refund>, NoMemory>
+    refunds: &mut Vec<Refund>,
+) -> Result<(), NoMemory>
     requires kept { IsKept S.chains parts.old }
     requires asked { added.now.request ≡ request.FlushO object.now from to }
     requires next { IsNext (base_in parts.old) parts.old.history.records added.now }
     requires granted { is_refused added.now.reply ≡ false }
     requires sound { IsSound (base_in parts.old) (parts.old.history.records ++ added.now ∷ []) }
+    requires empty { refunds.old.items ≡ [] }
     ensures ok { OnOk result (Stands S.chains parts.new (freed_in S.chains parts.old) (parts.old.history.records ++ added.now ∷ [])) }
-    ensures charged { IfOk result (λ refunds. (weight : ℕ → ℕ → ℕ) (p : Purse)
+    ensures charged { OnOk result ((weight : ℕ → ℕ → ℕ) (p : Purse)
         → IsNothingBy (horizon_now (base_in parts.old) parts.old.history.records) weight
-        → IsCharged (base_in parts.old) weight p parts.old.history.records added.now refunds.items) }
+        → IsCharged (base_in parts.old) weight p parts.old.history.records added.now refunds.new.items) }
     ensures err { OnErr result (Stands S.chains parts.new (freed_in S.chains parts.old) parts.old.history.records) }
+    ensures none { OnErr result (refunds.new.items ≡ []) }
+    ensures capacity { vec_capacity refunds.old ≤ vec_capacity refunds.new }
     ensures history { parts.new.history ≡ parts.old.history }
     ensures window { parts.new.window ≡ parts.old.window }
 {
     let store = &mut parts.store;
-    parts.objects.flush_object(alloc, store, object, from, to)
+    parts.objects.flush_object(store, object, from, to, refunds)
 }

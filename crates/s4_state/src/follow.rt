@@ -1,8 +1,9 @@
 //! One record more: what is kept follows it.
 
-ghost use Rattle.std.specs.Prelude.{◌≡◌, ℕ, true, false, IfOk, OnOk, OnErr, ◌++◌, ◌∷◌, []};
+ghost use Rattle.std.specs.Prelude.{◌≡◌, ◌≤◌, ℕ, true, false, IsOk, OnOk, OnErr, vec_capacity, ◌++◌, ◌∷◌, []};
+ghost use Rattle.s4_store.specs.Chains.{item_count};
 ghost use Rattle.s4_types.specs.declared.object.Purse.{Purse};
-ghost use Rattle.s4_types.specs.Kinds.{is_refused};
+ghost use Rattle.s4_types.specs.Kinds.{is_refused, is_wide};
 ghost use Rattle.s4_state.specs.Flushes.{is_flush, IsNothingBy, IsCharged};
 ghost use Rattle.s4_state.specs.Sound.{IsSound, IsNext};
 ghost use Rattle.s4_state.specs.Stands.{base_in, freed_in, horizon_now, IsKept, Stands};
@@ -14,37 +15,40 @@ use s4_store::Store;
 use s4_types::{NoMemory, Record, Request, Version};
 use std::alloc::Global;
 
-/// Brings what is kept of objects and names to where the record leaves it, and answers what a flush
-/// takes back of charges. Every growth comes before any change that a call tells.
+/// Brings what is kept of objects and names to where the record leaves it, and puts what a flush takes
+/// back of charges into a list that is empty. Every growth comes before any change that a call tells.
+/// A wide request's record takes no memory where the list has room for as many as the store holds.
 pub fn follow<S: Store<Version>>(
     alloc: Global,
     parts: &mut Parts<S>,
     added: &Record,
-) -> Result<Vec<Refund>, NoMemory>
+    refunds: &mut Vec<Refund>,
+) -> Result<(), NoMemory>
     requires kept { IsKept S.chains parts.old }
     requires next { IsNext (base_in parts.old) parts.old.history.records added.now }
     requires sound { IsSound (base_in parts.old) (parts.old.history.records ++ added.now ∷ []) }
+    requires empty { refunds.old.items ≡ [] }
     ensures ok { OnOk result (Stands S.chains parts.new (freed_in S.chains parts.old) (parts.old.history.records ++ added.now ∷ [])) }
-    ensures charged { IfOk result (λ refunds. (weight : ℕ → ℕ → ℕ) (p : Purse)
+    ensures charged { OnOk result ((weight : ℕ → ℕ → ℕ) (p : Purse)
         → IsNothingBy (horizon_now (base_in parts.old) parts.old.history.records) weight
-        → IsCharged (base_in parts.old) weight p parts.old.history.records added.now refunds.items) }
-    ensures refused { IfOk result (λ refunds. is_refused added.now.reply ≡ true → refunds.items ≡ []) }
+        → IsCharged (base_in parts.old) weight p parts.old.history.records added.now refunds.new.items) }
+    ensures refused { is_refused added.now.reply ≡ true → refunds.new.items ≡ [] }
     ensures err { OnErr result (Stands S.chains parts.new (freed_in S.chains parts.old) parts.old.history.records) }
+    ensures none { OnErr result (refunds.new.items ≡ []) }
+    ensures capacity { vec_capacity refunds.old ≤ vec_capacity refunds.new }
+    ensures enough { is_wide added.now.caller added.now.request ≡ true → item_count (S.chains parts.old.store) ≤ vec_capacity refunds.old → IsOk result }
     ensures history { parts.new.history ≡ parts.old.history }
     ensures window { parts.new.window ≡ parts.old.window }
 {
     if added.reply.is_refused() {
-        return Ok(Vec::new(alloc));
+        return Ok(());
     }
     match &added.request {
-        Request::Flush { from, to } => flush::apply(alloc, parts, added, *from, *to),
+        Request::Flush { from, to } => flush::apply(parts, added, *from, *to, refunds),
         Request::FlushO { object, from, to } => {
-            flush::apply_to_one(alloc, parts, added, object, *from, *to)
+            flush::apply_to_one(parts, added, object, *from, *to, refunds)
         }
-        _ => {
-            change(alloc, parts, added)?;
-            Ok(Vec::new(alloc))
-        }
+        _ => change(alloc, parts, added),
     }
 }
 
@@ -61,6 +65,7 @@ fn change<S: Store<Version>>(
     requires sound { IsSound (base_in parts.old) (parts.old.history.records ++ added.now ∷ []) }
     ensures ok { OnOk result (Stands S.chains parts.new (freed_in S.chains parts.old) (parts.old.history.records ++ added.now ∷ [])) }
     ensures err { OnErr result (Stands S.chains parts.new (freed_in S.chains parts.old) parts.old.history.records) }
+    ensures wide { is_wide added.now.caller added.now.request ≡ true → IsOk result }
     ensures history { parts.new.history ≡ parts.old.history }
     ensures window { parts.new.window ≡ parts.old.window }
 {

@@ -9,8 +9,8 @@ use Rattle.s4_drive.proofs.Reckoning.{spent-then, fits-within, nothing-within, i
 use Rattle.s4_drive.proofs.limits.afford.Goals as goal
 use Rattle.s4_drive.proofs.limits.afford.Goals.{then-charge-eq0-via-then-charge-eq0, then-charge-eq0-via-else-charge-eq0+then-room_at}
 
-pub returns-then-charge-eq0 : goal.returns-then-charge-eq0
-returns-then-charge-eq0 g c =
+pub returns-then-charge-eq0-clause-value : goal.returns-then-charge-eq0-clause-value
+returns-then-charge-eq0-clause-value g c =
     let p = c.args.purse.now in
     let h = c.args.state.now.history in
     let base = base_of c.args.state.now in
@@ -25,8 +25,8 @@ returns-then-charge-eq0 g c =
           sym (fits-within (budget_of base p h) (spent_at base p h t) c.args.charge (omega (arith, fits, spent, budget)))
     ]
 
-pub returns : goal.returns
-returns g c =
+pub returns-clause-value : goal.returns-clause-value
+returns-clause-value g c =
     let p = c.args.purse.now in
     let h = c.args.state.now.history in
     let base = base_of c.args.state.now in

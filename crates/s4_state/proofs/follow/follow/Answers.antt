@@ -1,4 +1,5 @@
-use Rattle.std.proofs.Common.{sym, ◌∙◌}
+use Rattle.std.proofs.Common.{sym, ◌∙◌, arith}
+use Rattle.std.specs.Prelude.{Result, Ok, Err, OnOk, OnErr}
 use Rattle.s4_state.proofs.Resting.{no_flush, stands_refused}
 use Rattle.s4_state.proofs.Refunding.{plain_charged, refused_charged}
 use Rattle.s4_state.proofs.follow.follow.Goals as goal
@@ -18,14 +19,25 @@ change-requires g c = record {
 
 pub returns-then-is_refused-clause-charged : goal.returns-then-is_refused-clause-charged
 returns-then-is_refused-clause-charged g c weight p nothing =
-    refused_charged c.requires.kept.sound c.requires.next weight p c.new.ensures.items (sym c.is_refused.ensures ∙ c.if-is_refused.true)
+    refused_charged c.requires.kept.sound c.requires.next weight p c.requires.empty (sym c.is_refused.ensures ∙ c.if-is_refused.true)
 
-pub returns-in_ok-change-in_default : goal.returns-in_ok-change-in_default
-returns-in_ok-change-in_default g c = record {
-  ok = c.in_ok-change-in_default.ensures.ok;
-  charged = λ weight p nothing. plain_charged c.requires.kept.sound c.requires.next weight p c.new-in_default.ensures.items (no_flush c.args.added.now.request c.in_default.not-Flush c.in_default.not-FlushO);
-  refused = λ e. c.new-in_default.ensures.items;
-  err = _;
-  history = c.in_ok-change-in_default.ensures.history;
-  window = c.in_ok-change-in_default.ensures.window;
+on_ok : {T E P : Type 0} (r : Result T E) → P → OnOk r P
+on_ok (Ok x) p = p
+on_ok (Err x) p = tt
+
+on_err : {T E P : Type 0} (r : Result T E) → P → OnErr r P
+on_err (Ok x) p = tt
+on_err (Err x) p = p
+
+pub returns-in_default : goal.returns-in_default
+returns-in_default g c = record {
+  ok = c.change.ensures.ok;
+  charged = on_ok c.change.result (λ weight p nothing. plain_charged c.requires.kept.sound c.requires.next weight p c.requires.empty (no_flush c.args.added.now.request c.in_default.not-Flush c.in_default.not-FlushO));
+  refused = λ e. c.requires.empty;
+  err = c.change.ensures.err;
+  none = on_err c.change.result c.requires.empty;
+  capacity = omega arith;
+  enough = λ wide room. c.change.ensures.wide wide;
+  history = c.change.ensures.history;
+  window = c.change.ensures.window;
 }
