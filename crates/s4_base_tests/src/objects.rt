@@ -128,7 +128,8 @@ fn check_flush(
     make(rt, alloc, objects, store, &first)?;
     change(rt, alloc, objects, store, &first)?;
     let (from, to) = (Moment::new(0), Moment::new(99));
-    let refunds = objects.flush(alloc, store, from, to)?;
+    let mut refunds = Vec::new(alloc);
+    objects.flush(store, from, to, &mut refunds)?;
     let wanted = [Refund {
         purse: first.purse,
         end: Moment::new(5),
@@ -137,7 +138,8 @@ fn check_flush(
     assert_eq!(rt; refunds.as_slice(), wanted.as_slice());
     let past = data(objects, store, &first, Some(Moment::new(2)));
     assert_eq!(rt; past, Some((2, Some(5), false)));
-    let again = objects.flush_object(alloc, store, &first, from, to)?;
+    let mut again = Vec::new(alloc);
+    objects.flush_object(store, &first, from, to, &mut again)?;
     assert!(rt; again.is_empty());
     Ok(())
 }
@@ -166,7 +168,8 @@ fn check_expiry(
     let first = object(1)?;
     make(rt, alloc, objects, store, &first)?;
     change(rt, alloc, objects, store, &first)?;
-    objects.flush(alloc, store, Moment::new(0), Moment::new(99))?;
+    let mut refunds = Vec::new(alloc);
+    objects.flush(store, Moment::new(0), Moment::new(99), &mut refunds)?;
     end(rt, objects, store, &first)?;
     assert_eq!(rt; data(objects, store, &first, None), None);
     assert_eq!(rt; objects.expire(store, Moment::new(6), 9), 1);

@@ -2,7 +2,7 @@
 
 use crate::given::{bytes, caller, object, purse};
 use s4_drive::{Drive, never_down};
-use s4_store::{Chain, PlainStore, Store};
+use s4_store::{Chain, PlainPlace, PlainStore, Store};
 use s4_types::{Grant, Item, Moment, NoMemory, ObjectId, Reply, Request, Step, Version};
 use std::alloc::Global;
 use std::cell::Cell;
@@ -223,7 +223,7 @@ fn no_moment_is_after_the_last_one(rt: HostRuntime) -> Result<(), Fail> {
     Ok(())
 }
 
-// A plain store that counts how often it shows the data of an object.
+// A plain store that counts how often `get` and `newest` show the data of an object.
 #[derive(Drop)]
 struct Counting<'a> {
     store: PlainStore<Version>,
@@ -244,6 +244,14 @@ impl Store<Version> for Counting<'_> {
     ghost chains = { λ s. chains_of s.store };
 
     ghost room = { λ s. room_of s.store };
+
+    type Place = PlainPlace;
+
+    ghost chain_at = { ⟦<PlainStore<Version> as Store<Version>>⟧.chain_at };
+
+    ghost index_at = { ⟦<PlainStore<Version> as Store<Version>>⟧.index_at };
+
+    ghost is_place = { λ s place. ⟦<PlainStore<Version> as Store<Version>>⟧.is_place s.store place };
 
     fn open(&mut self) -> Result<Chain, NoMemory> {
         self.store.open()
@@ -277,6 +285,30 @@ impl Store<Version> for Counting<'_> {
         Some(shown)
     }
 
+    fn newest_place(&self, chain: Chain) -> Option<PlainPlace> {
+        self.store.newest_place(chain)
+    }
+
+    fn older(&self, place: PlainPlace) -> Option<PlainPlace> {
+        self.store.older(place)
+    }
+
+    fn oldest_place(&self, chain: Chain) -> Option<PlainPlace> {
+        self.store.oldest_place(chain)
+    }
+
+    fn newer(&self, place: PlainPlace) -> Option<PlainPlace> {
+        self.store.newer(place)
+    }
+
+    fn item(&self, place: PlainPlace) -> &Version {
+        self.store.item(place)
+    }
+
+    fn set_at(&mut self, place: PlainPlace, item: Version) -> Version {
+        self.store.set_at(place, item)
+    }
+
     fn used(&self) -> usize {
         self.store.used()
     }
@@ -294,18 +326,24 @@ impl Store<Version> for Counting<'_> {
     }
 }
 
-// That a read at the moment, of the object's data, looks into the store.
+// That a read of object 7.0.1 at 11, now or at an earlier moment, gives this and looks into the store.
 fn check_read<S: Store<Version>>(
     rt: &impl Abort,
     alloc: Global,
     drive: &mut Drive<S>,
     reads: &Cell<usize>,
-    moment: u64,
+    at: Option<u64>,
+    wanted: &[u8],
 ) -> Result<(), Fail> {
     let before = reads.get();
-    let reply = step_at(rt, drive, moment, &read(object(7, 0, 1)?, 0, 100))?;
-    assert_eq!(rt; reply, data(alloc, b"", 5)?);
-    assert!(rt; reads.get() > before, "at {moment}");
+    let request = Request::Read {
+        object: object(7, 0, 1)?,
+        offset: 0,
+        length: 100,
+        at: at.map(Moment::new),
+    };
+    check_step(rt, drive, 11, &request, &data(alloc, wanted, 5)?)?;
+    assert!(rt; reads.get() > before, "at {at:?}");
     Ok(())
 }
 
@@ -316,10 +354,12 @@ fn check_reads<S: Store<Version>>(
     drive: &mut Drive<S>,
     reads: &Cell<usize>,
 ) -> Result<(), Fail> {
-    check_step(rt, drive, 5, &create(0)?, &Reply::Made(object(7, 0, 1)?))?;
-    check_read(rt, alloc, drive, reads, 5)?;
-    check_read(rt, alloc, drive, reads, 6)?;
-    check_read(rt, alloc, drive, reads, 7)
+    let o = object(7, 0, 1)?;
+    check_step(rt, drive, 5, &create(0)?, &Reply::Made(o))?;
+    check_step(rt, drive, 10, &write(alloc, o, 0, b"hello")?, &Reply::Done)?;
+    check_read(rt, alloc, drive, reads, None, b"hello")?;
+    check_read(rt, alloc, drive, reads, Some(9), b"")?;
+    check_read(rt, alloc, drive, reads, Some(10), b"hello")
 }
 
 #[test]

@@ -1,5 +1,5 @@
-//! Scripts: what the program writes for one, and what a drive tells of one that is given its steps at
-//! once.
+//! Scripts: what the program writes for one, over the arena, and what a drive over the plain store
+//! tells of one that is given its steps at once.
 
 use crate::rows::Row;
 use s4_drive::{Drive, never_down};
@@ -74,7 +74,7 @@ fn parsed(alloc: Global, script: &str) -> Result<(u64, Vec<Line>), Fail> {
     Ok((window, lines))
 }
 
-/// What a fresh drive tells of a script's lines.
+/// What a fresh drive over the plain store tells of a script's lines.
 fn told_at_once<A: Abort>(rt: &A, alloc: Global, script: &str) -> Result<String, Fail> {
     let (window, lines) = parsed(alloc, script)?;
     let store = PlainStore::new(alloc);
@@ -108,7 +108,8 @@ pub fn check_at_once<A: Abort>(
     Ok(())
 }
 
-/// That a script without a fault is told this by the program, and by a drive at once.
+/// That a script without a fault is told this by the program, which runs it over the arena, and by a
+/// drive over the plain store at once.
 pub fn check_script<A: Abort>(
     rt: &A,
     alloc: Global,

@@ -2,3 +2,4 @@ pub mod Texts
 pub mod Faults
 pub mod Arrivals
 pub mod Logins
+pub mod Struck

@@ -1,14 +1,14 @@
 //! Scripts: a line that opens the drive, and then a line for each request.
 
-ghost use Rattle.std.specs.Prelude.{◌≡◌, ◌<◌, ◌≤◌, ◌↔◌, IsNone, IfSome, []};
+ghost use Rattle.std.specs.Prelude.{◌≡◌, ◌<◌, ◌≤◌, ◌↔◌, IsNone, IfSome, false, []};
 ghost use Rattle.s4_types.specs.Play.{last_of};
 ghost use Rattle.s4_drive.specs.Step.{Steps};
 
 use crate::fault::RunFault;
 use crate::text;
+use s4_arena::Arena;
 use s4_drive::Drive;
 use s4_script::{Line, ReplyText, UsedText, parse_line, parse_window};
-use s4_store::PlainStore;
 use s4_types::{Caller, Moment, Reply, Request, Step, Version};
 use std::alloc::Global;
 use std::io::{Read, Write};
@@ -90,7 +90,7 @@ fn obey<W: Write>(
 /// record may be older than the newest line.
 #[derive(Drop)]
 struct Run {
-    drive: Drive<PlainStore<Version>>,
+    drive: Drive<Arena<Version>>,
     /// The moment of the newest line, 0 before the first.
     moment: Moment,
     ghost in_order: { last_of drive.history ≤ moment },
@@ -98,11 +98,11 @@ struct Run {
 
 impl Run {
     fn open(alloc: Global, window: u64) -> Run
-        ensures drive { result.drive ≡ record { window = window; history = []; held = 0 } }
+        ensures drive { result.drive ≡ record { window = window; history = []; held = 0; ready = false } }
         ensures moment { result.moment ≡ 0 }
     {
         Run {
-            drive: Drive::new(alloc, PlainStore::new(alloc), window),
+            drive: Drive::new(alloc, Arena::new(alloc), window),
             moment: Moment::new(0),
         }
     }

@@ -2,7 +2,7 @@
 
 use crate::error::ParseError;
 use crate::{requests, words};
-use s4_types::{Caller, Step};
+use s4_types::{Caller, Principal, Step};
 use std::alloc::Global;
 
 /// A line after the first.
@@ -20,6 +20,11 @@ pub fn parse_window(alloc: Global, line: &[u8]) -> Result<u64, ParseError> {
         ["window", ticks] => words::number(ticks),
         _ => Err(ParseError::Bad),
     }
+}
+
+/// The principal that a word names.
+pub fn parse_principal(word: &str) -> Result<Principal, ParseError> {
+    words::principal(word)
 }
 
 /// What a line after the first asks for.

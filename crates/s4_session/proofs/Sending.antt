@@ -33,7 +33,7 @@ stands_fresh hall fresh = record {
   sessions = λ c. ap (session_of c) fresh.no_sessions;
   each = refl;
   bodies = refl;
-  log = λ i. record { window = hall.log.window; history = fresh.no_records i; held = fresh.nothing_held i };
+  log = λ i. record { window = hall.log.window; history = fresh.no_records i; held = fresh.nothing_held i; ready = fresh.not_ready i };
   told = ap replies_in fresh.no_records;
 }
 

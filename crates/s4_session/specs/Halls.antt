@@ -51,10 +51,11 @@ pub record Hall : Type 0 where
   pub last : ℕ
   pub failed : Bool
 
--- Nothing came yet, no request was answered, nothing is held, and no growth was refused.
+-- Nothing came yet, no request was answered, nothing is held, the drive wasn't made ready, and no growth was refused.
 pub record IsFresh (hall : Hall) : Type 0 where
   pub no_records : hall.log.history ≡ []
   pub nothing_held : hall.log.held ≡ 0
+  pub not_ready : hall.log.ready ≡ false
   pub no_sessions : hall.sessions ≡ []
   pub no_arrival : hall.last ≡ 0
   pub not_failed : hall.failed ≡ false

@@ -5,26 +5,26 @@ ghost use Rattle.s4_types.specs.Limits.{is_within_limits};
 ghost use Rattle.s4_types.specs.Play.{last_of};
 ghost use Rattle.s4_codec.specs.Replies.{has_body};
 ghost use Rattle.s4_session.specs.Answered.{Answered};
-ghost use Rattle.s4_session.specs.Sent.{reply_frame, fault_number};
+ghost use Rattle.s4_session.specs.Sent.{reply_frame};
 
-use crate::event::{Event, Fault};
+use crate::event::Event;
 use crate::hello::VERSION;
+use s4_arena::Arena;
 use s4_codec::{WriteError, write_frame, write_reply};
 use s4_drive::Drive;
-use s4_store::PlainStore;
 use s4_types::{Moment, NoMemory, Reply, Version};
 use std::alloc::{AllocError, Global};
 
 /// The kind of the body that answers a good Hello.
-const WELCOME: u8 = 16;
+pub const WELCOME: u8 = 16;
 
 /// The kind of the body that tells a fault.
-const FAULT: u8 = 17;
+pub const FAULT: u8 = 17;
 
 /// Answers events at a moment, the requests by the drive, and gives what is sent for them.
 pub fn answer_all(
     alloc: Global,
-    drive: &mut Drive<PlainStore<Version>>,
+    drive: &mut Drive<Arena<Version>>,
     moment: Moment,
     events: &[Event],
 ) -> Result<Vec<u8>, NoMemory>
@@ -41,7 +41,7 @@ pub fn answer_all(
 
 fn answer(
     alloc: Global,
-    drive: &mut Drive<PlainStore<Version>>,
+    drive: &mut Drive<Arena<Version>>,
     moment: Moment,
     event: &Event,
     out: &mut Vec<u8>,
@@ -56,7 +56,7 @@ fn answer(
             let reply = drive.step(moment, *caller, request);
             send_reply(alloc, &reply, out)
         }
-        Event::Fault(fault) => write_frame(out, &[FAULT, number(fault)]),
+        Event::Fault(fault) => write_frame(out, &[FAULT, fault.number()]),
     }
 }
 
@@ -70,16 +70,5 @@ fn send_reply(alloc: Global, reply: &Reply, out: &mut Vec<u8>) -> Result<(), NoM
         Ok(body) => write_frame(out, body.as_slice()),
         Err(WriteError::NoMemory) => Err(AllocError),
         Err(WriteError::TooBig) => unreachable!(),
-    }
-}
-
-/// The number of a fault.
-fn number(fault: &Fault) -> u8
-    ensures { result ≡ fault_number fault.now }
-{
-    match fault {
-        Fault::Malformed => 1,
-        Fault::BadLogin => 2,
-        Fault::FrameLength => 3,
     }
 }

@@ -1,5 +1,8 @@
 //! What a connection's bytes say.
 
+ghost use Rattle.std.specs.Prelude.{◌≡◌};
+ghost use Rattle.s4_session.specs.Sent.{fault_number};
+
 use s4_types::{Caller, Request};
 
 /// Why a connection ends.
@@ -11,6 +14,19 @@ pub enum Fault {
     BadLogin,
     /// A frame has no body, or one above the limit.
     FrameLength,
+}
+
+impl Fault {
+    /// The number that tells it in a frame, 1 to 3 (docs/PROTOCOL.md, "Faults").
+    pub fn number(&self) -> u8
+        ensures { result ≡ fault_number self.now }
+    {
+        match self {
+            Fault::Malformed => 1,
+            Fault::BadLogin => 2,
+            Fault::FrameLength => 3,
+        }
+    }
 }
 
 /// What a whole frame says.

@@ -12,8 +12,8 @@ use crate::hall_step::HallStep;
 use crate::logins::Logins;
 use crate::outbox::Outbox;
 use crate::sessions::Sessions;
+use s4_arena::Arena;
 use s4_drive::Drive;
-use s4_store::PlainStore;
 use s4_types::{Moment, NoMemory, Version};
 use std::alloc::{AllocError, Global};
 use std::marker::Model;
@@ -24,7 +24,7 @@ use std::marker::Model;
 pub struct Hall {
     alloc: Global,
     logins: Logins,
-    drive: Drive<PlainStore<Version>>,
+    drive: Drive<Arena<Version>>,
     sessions: Sessions,
     last: Moment,
     failed: bool,
@@ -51,7 +51,7 @@ impl Hall {
         Hall {
             alloc,
             logins,
-            drive: Drive::new(alloc, PlainStore::new(alloc), window),
+            drive: Drive::new(alloc, Arena::new(alloc), window),
             sessions: Sessions::new(alloc),
             last: Moment::new(0),
             failed: false,

@@ -13,9 +13,11 @@ mod outbox;
 mod session;
 mod sessions;
 
+pub use answer::{FAULT, WELCOME};
 pub use event::{Event, Fault, Stand};
 pub use hall::Hall;
 pub use hall_step::HallStep;
+pub use hello::VERSION;
 pub use laws::{
     connections_speak_in_order, cuts_change_nothing, each_request_has_one_reply,
     hellos_have_one_spelling, sent_bytes_determine_replies,

@@ -95,7 +95,7 @@ impl Session {
 
 impl Session {
     /// The same as `feed`, but after a fault a piece says nothing.
-    pub(crate) fn hear(&mut self, logins: &Logins, piece: &[u8]) -> Result<Vec<Event>, NoMemory>
+    pub fn hear(&mut self, logins: &Logins, piece: &[u8]) -> Result<Vec<Event>, NoMemory>
         ensures events { IfOk result (λ events. events.items ≡ (hear_piece logins.now self.old piece.now).events) }
         ensures session { OnOk result (self.new ≡ left_by (hear_piece logins.now self.old piece.now)) }
     {

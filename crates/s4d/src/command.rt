@@ -12,6 +12,8 @@ use crate::fault::Fault;
 use clap::error::ErrorKind;
 use clap::{Arg, ArgMatches, Command as Parser, Error};
 use s4_run::RunFault;
+use s4_script::parse_principal;
+use s4_types::Principal;
 use std::alloc::{AllocError, Global};
 use std::rt::Env;
 use std::{env, io};
@@ -42,8 +44,21 @@ const HALL_PAGES: &str = "\
 Example: s4d hall examples/first.logins < examples/first.arrivals
 docs/SCRIPTS.md has the lines of both files under \"Arrivals\"; docs/PROTOCOL.md has the bytes.";
 
+/// How `strike` is called.
+const STRIKE_USAGE: &str = "s4d strike <WHO> < SCRIPT (the script goes to standard input)";
+
+/// What the help of `strike` ends with.
+const STRIKE_PAGES: &str = "\
+The principal is replied the same by the whole script and by what is written.
+
+Example: s4d strike 8 < examples/intrusion.script | s4d run
+docs/TUTORIAL.md tells that example; docs/SCRIPTS.md says which lines stay.";
+
 /// The argument that is the path of a file of logins.
 const LOGINS: &str = "LOGINS";
+
+/// The argument that is the number of a principal.
+const WHO: &str = "WHO";
 
 /// What the program is asked to do.
 #[derive(Debug, PartialEq, Drop)]
@@ -54,6 +69,8 @@ pub enum Command {
     Run,
     /// To run arrivals on a hall of the logins in the file with this path.
     Hall(String),
+    /// To write a script without what this principal's strangers ask.
+    Strike(Principal),
 }
 
 /// The command that the program's arguments spell.
@@ -81,7 +98,8 @@ fn parser<'a>(alloc: Global) -> Result<Parser<'a>, AllocError> {
         .after_help(PAGES)
         .subcommand_required(true)
         .subcommand(run_parser(alloc))?
-        .subcommand(hall_parser(alloc)?)
+        .subcommand(hall_parser(alloc)?)?
+        .subcommand(strike_parser(alloc)?)
 }
 
 fn run_parser<'a>(alloc: Global) -> Parser<'a> {
@@ -102,10 +120,22 @@ fn hall_parser<'a>(alloc: Global) -> Result<Parser<'a>, AllocError> {
         .arg(logins)
 }
 
+fn strike_parser<'a>(alloc: Global) -> Result<Parser<'a>, AllocError> {
+    let who = Arg::new(alloc, WHO)
+        .help("The principal, a number from 1 to 4294967294")
+        .required(true);
+    Parser::new(alloc, "strike")
+        .about("Writes a script from standard input without what a principal's strangers ask")
+        .override_usage(STRIKE_USAGE)
+        .after_help(STRIKE_PAGES)
+        .arg(who)
+}
+
 fn chosen(alloc: Global, matches: &ArgMatches) -> Result<Command, Fault> {
     match matches.subcommand() {
         Some(("run", _)) => Ok(Command::Run),
         Some(("hall", words)) => hall(alloc, words.get_str(LOGINS)),
+        Some(("strike", words)) => strike(alloc, words.get_str(WHO).unwrap_or_default()),
         _ => Err(Fault::of_words(alloc, "error: a command is wanted, as run")),
     }
 }
@@ -114,6 +144,19 @@ fn hall(alloc: Global, logins: Option<&str>) -> Result<Command, Fault> {
     match logins {
         Some(path) => Ok(Command::Hall(String::from_str(alloc, path)?)),
         None => Err(Fault::of_words(alloc, "error: a file of logins is wanted")),
+    }
+}
+
+fn strike(alloc: Global, word: &str) -> Result<Command, Fault> {
+    match parse_principal(word) {
+        Ok(who) if !who.is_administrator() => Ok(Command::Strike(who)),
+        _ => {
+            let text = format!(in alloc;
+                "error: invalid value '{word}' for '<WHO>': it isn't a number from 1 to 4294967294\n\n\
+                 For more information, try '--help'."
+            )?;
+            Err(Fault::CommandLine(text))
+        }
     }
 }
 

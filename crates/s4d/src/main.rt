@@ -58,6 +58,7 @@ fn obey<F: Files + AllocGlobal, R: Read + Drop, W: Write>(
         Command::Show(text) => show(output, text)?,
         Command::Run => s4_run::run_script(files.alloc(), input, output)?,
         Command::Hall(path) => run_hall(files, path, input, output)?,
+        Command::Strike(who) => s4_run::run_strike(files.alloc(), *who, input, output)?,
     }
     Ok(())
 }

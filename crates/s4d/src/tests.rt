@@ -2,6 +2,7 @@ use crate::command::Command;
 use crate::fault::{Fault, FaultText};
 use crate::{command, obey};
 use s4_run::RunFault;
+use s4_types::Principal;
 use std::alloc::Global;
 use std::env::FillError;
 use std::process::Abort;
@@ -29,9 +30,10 @@ A drive that keeps what was written, and answers each principal by its rights
 Usage: s4d <COMMAND>
 
 Commands:
-  run   Runs a script from standard input, and writes the replies
-  hall  Runs arrivals from standard input, and writes what each connection is sent
-  help  Print this message or the help of the given subcommand(s)
+  run     Runs a script from standard input, and writes the replies
+  hall    Runs arrivals from standard input, and writes what each connection is sent
+  strike  Writes a script from standard input without what a principal's strangers ask
+  help    Print this message or the help of the given subcommand(s)
 
 Options:
   -h, --help     Print help
@@ -68,6 +70,23 @@ Options:
 
 Example: s4d hall examples/first.logins < examples/first.arrivals
 docs/SCRIPTS.md has the lines of both files under \"Arrivals\"; docs/PROTOCOL.md has the bytes.
+";
+
+const STRIKE_HELP: &str = "\
+Writes a script from standard input without what a principal's strangers ask
+
+Usage: s4d strike <WHO> < SCRIPT (the script goes to standard input)
+
+Arguments:
+  <WHO>  The principal, a number from 1 to 4294967294
+
+Options:
+  -h, --help  Print help
+
+The principal is replied the same by the whole script and by what is written.
+
+Example: s4d strike 8 < examples/intrusion.script | s4d run
+docs/TUTORIAL.md tells that example; docs/SCRIPTS.md says which lines stay.
 ";
 
 /// A command line, each word as its bytes.
@@ -147,12 +166,21 @@ fn command_lines(rt: HostRuntime) -> Result<(), Fail> {
             Ok(wanted)
         );
     }
-    let texts: [(&[&[u8]], &str); 7] = [
+    for (word, number) in [("1", 1), ("9", 9), ("4294967294", 4294967294)] {
+        let wanted = Command::Strike(Principal::new(number).ok_or("a principal")?);
+        assert_eq!(rt;
+            given(alloc, &[b"s4d", b"strike", word.as_bytes()]),
+            Ok(wanted)
+        );
+    }
+    let texts: [(&[&[u8]], &str); 9] = [
         (&[b"s4d", b"--help"], HELP),
         (&[b"s4d", b"help"], HELP),
         (&[b"s4d", b"run", b"--help"], RUN_HELP),
         (&[b"s4d", b"help", b"run"], RUN_HELP),
         (&[b"s4d", b"hall", b"--help"], HALL_HELP),
+        (&[b"s4d", b"strike", b"--help"], STRIKE_HELP),
+        (&[b"s4d", b"help", b"strike"], STRIKE_HELP),
         (&[b"s4d", b"--version"], "s4d 0.1.0\n"),
         (&[b"s4d", b"-V"], "s4d 0.1.0\n"),
     ];
@@ -166,10 +194,10 @@ fn command_lines(rt: HostRuntime) -> Result<(), Fail> {
 #[test]
 fn wrong_command_lines(rt: HostRuntime) -> Result<(), Fail> {
     let alloc = rt.alloc();
-    let cases: [(&[&[u8]], &str); 8] = [
+    let cases: [(&[&[u8]], &str); 10] = [
         (
             &[b"s4d"],
-            "'s4d' requires a subcommand but one was not provided\n  [subcommands: run, hall, help]\n\nUsage: s4d <COMMAND>",
+            "'s4d' requires a subcommand but one was not provided\n  [subcommands: run, hall, strike, help]\n\nUsage: s4d <COMMAND>",
         ),
         (
             &[b"s4d", b"walk"],
@@ -199,6 +227,14 @@ fn wrong_command_lines(rt: HostRuntime) -> Result<(), Fail> {
             &[b"s4d", b"hall", b"--window"],
             "unexpected argument '--window' found\n\n  tip: to pass '--window' as a value, use '-- --window'\n\nUsage: s4d hall <LOGINS> < ARRIVALS (the arrivals go to standard input)",
         ),
+        (
+            &[b"s4d", b"strike"],
+            "the following required arguments were not provided:\n  <WHO>\n\nUsage: s4d strike <WHO> < SCRIPT (the script goes to standard input)",
+        ),
+        (
+            &[b"s4d", b"strike", b"9", b"first.script"],
+            "unexpected argument 'first.script' found\n\nUsage: s4d strike <WHO> < SCRIPT (the script goes to standard input)",
+        ),
     ];
     for (words, wanted) in cases {
         let wanted = format!(in alloc;
@@ -206,6 +242,41 @@ fn wrong_command_lines(rt: HostRuntime) -> Result<(), Fail> {
         )?;
         assert_eq!(rt; refused(&rt, alloc, words)?.as_str(), wanted.as_str());
     }
+    Ok(())
+}
+
+/// The administrator, numbers that no principal has, and words that are no number of a script.
+#[test]
+fn wrong_principals(rt: HostRuntime) -> Result<(), Fail> {
+    let alloc = rt.alloc();
+    for word in [
+        "0",
+        "4294967295",
+        "18446744073709551616",
+        "",
+        "07",
+        "+7",
+        "7.0",
+        "seven",
+    ] {
+        let wanted = format!(in alloc;
+            "s4d: error: invalid value '{word}' for '<WHO>': it isn't a number from 1 to 4294967294\n\n\
+             For more information, try '--help'."
+        )?;
+        let told = refused(&rt, alloc, &[b"s4d", b"strike", word.as_bytes()])?;
+        assert_eq!(rt; told.as_str(), wanted.as_str());
+    }
+    Ok(())
+}
+
+#[test]
+fn strike_reads_a_script(rt: HostRuntime) -> Result<(), Fail> {
+    let struck = written(&rt, &[b"s4d", b"strike", b"9"], SCRIPT)?;
+    assert_eq!(rt; str::from_utf8(&struck)?, "window 100\n");
+    let struck = written(&rt, &[b"s4d", b"strike", b"7"], SCRIPT)?;
+    assert_eq!(rt; str::from_utf8(&struck)?, SCRIPT);
+    let told = written(&rt, &[b"s4d", b"strike", b"7"], ARRIVALS);
+    assert_eq!(rt; told.err(), Some(Fault::Run(RunFault::BadLine(2))));
     Ok(())
 }
 

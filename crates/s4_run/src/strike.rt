@@ -1,0 +1,150 @@
+//! Scripts without what a principal's strangers ask.
+
+ghost use Rattle.std.specs.Prelude.{◌≡◌, ◌++◌, ◌∷◌, [], true, false, IfOk, IfErr, IfSome, OnOk, Err};
+ghost use Rattle.std.specs.Io.KnownBytes.{Appends};
+ghost use Rattle.s4_drive.specs.Near.{IsNearIn};
+ghost use Rattle.s4_run.specs.Struck.{is_before, line_text, lines_text, steps_of, struck_lines, texts_of};
+ghost use Rattle.s4_run.specs.declared.fault.RunFault.TheVariants as fault;
+
+use crate::fault::RunFault;
+use crate::text;
+use s4_drive::Near;
+use s4_script::{Line, parse_line, parse_window};
+use s4_types::{Moment, NoMemory, Principal, Step};
+use std::alloc::Global;
+use std::io::{Read, Write};
+
+/// Reads a whole script, and writes it without the requests of the principal's strangers: the line of
+/// its window and the lines of the requests that stay, as they stood, each with a line feed. Lines that
+/// sweep or ask what is held are left out (docs/SCRIPTS.md, "Striking out strangers"). Nothing is run,
+/// and nothing is written at a fault in a line.
+pub fn run_strike<R: Read + Drop, W: Write>(
+    alloc: Global,
+    who: Principal,
+    mut reader: R,
+    writer: &mut W,
+) -> Result<(), RunFault> {
+    let text = text::read_text(alloc, &mut reader)?;
+    match Script::read(alloc, who, &text)? {
+        Some(script) => script.write_struck(writer),
+        None => Ok(()),
+    }
+}
+
+/// A request of a script, and the line that it stands on.
+#[derive(Drop)]
+struct AskingLine<'a> {
+    step: Step,
+    line: &'a [u8],
+}
+
+/// A script that was read for a principal: the line of its window, and its requests, whose moments
+/// never go down.
+#[derive(Drop)]
+struct Script<'a> {
+    who: Principal,
+    window: &'a [u8],
+    requests: Vec<AskingLine<'a>>,
+    near: Near,
+    /// The moment of the newest request, 0 before the first.
+    newest: Moment,
+    ghost near_is: { IsNearIn near who (steps_of requests.items) },
+}
+
+impl<'a> Script<'a> {
+    /// The script of a text, or none of an empty one.
+    fn read(alloc: Global, who: Principal, text: &'a [u8]) -> Result<Option<Script<'a>>, RunFault>
+        ensures { IfOk result (λ script. IfSome script (λ s. s.who ≡ who)) }
+    {
+        let mut script = None;
+        for (index, line) in text.split_inclusive(|byte| *byte == b'\n').enumerate() {
+            let number = index.saturating_add(1);
+            let line = line.strip_suffix(b"\n").unwrap_or(line);
+            let refuse = |why| RunFault::parsing(why, number);
+            match &mut script {
+                None => {
+                    parse_window(alloc, line).map_err(refuse)?;
+                    script = Some(Script::open(alloc, who, line));
+                }
+                Some(script) => {
+                    let told = parse_line(alloc, line).map_err(refuse)?;
+                    script.add(told, line, number)?;
+                }
+            }
+        }
+        Ok(script)
+    }
+
+    /// A script with that line of a window, and no requests yet. Takes no memory.
+    fn open(alloc: Global, who: Principal, window: &'a [u8]) -> Script<'a>
+        ensures who { result.who ≡ who }
+        ensures window { result.window.now ≡ window.now }
+        ensures requests { result.requests.items ≡ [] }
+        ensures newest { result.newest ≡ 0 }
+    {
+        Script {
+            who,
+            window,
+            requests: Vec::new(alloc),
+            near: Near::new(alloc, who),
+            newest: Moment::new(0),
+        }
+    }
+
+    /// Takes the line of that number, where it makes a request, unless its moment goes back.
+    fn add(&mut self, told: Line, line: &'a [u8], number: usize) -> Result<(), RunFault>
+        ensures who { self.new.who ≡ self.old.who }
+        ensures back { is_before self.old.newest told ≡ true → result ≡ Err (fault.MomentGoesBack number) }
+        ensures refused { is_before self.old.newest told ≡ false → IfErr result (λ why. why ≡ fault.NoMemory) }
+    {
+        let Line::Step(step) = told else {
+            return Ok(());
+        };
+        let Step::Request { moment, .. } = &step else {
+            return Ok(());
+        };
+        let moment = *moment;
+        if moment < self.newest {
+            return Err(RunFault::MomentGoesBack(number));
+        }
+        self.keep(step, line)?;
+        self.newest = moment;
+        Ok(())
+    }
+
+    /// Keeps a request and its line, and sees what it makes near.
+    fn keep(&mut self, step: Step, line: &'a [u8]) -> Result<(), NoMemory>
+        ensures steps { OnOk result (steps_of self.new.requests.items ≡ steps_of self.old.requests.items ++ step ∷ []) }
+        ensures texts { OnOk result (texts_of self.new.requests.items ≡ texts_of self.old.requests.items ++ line.now ∷ []) }
+        ensures who { self.new.who ≡ self.old.who }
+        ensures window { self.new.window.now ≡ self.old.window.now }
+        ensures newest { self.new.newest ≡ self.old.newest }
+    {
+        self.requests.reserve(1)?;
+        self.near.add(&step)?;
+        self.requests.push_reserved(AskingLine { step, line });
+        Ok(())
+    }
+
+    /// Writes the line of the window, and the lines of the requests that stay.
+    fn write_struck<W: Write>(&self, writer: &mut W) -> Result<(), RunFault>
+        ensures written { OnOk result (Appends (W.contents writer.old) (W.contents writer.new)
+            (line_text self.now.window.now ++ lines_text (struck_lines self.now.who self.now.requests.items))) }
+    {
+        write_line(writer, self.window)?;
+        for request in &self.requests {
+            if self.near.keeps(&request.step) {
+                write_line(writer, request.line)?;
+            }
+        }
+        writer.flush().map_err(RunFault::writing)
+    }
+}
+
+/// Writes the line, and a line feed.
+fn write_line<W: Write>(writer: &mut W, line: &[u8]) -> Result<(), RunFault>
+    ensures written { OnOk result (Appends (W.contents writer.old) (W.contents writer.new) (line_text line.now)) }
+{
+    writer.write_all(line).map_err(RunFault::writing)?;
+    writer.write_all(b"\n").map_err(RunFault::writing)
+}

@@ -1,0 +1,178 @@
+//! Campaigns of principal 9 against principal 7, which owns what is attacked. Replies, and which lines stay,
+//! are written by hand from docs/MODEL.md.
+
+use s4_script::{Line, parse_line};
+use s4_types::{Principal, Step};
+use std::alloc::Global;
+use std::test::Fail;
+
+/// A line of a campaign: what is asked, what is told, and for which of the two principals the line stays
+/// once its strangers are struck out.
+#[derive(Clone, Copy)]
+pub struct Asked(pub &'static str, pub &'static str, pub &'static [u32]);
+
+pub struct Campaign {
+    pub name: &'static str,
+    pub window: &'static str,
+    pub lines: &'static [Asked],
+}
+
+const BOTH: &[u32] = &[7, 9];
+
+const FOR_7: &[u32] = &[7];
+
+const FOR_9: &[u32] = &[9];
+
+pub const CAMPAIGNS: [Campaign; 4] = [
+    FILLING_A_BUDGET,
+    PROBING_NAMES,
+    PROBING_MOMENTS,
+    DELETES_AND_GRANTS,
+];
+
+/// 9 spends the budget of a purse that was shared with it. The purse 7.1 isn't near 9.
+const FILLING_A_BUDGET: Campaign = Campaign {
+    name: "campaign_filling_a_budget",
+    window: "window 50",
+    lines: &[
+        Asked("0 0 setbudget 7.0 200", "done", BOTH),
+        Asked("1 7 create 0", "made 7.0.1", BOTH),
+        Asked("1 7 create 1", "made 7.1.1", FOR_7),
+        Asked("2 7 setacl 7.0.1 9 2", "done", BOTH),
+        Asked("3 9 write 7.0.1 0 61", "done", BOTH),
+        Asked("4 9 write 7.0.1 0 62", "over-budget 144 65 200", BOTH),
+        Asked("5 7 setacl 7.0.1 9 0", "over-budget 144 96 200", BOTH),
+        Asked("5 7 write 7.1.1 0 61", "done", FOR_7),
+        Asked("52 7 setacl 7.0.1 9 0", "done", BOTH),
+        Asked("53 9 write 7.0.1 0 62", "denied write", BOTH),
+    ],
+};
+
+/// 9 looks for what 7 never shared. It names itself, which makes nothing near.
+const PROBING_NAMES: Campaign = Campaign {
+    name: "campaign_probing_names",
+    window: "window 100",
+    lines: &[
+        Asked("1 9 read 7.0.1 0 1", "denied read", FOR_9),
+        Asked("2 7 create 0", "made 7.0.1", FOR_7),
+        Asked("2 7 pcreate home 7.0.1", "done", FOR_7),
+        Asked("3 9 read 7.0.1 0 1", "denied read", FOR_9),
+        Asked("3 9 delete 7.0.1", "denied delete", BOTH),
+        Asked("3 9 setacl 7.0.1 9 31", "denied control", BOTH),
+        Asked("3 9 pdelete 7.0 home", "denied control", BOTH),
+        Asked("3 9 pdelete 7.0 nope", "denied control", BOTH),
+        Asked("3 9 plist 7", "names 0 end", FOR_9),
+        Asked(
+            "4 9 audit 7 6",
+            "audit 1 end\nrecord 3 9 0 14 range 0",
+            FOR_9,
+        ),
+    ],
+};
+
+/// 9 reads what it could read then.
+const PROBING_MOMENTS: Campaign = Campaign {
+    name: "campaign_probing_moments",
+    window: "window 20",
+    lines: &[
+        Asked("1 7 create 0", "made 7.0.1", BOTH),
+        Asked("2 7 setacl 7.0.1 9 17", "done", BOTH),
+        Asked("5 7 write 7.0.1 0 61", "done", BOTH),
+        Asked("6 7 setacl 7.0.1 9 1", "done", BOTH),
+        Asked("7 7 write 7.0.1 0 62", "done", BOTH),
+        Asked("10 9 read 7.0.1 0 1 at 5", "data 61 by 1 since 2", FOR_9),
+        Asked("10 9 read 7.0.1 0 1 at 6", "denied recover", FOR_9),
+        Asked("10 9 read 7.0.1 0 1 at 1", "denied read", FOR_9),
+        Asked("10 9 read 7.0.1 0 1 at 11", "future", FOR_9),
+        Asked("26 9 read 7.0.1 0 1 at 5", "too-old 6", FOR_9),
+        Asked("27 9 read 7.0.1 0 1 at 7", "denied recover", FOR_9),
+    ],
+};
+
+/// 9 takes 7's own object away from it.
+const DELETES_AND_GRANTS: Campaign = Campaign {
+    name: "campaign_deletes_and_grants",
+    window: "window 100",
+    lines: &[
+        Asked("1 7 create 0", "made 7.0.1", BOTH),
+        Asked("2 7 setacl 7.0.1 9 31", "done", BOTH),
+        Asked("3 9 setacl 7.0.1 7 0", "done", BOTH),
+        Asked("4 7 read 7.0.1 0 1", "denied read", FOR_7),
+        Asked("4 9 delete 7.0.1", "done", BOTH),
+        Asked("5 7 read 7.0.1 0 1", "no-object", FOR_7),
+        Asked("5 7 read 7.0.1 0 1 at 3", "denied read", FOR_7),
+        Asked("5 7 read 7.0.1 0 1 at 2", "data empty by 0 since 2", FOR_7),
+        Asked("5 9 read 7.0.1 0 1 at 3", "data empty by 0 since 3", FOR_9),
+        Asked("5 9 read 7.0.1 0 1", "denied read", FOR_9),
+    ],
+};
+
+/// The sweeps that are put at each place.
+pub const SWEEPS: [&str; 3] = ["sweep 0", "sweep 1", "sweep 1000000"];
+
+/// The lines that stay once the strangers of this principal are struck out.
+pub fn kept(alloc: Global, lines: &[Asked], who: u32) -> Result<Vec<Asked>, Fail> {
+    let mut kept = Vec::new(alloc);
+    for line in lines {
+        if line.2.contains(&who) {
+            kept.push(*line)?;
+        }
+    }
+    Ok(kept)
+}
+
+/// A line of their window, and these lines.
+pub fn script(alloc: Global, window: &str, lines: &[Asked]) -> Result<String, Fail> {
+    let mut script = String::new(alloc);
+    writeln!(script, "{window}")?;
+    for line in lines {
+        writeln!(script, "{}", line.0)?;
+    }
+    Ok(script)
+}
+
+/// The same, with one line more before the one of that place, or at the end.
+pub fn script_with(
+    alloc: Global,
+    window: &str,
+    lines: &[Asked],
+    (more, place): (&str, usize),
+) -> Result<String, Fail> {
+    let mut script = String::new(alloc);
+    writeln!(script, "{window}")?;
+    for (index, line) in lines.iter().enumerate() {
+        if index == place {
+            writeln!(script, "{more}")?;
+        }
+        writeln!(script, "{}", line.0)?;
+    }
+    if place >= lines.len() {
+        writeln!(script, "{more}")?;
+    }
+    Ok(script)
+}
+
+/// What is told of these lines.
+pub fn told(alloc: Global, lines: &[Asked]) -> Result<String, Fail> {
+    let mut told = String::new(alloc);
+    for line in lines {
+        writeln!(told, "{}", line.1)?;
+    }
+    Ok(told)
+}
+
+pub fn principal(number: u32) -> Result<Principal, Fail> {
+    Ok(Principal::new(number).ok_or("a principal")?)
+}
+
+/// What the lines of a script after its first have a drive do.
+pub fn steps_of(alloc: Global, script: &str) -> Result<Vec<Step>, Fail> {
+    let mut steps = Vec::new(alloc);
+    for text in script.lines().skip(1) {
+        match parse_line(alloc, text.as_bytes())? {
+            Line::Step(step) => steps.push(step)?,
+            Line::Used => return Err(Fail::from("a step")),
+        }
+    }
+    Ok(steps)
+}

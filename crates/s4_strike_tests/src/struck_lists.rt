@@ -1,0 +1,98 @@
+//! Lists of steps without a principal's strangers.
+
+use crate::campaigns::{Asked, CAMPAIGNS, SWEEPS, kept, principal, script, script_with, steps_of};
+use s4_drive::strike;
+use std::alloc::Global;
+use std::process::Abort;
+use std::test::Fail;
+
+/// What makes a purse near 9, and what doesn't: the purse 7.0 is near from the first line on, by a request
+/// that comes late; 7.1 by one that is refused, 7.2 by one for no rights; 7.3 isn't, where 9 itself asks, and
+/// where another is named. What is told doesn't matter.
+const NEAR: [Asked; 27] = [
+    Asked("1 7 create 0", "", STAYS),
+    Asked("1 7 create 1", "", STAYS),
+    Asked("1 7 create 2", "", STAYS),
+    Asked("1 7 create 3", "", GOES),
+    Asked("1 8 write 7.0.1 0 61", "", STAYS),
+    Asked("1 8 write 7.3.1 0 61", "", GOES),
+    Asked("2 8 setacl 7.1.9 9 31", "", STAYS),
+    Asked("2 7 setacl 7.2.1 9 0", "", STAYS),
+    Asked("2 9 setacl 7.3.1 9 31", "", STAYS),
+    Asked("2 7 setacl 7.3.1 8 31", "", GOES),
+    Asked("3 9 create 0", "", STAYS),
+    Asked("3 7 append 9.0.1 61", "", STAYS),
+    Asked("3 7 read 9.0.1 0 1", "", GOES),
+    Asked("3 7 pcreate a 7.0.1", "", STAYS),
+    Asked("3 7 pmount 7.0 a", "", GOES),
+    Asked("3 7 plist 9", "", GOES),
+    Asked("3 0 audit 9 0", "", GOES),
+    Asked("4 0 flush 9 0", "", STAYS),
+    Asked("4 0 setwindow 5", "", STAYS),
+    Asked("4 8 flush 0 9", "", GOES),
+    Asked("4 7 setwindow 0", "", GOES),
+    Asked("5 0 setbudget 7.2 0", "", STAYS),
+    Asked("5 0 setbudget 7.3 0", "", GOES),
+    Asked("5 0 flusho 7.0.1 0 9", "", STAYS),
+    Asked("5 0 flusho 7.3.1 0 9", "", GOES),
+    Asked("6 7 pdelete 7.3 a", "", GOES),
+    Asked("7 7 setacl 7.0.2 9 1", "", STAYS),
+];
+
+const STAYS: &[u32] = &[9];
+
+const GOES: &[u32] = &[];
+
+/// That these are the lines that stay for the principal, whatever sweep stands where.
+fn check_struck<A: Abort>(rt: &A, alloc: Global, lines: &[Asked], who: u32) -> Result<(), Fail> {
+    let stay = kept(alloc, lines, who)?;
+    let wanted = script(alloc, "window 0", &stay)?;
+    let wanted = steps_of(alloc, wanted.as_str())?;
+    for sweep in SWEEPS {
+        for place in 0..lines.len().saturating_add(1) {
+            let text = script_with(alloc, "window 0", lines, (sweep, place))?;
+            let steps = steps_of(alloc, text.as_str())?;
+            let struck = strike(alloc, principal(who)?, &steps)?;
+            assert_eq!(rt; struck, wanted, "{who}: {text}");
+        }
+    }
+    Ok(())
+}
+
+#[test]
+fn campaigns_are_struck(rt: HostRuntime) -> Result<(), Fail> {
+    let alloc = rt.alloc();
+    for campaign in &CAMPAIGNS {
+        check_struck(&rt, alloc, campaign.lines, 7)?;
+        check_struck(&rt, alloc, campaign.lines, 9)?;
+    }
+    Ok(())
+}
+
+#[test]
+fn what_is_near_is_told_by_all_steps(rt: HostRuntime) -> Result<(), Fail> {
+    check_struck(&rt, rt.alloc(), &NEAR, 9)
+}
+
+/// Of the administrator the same is struck as of anyone, and of one who isn't there all but what is asked
+/// of all purses.
+#[test]
+fn other_principals(rt: HostRuntime) -> Result<(), Fail> {
+    let alloc = rt.alloc();
+    let text =
+        "window 0\n1 7 create 0\n2 0 setbudget 7.0 1\n3 7 setacl 7.0.1 8 1\n4 0 setwindow 9\n5 0 read 7.0.1 0 1\n";
+    let steps = steps_of(alloc, text)?;
+    let cases = [
+        (
+            0,
+            "window 0\n2 0 setbudget 7.0 1\n4 0 setwindow 9\n5 0 read 7.0.1 0 1\n",
+        ),
+        (4294967294, "window 0\n4 0 setwindow 9\n"),
+    ];
+    for (who, wanted) in cases {
+        let struck = strike(alloc, principal(who)?, &steps)?;
+        assert_eq!(rt; struck, steps_of(alloc, wanted)?, "{who}");
+    }
+    assert_eq!(rt; strike(alloc, principal(7)?, &[])?.len(), 0);
+    Ok(())
+}
