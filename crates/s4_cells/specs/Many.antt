@@ -1,0 +1,46 @@
+-- Many cells, seen by their logs, and what a request of all purses does to them: facts on the cell of each place.
+use Rattle.std.specs.Prelude.{◌≡◌, ℕ, true, ◌<◌, ◌≤◌, List, [], map, length, slice_index_or}
+use Rattle.s4_types.specs.declared.principal.Caller.{Caller}
+use Rattle.s4_types.specs.declared.record.Record.{Record}
+use Rattle.s4_types.specs.declared.request.Request.{Request}
+use Rattle.s4_types.specs.Base.{opened}
+use Rattle.s4_types.specs.Play.{record_of}
+use Rattle.s4_state.specs.Log.{Log, with_record}
+
+-- the histories of the cells, in their order
+abbrev pub histories : List Log → List (List Record)
+histories cells = map (λ c. c.history) cells
+
+-- the record of a wide request, whose answer depends on no record
+abbrev pub wide_record : ℕ → Caller → Request → Record
+wide_record t caller request = record_of (opened 0) [] t caller request
+
+-- it holds of each cell
+abbrev pub Each : (Log → Type 0) → List Log → Type 0
+Each P cells = (k : ℕ) (none : Log) → k < length cells → P (slice_index_or cells k none)
+
+-- the cells have the record more, each of them
+pub record AllAdd (r : Record) (old new : List Log) : Type 0 where
+  pub count : length new ≡ length old
+  pub each : (k : ℕ) (none : Log) → k < length old → slice_index_or new k none ≡ with_record (slice_index_or old k none) r
+
+-- a log as it was, but that it may be ready or not
+pub record Stays (old new : Log) : Type 0 where
+  pub window : new.window ≡ old.window
+  pub history : new.history ≡ old.history
+  pub held : new.held ≡ old.held
+
+-- the cells are as they were, each of them, but that some may be ready
+pub record AllStay (old new : List Log) : Type 0 where
+  pub count : length new ≡ length old
+  pub each : (k : ℕ) (none : Log) → Stays (slice_index_or old k none) (slice_index_or new k none)
+
+-- the first i cells are ready
+abbrev pub AreReady : ℕ → List Log → Type 0
+AreReady i cells = (k : ℕ) (none : Log) → k < i → k < length cells → (slice_index_or cells k none).ready ≡ true
+
+-- the first i cells have the record more, and the others are as they were
+pub record FirstAdd (r : Record) (i : ℕ) (old new : List Log) : Type 0 where
+  pub count : length new ≡ length old
+  pub first : (k : ℕ) (none : Log) → k < i → k < length old → slice_index_or new k none ≡ with_record (slice_index_or old k none) r
+  pub others : (k : ℕ) (none : Log) → i ≤ k → slice_index_or new k none ≡ slice_index_or old k none

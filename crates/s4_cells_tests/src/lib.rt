@@ -1,0 +1,10 @@
+//! Tests of cells: each call once, and a wide request on two and on three cells. What is proved stands
+//! in `s4_cells`; here stands what no clause says: that memory that is there is enough.
+#![tactic(auto)]
+
+#[cfg(test)]
+mod all_cells;
+#[cfg(test)]
+mod given;
+#[cfg(test)]
+mod one_cell;

@@ -1,0 +1,121 @@
+-- Where calls and records match, the records are at home, and each call's record stands in the merged history.
+use Rattle.std.proofs.Common.{◌≡◌, ◌≢◌, ℕ, ◌+◌, ◌<◌, ◌≤◌, ◌%◌, zero, suc, Bool, true, false, cond, List, [], ◌∷◌, length, take, get_or, Some, eqb, sym, refl, ap, ◌∙◌, subst, ⊎_elim, arith, eq-eqb, mod-lt}
+use Rattle.std.specs.Prelude.{slice_get, slice_index}
+use Rattle.std.proofs.lemmas.Bool.Decides.{eqb_tells}
+use Rattle.s4_types.specs.declared.record.Record.{Record}
+use Rattle.s4_types.specs.Audit.{is_wide_record}
+use Rattle.s4_types.specs.Kinds.{range_of}
+use Rattle.s4_types.specs.Play.{InOrder}
+use Rattle.s4_state.specs.Log.{Log}
+use Rattle.s4_calls.specs.Calls.{Call, CallList}
+use Rattle.s4_merge.specs.Merged.{IsMergeOf, AreHome, no_state}
+use Rattle.s4_merge_laws.specs.Cells.{is_in_cell, records_in}
+use Rattle.s4_merge.specs.Claims.{home, record_of, Suits, AllSuit, times, Matches, all_calls, AllMatch}
+use Rattle.s4_merge.specs.Order.{places, position}
+use Rattle.s4_merge.proofs.Claiming.{names_other, names_elsewhere}
+use Rattle.s4_merge.proofs.Ordering.{bool_case}
+
+same_some : (x y : Record) → Some x ≡ Some y → x ≡ y
+same_some x y e = cc
+
+suc_in : (a b : ℕ) → (a + 1) + b ≡ a + suc b
+suc_in a b = omega arith
+
+pub zero_more : (a : ℕ) → 0 + a ≡ a
+zero_more a = omega arith
+
+-- a call of the cell whose record is this
+abbrev Named : ℕ → List Record → ℕ → ℕ → Type 0
+Named n h k p = (c : Call) × (home n (record_of c) ≡ k) × (slice_get h p ≡ Some (record_of c))
+
+-- where a place is named, a call has the record there
+named : (n : ℕ) (h : List Record) (k p : ℕ) (cs : List Call) → AllSuit n h k cs → 0 < times n k p cs → Named n h k p
+named n h k p [] all some = absurd (omega arith)
+named n h k p (c ∷ cs) all some = ⊎_elim
+    (λ (x : (eqb (home n (record_of c)) k ≡ true) × (home n (record_of c) ≡ k)). ⊎_elim
+    (λ (y : (eqb c.receipt.place p ≡ true) × (c.receipt.place ≡ p)). (c, x.1, ap (λ (q : ℕ). slice_get h q) (sym y.1) ∙ (all.0 x.1).1))
+    (λ (y : (eqb c.receipt.place p ≡ false) × (c.receipt.place ≢ p)). let none = names_other n k p c y.1 in named n h k p cs all.1 (omega arith))
+    (eqb_tells c.receipt.place p))
+    (λ (x : (eqb (home n (record_of c)) k ≡ false) × (home n (record_of c) ≢ k)). let none = names_elsewhere n k p c x.1 in named n h k p cs all.1 (omega arith))
+    (eqb_tells (home n (record_of c)) k)
+
+home_narrow : (m k : ℕ) (w : Bool) → w ≡ false → cond w 0 m ≡ k → m ≡ k
+home_narrow m k true e at = cc
+home_narrow m k false e at = at
+
+record_concerns : (n : ℕ) (h : List Record) (k p : ℕ) (cs : List Call) (r : Record) → Matches n h k cs → slice_get h p ≡ Some r → is_in_cell n k r ≡ true
+record_concerns n h k p cs r m e = bool_case (is_in_cell n k r ≡ true) (is_wide_record r)
+    (λ w. rw w refl)
+    (λ w. let once = m.once p r e (rw w refl) in
+    let x = named n h k p cs m.suit (omega arith) in
+    let same : r ≡ record_of x.0 = same_some r (record_of x.0) (sym e ∙ x.2) in
+    let at : home n r ≡ k = ap (λ (s : Record). home n s) same ∙ x.1 in
+    let here : range_of r.caller r.request % n ≡ k = home_narrow (range_of r.caller r.request % n) k (is_wide_record r) w at in
+    rw w (eq-eqb (range_of r.caller r.request % n) k here))
+
+only_all : (n k : ℕ) (h : List Record) → ((p : ℕ) (r : Record) → slice_get h p ≡ Some r → is_in_cell n k r ≡ true) → records_in n k h ≡ h
+only_all n k [] f = refl
+only_all n k (x ∷ h) f = ap (λ b. cond b (x ∷ records_in n k h) (records_in n k h)) (f 0 x refl) ∙ ap (λ l. x ∷ l) (only_all n k h (λ p r e. f (suc p) r e))
+
+pub are_home : (cells : List Log) (ps : List CallList) → AllMatch cells ps → AreHome cells
+are_home cells ps all k d lt = only_all (length cells) k (get_or cells k d).history (λ p r e. record_concerns (length cells) (get_or cells k d).history k p (all_calls ps) r (all k d lt) e)
+
+suit_at : (n : ℕ) (h : List Record) (k i : ℕ) (cs : List Call) (c : Call) → AllSuit n h k cs → slice_get cs i ≡ Some c → Suits n h k c
+suit_at n h k i [] c all e = cc
+suit_at n h k zero (x ∷ cs) c all e = let same : x ≡ c = cc in subst (λ y. Suits n h k y) same all.0
+suit_at n h k (suc i) (x ∷ cs) c all e = suit_at n h k i cs c all.1 e
+
+-- where the p-th record of a cell stands
+abbrev pub StandsAt : ℕ → ℕ → ℕ → List Record → ℕ → Record → Type 0
+StandsAt n k i xs p r = (q : ℕ) × (slice_index (places n k i xs) p ≡ i + q) × (slice_get xs q ≡ Some r) × (length (records_in n k (take q xs)) ≡ p)
+
+stands_case : (n k i : ℕ) (x : Record) (xs : List Record) (p : ℕ) (r : Record) (b : Bool) → is_in_cell n k x ≡ b → ((p : ℕ) → slice_get (records_in n k xs) p ≡ Some r → StandsAt n k (i + 1) xs p r)
+    → slice_get (cond b (x ∷ records_in n k xs) (records_in n k xs)) p ≡ Some r
+    → (q : ℕ) × (slice_index (cond b (i ∷ places n k (i + 1) xs) (places n k (i + 1) xs)) p ≡ i + q) × (slice_get (x ∷ xs) q ≡ Some r) × (length (records_in n k (take q (x ∷ xs))) ≡ p)
+stands_case n k i x xs zero r true is more e = (0, omega arith, e, refl)
+stands_case n k i x xs (suc p) r true is more e = let s = more p e in (suc s.0, s.1 ∙ suc_in i s.0, s.2, rw is (ap suc s.3))
+stands_case n k i x xs p r false is more e = let s = more p e in (suc s.0, s.1 ∙ suc_in i s.0, s.2, rw is s.3)
+
+pub stands : (n k i : ℕ) (xs : List Record) (p : ℕ) (r : Record) → slice_get (records_in n k xs) p ≡ Some r → StandsAt n k i xs p r
+stands n k i [] p r e = cc
+stands n k i (x ∷ xs) p r e = stands_case n k i x xs p r (is_in_cell n k x) refl (λ p e. stands n k (i + 1) xs p r e) e
+
+home_lt : (n m : ℕ) (w : Bool) → 0 < n → m < n → cond w 0 m < n
+home_lt n m true some lt = some
+home_lt n m false some lt = lt
+
+pub home_in : (n : ℕ) (c : Call) → 0 < n → home n (record_of c) < n
+home_in n c some = home_lt n (range_of c.asked.caller c.asked.request % n) (is_wide_record (record_of c)) some (mod-lt (range_of c.asked.caller c.asked.request) some)
+
+-- the record of a call in its cell
+pub record_in : (cells : List Log) (ps : List CallList) (i : ℕ) (c : Call) (d : Log) → AllMatch cells ps → 0 < length cells → slice_get (all_calls ps) i ≡ Some c → slice_get (get_or cells (home (length cells) (record_of c)) d).history c.receipt.place ≡ Some (record_of c)
+record_in cells ps i c d all some e =
+    let n = length cells in
+    let k = home n (record_of c) in
+    (suit_at n (get_or cells k d).history k i (all_calls ps) c (all k d (home_in n c some)).suit e refl).1
+
+-- and in the merged history
+pub call_stands : (cells : List Log) (ps : List CallList) (all : List Record) (i : ℕ) (c : Call) → IsMergeOf (length cells) all cells → AllMatch cells ps → 0 < length cells → slice_get (all_calls ps) i ≡ Some c
+    → slice_get all (position (length cells) all c) ≡ Some (record_of c)
+call_stands cells ps all i c merge match some e =
+    let n = length cells in
+    let k = home n (record_of c) in
+    let r = record_in cells ps i c no_state match some e in
+    let s = stands n k 0 all c.receipt.place (record_of c) (ap (λ l. slice_get l c.receipt.place) (merge k no_state (home_in n c some)) ∙ r) in
+    ap (λ (q : ℕ). slice_get all q) (s.1 ∙ zero_more s.0) ∙ s.2
+
+rises_above : (m : ℕ) (xs : List Record) (p : ℕ) (r : Record) → InOrder m xs → slice_get xs p ≡ Some r → m ≤ r.moment
+rises_above m [] p r h e = cc
+rises_above m (x ∷ xs) zero r h e = let same : x ≡ r = cc in rw (← same) h.0
+rises_above m (x ∷ xs) (suc p) r h e = let more = rises_above x.moment xs p r h.1 e in omega (arith, h.0)
+
+rises_later : (m : ℕ) (xs : List Record) (p q : ℕ) (r s : Record) → InOrder m xs → slice_get xs p ≡ Some r → slice_get xs q ≡ Some s → p ≤ q → r.moment ≤ s.moment
+rises_later m [] p q r s h e f le = cc
+rises_later m (x ∷ xs) zero zero r s h e f le = let same : r ≡ s = cc in rw same (omega arith)
+rises_later m (x ∷ xs) zero (suc q) r s h e f le = let same : x ≡ r = cc in rw (← same) (rises_above x.moment xs q s h.1 f)
+rises_later m (x ∷ xs) (suc p) zero r s h e f le = absurd (omega arith)
+rises_later m (x ∷ xs) (suc p) (suc q) r s h e f le = rises_later x.moment xs p q r s h.1 e f (omega arith)
+
+-- the one with the smaller moment stands first
+pub earlier_first : (all : List Record) (p q : ℕ) (r s : Record) → InOrder 0 all → slice_get all p ≡ Some r → slice_get all q ≡ Some s → r.moment < s.moment → p < q
+earlier_first all p q r s rises e f lt = let back : q ≤ p → s.moment ≤ r.moment = λ le. rises_later 0 all q p s r rises f e le in grind arith

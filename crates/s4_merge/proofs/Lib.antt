@@ -1,0 +1,12 @@
+pub mod Snoc
+pub mod Steps
+pub mod Ascending
+pub mod Claiming
+pub mod Ordering
+pub mod Wides
+pub mod Closing
+pub mod Transfer
+pub mod SameRights
+pub mod SameRefusals
+pub mod SameRequests
+pub mod SameReplies

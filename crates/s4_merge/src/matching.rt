@@ -1,0 +1,136 @@
+//! Which record each call has.
+
+ghost use Rattle.std.specs.Prelude.{◌≡◌, ◌<◌, ◌++◌, ◌∷◌, [], List, length, IsTrue, ◌↔◌, IfOk, MatchBool, Some, slice_get};
+ghost use Rattle.s4_calls.specs.Calls.{Call, call_of};
+ghost use Rattle.s4_merge.specs.Claims.{home_of as number_of_home, Matches, Claimed, record_of, all_calls, AllMatch, AllClaimed, OneUnclaimed, NoneClaimed};
+
+use crate::same::is_record_of;
+use s4_calls::{Asked, Pass, Receipt};
+use s4_cells::Cell;
+use s4_types::{Caller, NoMemory, Record, Request};
+use std::alloc::Global;
+
+/// The cell of a request among n: that of its range, and the first for a wide one.
+fn home_of(n: usize, caller: &Caller, request: &Request) -> usize
+    requires { 0 < n }
+    ensures { result ≡ number_of_home n caller.now request.now }
+{
+    if request.is_wide(caller) {
+        0
+    } else {
+        request.range(caller).number() as usize % n
+    }
+}
+
+/// Whether the record at a place is that of the call.
+fn is_at(history: &[Record], place: usize, asked: &Asked, receipt: &Receipt) -> bool
+    ensures { IsTrue result ↔ (slice_get history.now place ≡ Some (record_of (call_of asked.now receipt.now))) }
+{
+    match history.get(place) {
+        Some(found) => is_record_of(found, asked, receipt),
+        None => false,
+    }
+}
+
+/// Claims the record of one more call. False if that shows that calls and records don't match.
+fn claim(
+    history: &[Record],
+    n: usize,
+    cell: usize,
+    asked: &Asked,
+    receipt: &Receipt,
+    claimed: &mut [bool],
+) -> bool
+    requires { (0 < n) × (length claimed.old ≡ length history.now) }
+    ensures { (before : List Call) → Claimed n history.now cell before claimed.old → MatchBool result
+        (Claimed n history.now cell (before ++ call_of asked.now receipt.now ∷ []) claimed.new)
+        ((rest : List Call) → ¬ Matches n history.now cell (before ++ call_of asked.now receipt.now ∷ rest)) }
+{
+    if home_of(n, &asked.caller, &asked.request) != cell {
+        return true;
+    }
+    if receipt.cell != cell {
+        return false;
+    }
+    let place = receipt.place as usize;
+    if !is_at(history, place, asked, receipt) {
+        return false;
+    }
+    if claimed[place] {
+        return false;
+    }
+    claimed[place] = true;
+    true
+}
+
+/// Claims the records of one more pass.
+fn claim_pass(history: &[Record], n: usize, cell: usize, pass: &Pass, claimed: &mut [bool]) -> bool
+    requires { (0 < n) × (length claimed.old ≡ length history.now) }
+    ensures { (before : List Call) → Claimed n history.now cell before claimed.old → MatchBool result
+        (Claimed n history.now cell (before ++ pass.now.calls) claimed.new)
+        ((rest : List Call) → ¬ Matches n history.now cell (before ++ (pass.now.calls ++ rest))) }
+{
+    let (asked, receipts) = pass.sides();
+    for i in 0..asked.len() {
+        if !claim(history, n, cell, &asked[i], &receipts[i], claimed) {
+            return false;
+        }
+    }
+    true
+}
+
+/// Whether each record that counts is claimed.
+fn are_claimed(history: &[Record], cell: usize, claimed: &[bool]) -> bool
+    requires { length claimed.now ≡ length history.now }
+    ensures { MatchBool result (AllClaimed (length history.now) history.now cell claimed.now) (OneUnclaimed history.now cell claimed.now) }
+{
+    for p in 0..history.len() {
+        let needed = !history[p].is_wide() || cell == 0;
+        if needed && !claimed[p] {
+            return false;
+        }
+    }
+    true
+}
+
+/// Whether the records of a cell and the calls of its ranges match one to one.
+fn matches(history: &[Record], n: usize, cell: usize, passes: &[Pass], claimed: &mut [bool]) -> bool
+    requires cells { 0 < n }
+    requires count { length claimed.old ≡ length history.now }
+    requires none { NoneClaimed claimed.old }
+    ensures { MatchBool result (Matches n history.now cell (all_calls passes.now)) (¬ Matches n history.now cell (all_calls passes.now)) }
+{
+    for p in 0..passes.len() {
+        if !claim_pass(history, n, cell, &passes[p], claimed) {
+            return false;
+        }
+    }
+    are_claimed(history, cell, claimed)
+}
+
+/// Whether the records of one cell match.
+fn cell_matches(
+    alloc: Global,
+    history: &[Record],
+    n: usize,
+    cell: usize,
+    passes: &[Pass],
+) -> Result<bool, NoMemory>
+    requires cells { 0 < n }
+    ensures { IfOk result (λ b. MatchBool b (Matches n history.now cell (all_calls passes.now)) (¬ Matches n history.now cell (all_calls passes.now))) }
+{
+    let mut claimed = Vec::from_elem(alloc, false, history.len())?;
+    Ok(matches(history, n, cell, passes, claimed.as_mut_slice()))
+}
+
+/// Whether calls and records match one to one.
+pub fn all_match(alloc: Global, cells: &[Cell], passes: &[Pass]) -> Result<bool, NoMemory>
+    ensures { IfOk result (λ b. MatchBool b (AllMatch cells.now passes.now) (¬ AllMatch cells.now passes.now)) }
+{
+    for k in 0..cells.len() {
+        if !cell_matches(alloc, cells[k].history(), cells.len(), k, passes)? {
+            return Ok(false);
+        }
+    }
+    Ok(true)
+}

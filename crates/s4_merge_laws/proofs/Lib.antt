@@ -1,0 +1,2 @@
+pub mod OfCell
+pub mod Plain
