@@ -1,0 +1,212 @@
+//! A talk, turn by turn.
+
+ghost use Rattle.std.specs.Prelude.{◌≡◌, []};
+ghost use Rattle.s4_talk.specs.Turning.{EndsSo, Intakes, IntakesSo, Sends, Turns, TurnsSo, is_served, is_whole, opened, scene, told};
+
+use crate::answer::Answer;
+use crate::serving::take_piece;
+use bytes::BytesMut;
+use s4_session::{Fault, Logins, Session};
+use std::alloc::Global;
+use std::io::{ErrorKind, Read, Write};
+use std::marker::Model;
+
+/// How a talk ends.
+#[derive(Clone, Copy, Debug, PartialEq, Eq)]
+pub enum TalkEnd {
+    /// The peer says no more, and was told all.
+    PeerClosed,
+    /// The peer was told this fault after all else.
+    Faulted(Fault),
+    /// A read failed. All that was answered before is written.
+    ReadFailed,
+    /// A write failed, or took no byte.
+    WriteFailed,
+    /// A growth was refused.
+    NoMemory,
+}
+
+/// How a turn ends.
+#[derive(Clone, Copy, Debug, PartialEq, Eq)]
+pub enum TurnEnd {
+    /// There may be more to read.
+    More,
+    /// Nothing is there to read now. All is written.
+    Waits,
+    /// The writer takes nothing now, and something waits to be written.
+    Stuck,
+    /// The talk is over.
+    Ended(TalkEnd),
+}
+
+/// The most bytes that a turn reads.
+const PIECE: usize = 4096;
+
+/// A talk with a peer that goes on: where its session stands, the fault that ended that, and the
+/// bytes that wait to be written.
+#[derive(Drop)]
+pub struct Talking {
+    session: Session,
+    fault: Option<Fault>,
+    waiting: BytesMut,
+}
+
+impl Model for Talking {
+    ghost use Rattle.s4_talk.specs.Turning.{Told, told};
+
+    ghost Value = { Told };
+
+    ghost view = { λ t. told t.session t.fault t.waiting.items };
+}
+
+impl Talking {
+    /// A talk in which nothing was said. Takes no memory.
+    pub fn open(alloc: Global) -> Talking
+        ensures { result ≡ opened }
+    {
+        Talking {
+            session: Session::open(alloc),
+            fault: None,
+            waiting: BytesMut::new(alloc),
+        }
+    }
+
+    /// Writes what waits, and then reads once, serves the whole frames of what was read, and writes
+    /// what they are answered. It waits where the reader, the writer or the answer does; with a
+    /// reader and a writer that tell `WouldBlock` it ends by `Waits` or `Stuck`, and goes on at the
+    /// next turn. A read or a write that was interrupted is tried again.
+    pub fn turn<R: Read, W: Write, A: Answer>(
+        &mut self,
+        logins: &Logins,
+        reader: &mut R,
+        writer: &mut W,
+        answer: &mut A,
+    ) -> TurnEnd
+        // Of what was read a beginning is served, each frame once and in order, and what it is answered is
+        // written behind what waited, or waits. A beginning is all of it, but for want of memory.
+        ensures turns { Turns (is_whole result) logins.now
+            (scene (R.remaining reader.old) (W.contents writer.old) (A.calls answer.old) self.old)
+            (scene (R.remaining reader.new) (W.contents writer.new) (A.calls answer.new) self.new) }
+        // What each end says.
+        ensures so { TurnsSo result (R.remaining reader.new) self.new }
+    {
+        let Talking {
+            session,
+            fault,
+            waiting,
+        } = self;
+        turn(session, fault, waiting, logins, reader, writer, answer)
+    }
+}
+
+fn turn<R: Read, W: Write, A: Answer>(
+    session: &mut Session,
+    fault: &mut Option<Fault>,
+    waiting: &mut BytesMut,
+    logins: &Logins,
+    reader: &mut R,
+    writer: &mut W,
+    answer: &mut A,
+) -> TurnEnd
+    ensures turns { Turns (is_whole result) logins.now
+        (scene (R.remaining reader.old) (W.contents writer.old) (A.calls answer.old)
+        (told session.old fault.old waiting.old.items))
+        (scene (R.remaining reader.new) (W.contents writer.new) (A.calls answer.new)
+        (told session.new fault.new waiting.new.items)) }
+    ensures so { TurnsSo result (R.remaining reader.new) (told session.new fault.new waiting.new.items) }
+{
+    match send(waiting, writer) {
+        Sending::All => {}
+        Sending::Later => return TurnEnd::Stuck,
+        Sending::Failed => return TurnEnd::Ended(TalkEnd::WriteFailed),
+    }
+    if let Some(told) = *fault {
+        return TurnEnd::Ended(TalkEnd::Faulted(told));
+    }
+    match take_in(session, fault, waiting, logins, reader, answer) {
+        Intake::Served => {}
+        Intake::Waits => return TurnEnd::Waits,
+        Intake::AtEnd => return TurnEnd::Ended(TalkEnd::PeerClosed),
+        Intake::Failed => return TurnEnd::Ended(TalkEnd::ReadFailed),
+        Intake::NoMemory => return TurnEnd::Ended(TalkEnd::NoMemory),
+    }
+    match send(waiting, writer) {
+        Sending::All => {}
+        Sending::Later => return TurnEnd::Stuck,
+        Sending::Failed => return TurnEnd::Ended(TalkEnd::WriteFailed),
+    }
+    if let Some(told) = *fault {
+        return TurnEnd::Ended(TalkEnd::Faulted(told));
+    }
+    TurnEnd::More
+}
+
+/// What a read came to.
+#[derive(Clone, Copy, Debug, PartialEq, Eq)]
+enum Intake {
+    Served,
+    Waits,
+    AtEnd,
+    Failed,
+    NoMemory,
+}
+
+/// Reads once, and serves the whole frames.
+fn take_in<R: Read, A: Answer>(
+    session: &mut Session,
+    fault: &mut Option<Fault>,
+    waiting: &mut BytesMut,
+    logins: &Logins,
+    reader: &mut R,
+    answer: &mut A,
+) -> Intake
+    ensures takes { Intakes (is_served result) logins.now (R.remaining reader.old) (R.remaining reader.new)
+        (A.calls answer.old) (A.calls answer.new)
+        (told session.old fault.old waiting.old.items) (told session.new fault.new waiting.new.items) }
+    ensures so { IntakesSo result (R.remaining reader.new)
+        (told session.old fault.old waiting.old.items) (told session.new fault.new waiting.new.items) }
+{
+    let mut piece = [0; PIECE];
+    match reader.read(&mut piece) {
+        Ok(0) => Intake::AtEnd,
+        Ok(n) => match take_piece(session, fault, waiting, logins, &piece[..n], answer) {
+            Ok(()) => Intake::Served,
+            Err(_) => Intake::NoMemory,
+        },
+        Err(error) => match error.kind() {
+            ErrorKind::WouldBlock => Intake::Waits,
+            ErrorKind::Interrupted => Intake::Served,
+            _ => Intake::Failed,
+        },
+    }
+}
+
+/// What a writer took.
+#[derive(Clone, Copy, Debug, PartialEq, Eq)]
+enum Sending {
+    All,
+    Later,
+    Failed,
+}
+
+/// Writes what waits. A write that takes no byte has failed.
+fn send<W: Write>(waiting: &mut BytesMut, writer: &mut W) -> Sending
+    ensures sends { Sends (W.contents writer.old) (W.contents writer.new) waiting.old.items waiting.new.items }
+    ensures all { result ≡ Sending.All → waiting.new.items ≡ [] }
+{
+    for _ in 0..u64::MAX {
+        if waiting.is_empty() {
+            return Sending::All;
+        }
+        match writer.write(waiting.as_slice()) {
+            Ok(0) => return Sending::Failed,
+            Ok(n) => waiting.advance(n),
+            Err(error) => match error.kind() {
+                ErrorKind::WouldBlock => return Sending::Later,
+                ErrorKind::Interrupted => {}
+                _ => return Sending::Failed,
+            },
+        }
+    }
+    Sending::Later
+}
