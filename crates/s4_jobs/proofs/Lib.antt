@@ -1,0 +1,4 @@
+mod Counts
+mod Moves
+mod Openings
+mod Closings
