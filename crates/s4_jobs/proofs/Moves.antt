@@ -1,5 +1,5 @@
 -- Each move keeps the rule of the jobs.
-use Rattle.std.proofs.Common.{◌≡◌, ◌≢◌, ℕ, ◌+◌, ◌-◌, ◌<◌, ◌≤◌, ◌==◌, zero, suc, Bool, true, false, cond, List, [], ◌∷◌, ◌++◌, length, map, set, All, sum_by, sym, refl, ap, ◌∙◌, subst, ⊎_elim, ◌⊎◌, inl, inr, append_assoc, arith, eq-eqb, length-append}
+use Rattle.std.proofs.Common.{◌≡◌, ◌≢◌, ℕ, ◌+◌, ◌<◌, ◌==◌, zero, suc, true, cond, List, [], ◌∷◌, ◌++◌, length, map, set, All, sym, refl, ap, ◌∙◌, subst, ⊎_elim, ◌⊎◌, inl, inr, append_assoc, arith, eq-eqb, length-append}
 use Rattle.std.proofs.lemmas.Bool.{ne_eqb, true≢false}
 use Rattle.std.proofs.lemmas.List.{map-append, length-map}
 use Rattle.std.proofs.lemmas.List.Elements.{All-push, All-weaker, All-nil}
@@ -12,7 +12,7 @@ use Rattle.s4_jobs.specs.declared.rule.View.{View}
 use Rattle.s4_jobs.specs.declared.rule.Hand.{Hand}
 use Rattle.s4_jobs.specs.declared.rule.Posted.{Posted}
 use Rattle.s4_jobs.specs.Log.{Taking, taking, tags_of, put_by, taken_by}
-use Rattle.s4_jobs.specs.Rule.{view_of, first_view, with_put, with_taken, with_left, with_ended, one_made, newcomer, ended, hand_in, IsSeated, IsFirst, IsWhole, HandFits, Fits, Holds, HoldsOf, Sees, SeenBy, Settles, SettlesOf, LeftBy, LeftOne, puts_of, takes_of, tag_of}
+use Rattle.s4_jobs.specs.Rule.{first_view, with_put, with_taken, with_left, with_ended, one_made, newcomer, ended, hand_in, IsFirst, IsWhole, Fits, Holds, HoldsOf, SeenBy, Settles, SettlesOf, LeftBy, puts_of, takes_of, tag_of}
 use Rattle.s4_jobs.proofs.Counts.{put_by-same, put_by-other, put_by-none, taken_by-same, taken_by-other, taken_by-none, tags_of-push, total, put_by-length, taken_by-length}
 
 abbrev Every : (ℕ → View → Type 0) → List View → Type 0

@@ -1,5 +1,5 @@
 -- The seats of an opening.
-use Rattle.std.proofs.Common.{◌≡◌, ℕ, ◌+◌, ◌<◌, zero, suc, List, [], ◌∷◌, length, get_or, sym, refl, ap, ◌∙◌, arith}
+use Rattle.std.proofs.Common.{◌≡◌, ℕ, ◌+◌, ◌<◌, zero, suc, List, ◌∷◌, length, get_or, ap, ◌∙◌, arith}
 use Rattle.s4_jobs.specs.Seats.{Seat, Jobs, AreAll, AreFresh, AreNewcomers, beginner}
 
 pub opened : (jobs : Jobs) (first : Seat) (rest : List Seat) → first ≡ beginner jobs.queue 0 (length rest + 1) → AreNewcomers jobs.queue rest → AreAll jobs (first ∷ rest)

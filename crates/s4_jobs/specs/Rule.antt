@@ -2,7 +2,6 @@
 use Rattle.std.specs.Prelude.{◌≡◌, ◌≢◌, ℕ, ◌+◌, ◌<◌, Bool, true, false, List, [], ◌∷◌, ◌++◌, length, map, All, sum_by}
 use mathlib.Core.Option.{Option, some, none}
 use lib.ListN.{get_elem?}
-use Rattle.crossbeam_queue.specs.Fifo.{Held}
 use Rattle.s4_jobs.specs.Log.{Taking, tag, tags_of, numbers_of, put_by, taken_by}
 use Rattle.s4_jobs.specs.declared.rule.Tag.{Tag}
 use Rattle.s4_jobs.specs.declared.rule.View.{View}

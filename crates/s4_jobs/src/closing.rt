@@ -29,7 +29,7 @@ impl<J: Numbered + Drop> Jobs<J> {
             mut pass,
         } = first;
         end_all(&self.line, &mut pass, rest);
-        let Jobs { line, room } = self;
+        let Jobs { line, room, .. } = self;
         drain(rt, &line, pass, room)
     }
 }

@@ -6,6 +6,7 @@ ghost use Rattle.s4_jobs.specs.Seats.{AreAll, AreFresh, AreNewcomers, beginner};
 use crate::numbered::Numbered;
 use crate::queue::{Jobs, Line, NoMemory, Seat};
 use crate::rule::Seats;
+use crossbeam_utils::sync::EventCount;
 use std::alloc::Global;
 use std::collections::VecDeque;
 
@@ -42,7 +43,8 @@ fn open_first<J: Numbered + Drop>(
 {
     let room = VecDeque::with_capacity(alloc, capacity)?;
     let (line, pass) = Line::<J>::ruled(alloc, capacity)?;
-    Ok((Jobs { line, room }, Seat { number: 0, pass }))
+    let idle = EventCount::new();
+    Ok((Jobs { line, room, idle }, Seat { number: 0, pass }))
 }
 
 /// So many seats more, which the first makes, in their order.

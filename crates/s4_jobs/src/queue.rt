@@ -9,6 +9,7 @@ ghost use Rattle.s4_jobs.specs.declared.rule.Posted.{Posted};
 use crate::numbered::Numbered;
 use crate::rule::{Kept, Posted, Puts, Takes, View};
 use crossbeam_queue::{Pass, RuledArrayQueue};
+use crossbeam_utils::sync::EventCount;
 use std::alloc::AllocError;
 use std::collections::VecDeque;
 use std::marker::Model;
@@ -47,6 +48,8 @@ pub struct Jobs<J: Numbered> {
     pub(crate) line: RuledArrayQueue<Posted<J>, View, Kept>,
     /// Room for the jobs that are left at the end.
     pub(crate) room: VecDeque<J>,
+    /// Where threads sleep until a job is put.
+    pub(crate) idle: EventCount,
 }
 
 impl<J: Numbered> Model for Jobs<J> {
@@ -63,17 +66,23 @@ impl<J: Numbered> Model for Jobs<J> {
 
 impl<J: Numbered> Jobs<J> {
     /// Puts a job at the back, or gives it back where the queue was full at one moment of the call.
-    /// The seat has to be one of this queue's. May wait for other threads.
+    /// The seat has to be one of this queue's. May wait for other threads. It wakes one that sleeps.
     pub fn put<R: Wait>(&self, rt: &R, seat: &mut Seat<J>, job: J) -> Result<(), J>
         requires { seat.old.queue ≡ self.now.queue }
         ensures put { OnOk result (seat.new ≡ having_put seat.old (J.numbered job)) }
         ensures back { IfErr result (λ back. back ≡ job) }
         ensures full { OnErr result ((seat.new ≡ seat.old) × WasFull J.numbered self.now seat.old) }
+        ensures queue { seat.new.queue ≡ seat.old.queue }
     {
         let from = seat.number;
-        self.line
+        let put = self
+            .line
             .push_as::<Puts, R>(rt, &mut seat.pass, Posted { from, job })
-            .map_err(|posted| posted.job)
+            .map_err(|posted| posted.job);
+        if put.is_ok() {
+            self.idle.notify_one();
+        }
+        put
     }
 
     /// Takes the job at the front. There is none only where the queue was empty at one moment of the
@@ -82,6 +91,7 @@ impl<J: Numbered> Jobs<J> {
         requires { seat.old.queue ≡ self.now.queue }
         ensures taken { IfSome result (λ job. (from : ℕ) × (seat.new ≡ having_taken seat.old (tag from (J.numbered job)))) }
         ensures empty { IsNone result → (seat.new ≡ seat.old) × WasEmpty J.numbered seat.old }
+        ensures queue { seat.new.queue ≡ seat.old.queue }
     {
         let posted = self.line.pop_as::<Takes, R>(rt, &mut seat.pass)?;
         Some(posted.job)

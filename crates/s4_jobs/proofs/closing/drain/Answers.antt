@@ -1,8 +1,7 @@
-use Rattle.std.proofs.Common.{◌≡◌, ◌++◌, ◌∷◌, [], map, ap, sym, ◌∙◌, List, ℕ, arith}
+use Rattle.std.proofs.Common.{◌++◌, ◌∷◌, [], map, ap, sym, ◌∙◌, List, ℕ, arith}
 use Rattle.std.proofs.lemmas.List.{map-append}
 use Rattle.s4_jobs.specs.declared.rule.View.{View}
 use Rattle.s4_jobs.specs.declared.rule.Tag.{Tag}
-use Rattle.s4_jobs.specs.Log.{numbers_of}
 use Rattle.s4_jobs.specs.Rule.{with_left}
 use Rattle.s4_jobs.proofs.Closings.{left_one_more}
 use Rattle.s4_jobs.proofs.closing.drain.Goals as goal

@@ -1,4 +1,4 @@
-use Rattle.std.proofs.Common.{◌≡◌, ◌+◌, sym, ap, ◌∙◌, length}
+use Rattle.std.proofs.Common.{ap, ◌∙◌}
 use Rattle.s4_jobs.specs.Seats.{Seat}
 use Rattle.s4_jobs.proofs.Moves.{merges}
 use Rattle.s4_jobs.proofs.closing.end_seat.Goals as goal

@@ -1,4 +1,4 @@
-use Rattle.std.proofs.Common.{◌≡◌, sym, ap, ◌∙◌}
+use Rattle.std.proofs.Common.{ap, ◌∙◌}
 use Rattle.s4_jobs.specs.Seats.{Seat}
 use Rattle.s4_jobs.proofs.Moves.{forks}
 use Rattle.s4_jobs.proofs.opening.add_seat.Goals as goal

@@ -1,9 +1,8 @@
-use Rattle.std.proofs.Common.{rules, of_calls, ◌≡◌, List, [], ◌∷◌, ◌++◌, map, refl, sym, ap, ◌∙◌, append_assoc}
+use Rattle.std.proofs.Common.{rules, of_calls, ◌≡◌, List, [], ◌∷◌, ◌++◌, refl, sym, ap, ◌∙◌, append_assoc}
 use Rattle.std.proofs.lemmas.List.{map-append, append-nil}
 use Rattle.std.proofs.lemmas.Fn.{FoldsTo-push}
 use Rattle.s4_jobs.specs.Log.{tag}
 use Rattle.s4_jobs.specs.Seats.{Seat, having_taken}
-use Rattle.s4_jobs.specs.Work.{having_taken_all}
 use Rattle.s4_jobs.specs.declared.rule.Tag.{Tag}
 use Rattle.s4_jobs.proofs.worker.work.Goals as goal
 
@@ -11,14 +10,14 @@ pub loop-round-init : goal.loop-round-init
 loop-round-init g c =
     let s = c.args.seat.now in (λ a. a, ([], [], refl, refl, ap (λ (l : List Tag). record { queue = s.queue; number = s.number; seats = s.seats; put = s.put; taken = l }) (sym (append-nil s.taken))))
 
-pub loop-round-preserved-in-Some-Run : goal.loop-round-preserved-in-Some-Run
-loop-round-preserved-in-Some-Run g c =
+pub loop-round-preserved : goal.loop-round-preserved
+loop-round-preserved g c =
     let number = g.J.Numbered.numbered in
     let inv = c.loop-round.invariant.1 in
-    let job = c.in-Some-Run.job in
-    let taken = c.in-Some-Run.ensures.taken in
+    let job = c.in-Run.job in
+    let taken = c.next_job.ensures.taken in
     let t = tag taken.0 (number job) in
-    let at : c.take.new.seat ≡ having_taken c.loop-round.seat t = search rules in
+    let at : c.next_job.new.seat ≡ having_taken c.loop-round.seat t = search rules in
     let s = c.args.seat.now in (
       search (rules, of_calls),
       (

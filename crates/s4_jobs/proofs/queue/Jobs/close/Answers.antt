@@ -1,7 +1,7 @@
-use Rattle.std.proofs.Common.{◌≡◌, sym, ap, ◌∙◌, subst, drop, List, rules, arith}
+use Rattle.std.proofs.Common.{◌≡◌, sym, ap, ◌∙◌, subst, drop, List, rules}
 use Rattle.crossbeam_queue.specs.Passes.{view}
 use Rattle.s4_jobs.specs.Seats.{Seat, Jobs, AreRest, hands_of}
-use Rattle.s4_jobs.specs.Rule.{IsWhole, Drained, with_all_ended}
+use Rattle.s4_jobs.specs.Rule.{Drained, with_all_ended}
 use Rattle.s4_jobs.specs.declared.rule.View.{View}
 use Rattle.s4_jobs.proofs.Closings.{some_seat, rest_of, whole, settled}
 use Rattle.s4_jobs.proofs.queue.Jobs.close.Goals as goal

@@ -1,4 +1,4 @@
-use Rattle.std.proofs.Common.{arith, ◌≡◌, ◌+◌, ◌-◌, ◌++◌, ◌∷◌, sym, ap, ◌∙◌, length, ℕ}
+use Rattle.std.proofs.Common.{arith, ◌≡◌, ◌+◌, ◌-◌, ◌∷◌, sym, ap, ◌∙◌, length, ℕ}
 use Rattle.std.proofs.lemmas.Grind.{common_steps}
 use Rattle.s4_jobs.specs.Seats.{beginner}
 use Rattle.s4_jobs.proofs.Openings.{opened, opened_fresh}
