@@ -1,0 +1,29 @@
+-- What a closing that fails says.
+use Rattle.std.specs.Prelude.{◌≡◌, List}
+use Rattle.s4_state.specs.Log.{Log}
+use Rattle.s4_calls.specs.Calls.{CallList}
+use Rattle.s4_merge.specs.Merged.{AreWhole}
+use Rattle.s4_merge.specs.Order.{IsStray}
+use Rattle.s4_pool.specs.Fronts.{FrontState}
+use Rattle.s4_pool.specs.Numbers.{HasAll}
+use Rattle.s4_pool.specs.declared.closing.Why.{Why}
+use Rattle.s4_pool.specs.declared.closing.Why.TheVariants.{Missing, Torn, Stray, NoMemory}
+use Rattle.s4_pool.specs.declared.closing.Left.{Left}
+use Rattle.s4_pool.specs.declared.closing.Left.TheVariants.{Front, Cells}
+
+-- the front is left as it was
+abbrev pub IsFront : {G : Type 0} → FrontState → Left G → Type 0
+IsFront front (Front left) = left ≡ front
+IsFront front (Cells left) = ⊥
+
+-- the cells are left, and this holds of them
+abbrev pub AreCells : {G : Type 0} → (List Log → Type 0) → Left G → Type 0
+AreCells P (Front left) = ⊥
+AreCells P (Cells left) = P left.items
+
+-- what each reason says of the front, of its passes and of what is left
+abbrev pub FaultFits : {G : Type 0} → FrontState → List CallList → Why → Left G → Type 0
+FaultFits front passes Missing left = ¬ HasAll front.passes passes × IsFront front left
+FaultFits front passes Torn left = HasAll front.passes passes × AreCells (λ cells. ¬ AreWhole front.window cells) left
+FaultFits front passes Stray left = HasAll front.passes passes × AreCells (λ cells. AreWhole front.window cells × IsStray cells passes) left
+FaultFits front passes NoMemory left = HasAll front.passes passes × IsFront front left

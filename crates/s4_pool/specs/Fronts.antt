@@ -1,0 +1,13 @@
+-- What is seen of a front.
+use Rattle.std.specs.Prelude.{◌≡◌, ℕ, ◌<◌, List, [], length, slice_index_or}
+use Rattle.s4_calls.specs.Calls.{CallList}
+
+-- the window that it was opened with, how many cells it has, and how many passes were opened with it
+pub record FrontState : Type 0 where
+  pub window : ℕ
+  pub cells : ℕ
+  pub passes : ℕ
+
+-- passes with the numbers from 0 on, without calls
+abbrev pub AreFresh : List CallList → Type 0
+AreFresh passes = (k : ℕ) (d : CallList) → k < length passes → ((slice_index_or passes k d).number ≡ k) × ((slice_index_or passes k d).calls ≡ [])

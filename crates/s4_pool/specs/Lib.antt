@@ -1,0 +1,4 @@
+pub mod Serving
+pub mod Fronts
+pub mod Numbers
+pub mod Closings

@@ -1,0 +1,54 @@
+-- What one call leaves.
+use Rattle.std.specs.Prelude.{◌≡◌, ℕ, ◌≤◌, List, [], ◌∷◌, ◌++◌, length, slice_index_or, MatchBool}
+use Rattle.s4_types.specs.declared.principal.Caller.{Caller}
+use Rattle.s4_types.specs.declared.request.Request.{Request}
+use Rattle.s4_types.specs.declared.reply.Reply.{Reply}
+use Rattle.s4_types.specs.declared.record.Record.{Record}
+use Rattle.s4_types.specs.Play.{is_no_memory}
+use Rattle.s4_state.specs.Log.{Log}
+use Rattle.s4_cells.specs.Many.{AllAdd}
+use Rattle.s4_calls.specs.declared.call.Asked.{Asked}
+use Rattle.s4_calls.specs.declared.call.Receipt.{Receipt}
+use Rattle.s4_calls.specs.Calls.{Call, CallList, call_of, last_call}
+
+-- what a caller asked, by its clock
+abbrev pub asked : Caller → ℕ → Request → Asked
+asked caller clock request = record { caller = caller; clock = clock; request = request }
+
+-- the pass has one call more: what was asked, with this reply, at a moment that is neither before the clock nor before the pass's last
+pub record Serves (old new : CallList) (caller : Caller) (clock : ℕ) (request : Request) (reply : Reply) : Type 0 where
+  pub receipt : Receipt
+  pub calls : new.calls ≡ old.calls ++ call_of (asked caller clock request) receipt ∷ []
+  pub number : new.number ≡ old.number
+  pub reply_is : receipt.reply ≡ reply
+  pub clock_is : clock ≤ receipt.moment
+  pub later : last_call 0 old.calls ≤ receipt.moment
+
+-- the pass has no further call
+pub record IsIdle (old new : CallList) : Type 0 where
+  pub calls : new.calls ≡ old.calls
+  pub number : new.number ≡ old.number
+
+-- the pass has the call, or it met want of memory and has none
+abbrev pub ServesUnlessRefused : CallList → CallList → Caller → ℕ → Request → Reply → Type 0
+ServesUnlessRefused old new caller clock request reply = MatchBool (is_no_memory reply) (IsIdle old new) (Serves old new caller clock request reply)
+
+-- the record that a call's receipt speaks of
+abbrev pub record_of_call : Call → Record
+record_of_call call = record { moment = call.receipt.moment; caller = call.asked.caller; request = call.asked.request; reply = call.receipt.reply }
+
+-- the history and the pass have one more, and the receipt names the record by the cell's number and by its place
+pub record Adds (cell : ℕ) (h k : List Record) (old new : CallList) : Type 0 where
+  pub call : Call
+  pub calls : new.calls ≡ old.calls ++ call ∷ []
+  pub history : k ≡ h ++ record_of_call call ∷ []
+  pub place : call.receipt.place ≡ length h
+  pub cell_is : call.receipt.cell ≡ cell
+
+-- every cell and the pass have one more: the record stands in each cell, and the receipt names the first cell's
+pub record AddsToAll (cells_before cells_after : List Log) (old new : CallList) : Type 0 where
+  pub call : Call
+  pub calls : new.calls ≡ old.calls ++ call ∷ []
+  pub records : AllAdd (record_of_call call) cells_before cells_after
+  pub place : (none : Log) → call.receipt.place ≡ length (slice_index_or cells_before 0 none).history
+  pub cell_is : call.receipt.cell ≡ 0

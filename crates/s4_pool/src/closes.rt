@@ -1,0 +1,85 @@
+//! The closing of a front.
+
+ghost use Rattle.std.specs.Prelude.{◌≡◌, ◌==◌, ℕ, false, IfOk, IfErr};
+ghost use Rattle.s4_types.specs.Base.{opened};
+ghost use Rattle.s4_types.specs.Play.{replies};
+ghost use Rattle.s4_types.specs.Strike.{records_of};
+ghost use Rattle.s4_drive.specs.Step.{replies_without_strangers};
+ghost use Rattle.s4_cells.specs.Played.{requests_in};
+ghost use Rattle.s4_merge.specs.Merged.{AreWhole};
+ghost use Rattle.s4_merge.specs.Order.{IsClosing};
+ghost use Rattle.s4_pool.specs.Numbers.{HasAll};
+ghost use Rattle.s4_pool.specs.Closings.{FaultFits};
+
+use crate::closing::{CloseFault, Closed, Left, Why, has_all};
+use crate::front::Front;
+use crate::gate::Gate;
+use s4_calls::Pass;
+use s4_merge::{Verdict, judge};
+use std::alloc::Global;
+use std::sync::RwLock;
+
+impl<G: Gate> Front<G> {
+    /// Closes the front: its cells, the passes, and one history of all cells, in which each record is
+    /// that of just one call. That history is the plain log of its own requests, so each principal other
+    /// than the administrator was replied what it would have been without its strangers
+    /// (docs/MODEL.md, "Isolation"). What can't be closed is handed back, with the reason.
+    pub fn close(self, alloc: Global, passes: Vec<Pass>) -> Result<Closed, CloseFault<G>>
+        ensures there { IfOk result (λ closed. HasAll self.passes passes.items) }
+        ensures passes { IfOk result (λ closed. closed.passes.items ≡ passes.items) }
+        ensures whole { IfOk result (λ closed. AreWhole self.window closed.cells.items) }
+        ensures history { IfOk result (λ closed. IsClosing self.window closed.cells.items closed.passes.items closed.history.items) }
+        ensures isolated { IfOk result (λ closed. (who : ℕ) → (who == 0) ≡ false
+            → replies (records_of who closed.history.items)
+            ≡ replies_without_strangers (opened self.window) who (requests_in closed.history.items)) }
+        ensures back { IfErr result (λ fault. fault.passes.items ≡ passes.items) }
+        ensures why { IfErr result (λ fault. FaultFits self passes.items fault.why fault.left) }
+    {
+        if !has_all(self.passes, passes.as_slice()) {
+            return Err(CloseFault {
+                why: Why::Missing,
+                left: Left::Front(self),
+                passes,
+            });
+        }
+        let Front {
+            window,
+            count,
+            passes: opened,
+            gate,
+            cells,
+        } = self;
+        let unlocked = cells.into_inner().unlock();
+        match judge(alloc, window, unlocked.cells.as_slice(), passes.as_slice()) {
+            Verdict::Whole(history) => Ok(Closed {
+                cells: unlocked.into_cells(),
+                passes,
+                history,
+            }),
+            Verdict::Torn => Err(CloseFault {
+                why: Why::Torn,
+                left: Left::Cells(unlocked.into_cells()),
+                passes,
+            }),
+            Verdict::Stray => Err(CloseFault {
+                why: Why::Stray,
+                left: Left::Cells(unlocked.into_cells()),
+                passes,
+            }),
+            Verdict::NoMemory => {
+                let front = Front {
+                    window,
+                    count,
+                    passes: opened,
+                    gate,
+                    cells: RwLock::new(unlocked.lock()),
+                };
+                Err(CloseFault {
+                    why: Why::NoMemory,
+                    left: Left::Front(front),
+                    passes,
+                })
+            }
+        }
+    }
+}

@@ -1,0 +1,70 @@
+//! What a closing gives, and why it doesn't.
+
+ghost use Rattle.std.specs.Prelude.{◌≡◌, MatchBool};
+ghost use Rattle.s4_pool.specs.Numbers.{numbered, HasAll};
+
+use crate::front::Front;
+use crate::gate::Gate;
+use s4_calls::Pass;
+use s4_cells::Cell;
+use s4_types::Record;
+
+/// A front that was closed.
+#[derive(Drop)]
+pub struct Closed {
+    /// The cells, in the order of their numbers.
+    pub cells: Vec<Cell>,
+    /// The passes, as they were handed in.
+    pub passes: Vec<Pass>,
+    /// The one history of all cells: between two wide records by moment, then by cell, then by place.
+    pub history: Vec<Record>,
+}
+
+/// Why a front can't be closed.
+#[derive(Clone, Copy, Debug, PartialEq, Eq)]
+pub enum Why {
+    /// The passes aren't those that the front was opened with, each once.
+    Missing,
+    /// A cell has another window than the front, or the cells don't have the same wide records.
+    Torn,
+    /// The calls of the passes and the records of the cells don't match one to one.
+    Stray,
+    /// A growth was refused.
+    NoMemory,
+}
+
+/// What is left of a front that couldn't be closed.
+#[derive(Drop)]
+pub enum Left<G: Gate> {
+    /// The front as it was: it may be closed again.
+    Front(Front<G>),
+    /// Its cells, out of their locks.
+    Cells(Vec<Cell>),
+}
+
+/// Why a front wasn't closed, and all that it was to be closed with.
+#[derive(Drop)]
+pub struct CloseFault<G: Gate> {
+    pub why: Why,
+    pub left: Left<G>,
+    pub passes: Vec<Pass>,
+}
+
+/// How many of the passes have this number.
+fn count_numbered(passes: &[Pass], number: u64) -> usize
+    ensures { result ≡ numbered number passes.now }
+{
+    passes.iter().filter(|pass| pass.number() == number).count()
+}
+
+/// Whether each of so many numbers from 0 on is that of just one pass.
+pub fn has_all(count: u64, passes: &[Pass]) -> bool
+    ensures { MatchBool result (HasAll count passes.now) (¬ HasAll count passes.now) }
+{
+    for number in 0..count {
+        if count_numbered(passes, number) != 1 {
+            return false;
+        }
+    }
+    true
+}

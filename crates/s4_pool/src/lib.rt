@@ -1,0 +1,17 @@
+//! A server's front: cells under locks, which threads share, and passes to call them with
+//! (docs/ARCHITECTURE.md, "Fronts").
+#![tactic(auto)]
+
+mod closes;
+mod closing;
+mod front;
+mod gate;
+mod locks;
+mod serving;
+
+pub use closing::{CloseFault, Closed, Left, Why};
+pub use front::Front;
+pub use gate::{Gate, OpenGate};
+pub use locks::MOST_CELLS;
+pub use s4_calls::{Asked, Pass, Receipt};
+pub use s4_cells::Cell;

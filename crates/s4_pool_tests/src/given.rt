@@ -1,0 +1,86 @@
+//! Callers, requests and fronts of the tests.
+
+use s4_pool::{Closed, Front, Gate, Pass};
+use s4_types::{Bytes, Caller, Moment, ObjectId, Principal, Purse, PurseNo, Reply, Request, Serial};
+use std::alloc::Global;
+use std::sync::Wait;
+use std::test::Fail;
+
+pub fn create() -> Result<Request, Fail> {
+    let number = PurseNo::new(0).ok_or("a purse number")?;
+    Ok(Request::Create { number })
+}
+
+/// The object of that creator's purse 0 that was made as the serial says.
+pub fn object(creator: u32, serial: u16) -> Result<ObjectId, Fail> {
+    let creator = Principal::new(creator).ok_or("a principal")?;
+    let number = PurseNo::new(0).ok_or("a purse number")?;
+    let purse = Purse { creator, number };
+    let serial = Serial::new(serial).ok_or("a serial")?;
+    Ok(ObjectId { purse, serial })
+}
+
+pub fn made(creator: u32, serial: u16) -> Result<Reply, Fail> {
+    Ok(Reply::Made(object(creator, serial)?))
+}
+
+/// Writes `a` to an object, from its beginning on.
+pub fn write_a(alloc: Global, object: ObjectId) -> Result<Request, Fail> {
+    let bytes = Bytes::new(Vec::from_slice(alloc, b"a")?);
+    Ok(Request::Write {
+        object,
+        offset: 0,
+        bytes,
+    })
+}
+
+/// What a caller asks, whose clock shows this.
+#[derive(Drop)]
+pub struct Ask {
+    caller: Caller,
+    clock: Moment,
+    request: Request,
+}
+
+impl Ask {
+    pub fn new(who: u32, tick: u64, request: Request) -> Result<Ask, Fail> {
+        let who = Principal::new(who).ok_or("a principal")?;
+        Ok(Ask {
+            caller: Caller { who, client: 0 },
+            clock: Moment::new(tick),
+            request,
+        })
+    }
+
+    pub fn serve<G: Gate, R: Wait>(&self, rt: &R, front: &Front<G>, pass: &mut Pass) -> Reply {
+        front.serve(rt, pass, self.caller, self.clock, &self.request)
+    }
+}
+
+/// Serves a request of a principal whose clock shows this tick.
+pub fn serve<G: Gate, R: Wait>(
+    rt: &R,
+    front: &Front<G>,
+    pass: &mut Pass,
+    who: u32,
+    tick: u64,
+    request: Request,
+) -> Result<Reply, Fail> {
+    Ok(Ask::new(who, tick, request)?.serve(rt, front, pass))
+}
+
+/// The moment, the cell and the place of a pass's receipt.
+pub fn receipt(pass: &Pass, place: usize) -> Result<(u64, usize, u64), Fail> {
+    let receipt = pass.receipts().get(place).ok_or("a receipt")?;
+    Ok((receipt.moment.tick(), receipt.cell, receipt.place))
+}
+
+/// Closes a front that has to close, by two passes.
+pub fn closed<G: Gate>(alloc: Global, front: Front<G>, a: Pass, b: Pass) -> Result<Closed, Fail> {
+    let mut passes = Vec::new(alloc);
+    passes.push(a)?;
+    passes.push(b)?;
+    front
+        .close(alloc, passes)
+        .map_err(|_fault| "not closed".into())
+}

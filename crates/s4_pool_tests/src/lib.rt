@@ -1,0 +1,15 @@
+//! Tests of fronts: what no clause says of them, as the moments of calls, and threads at a gate.
+#![tactic(auto)]
+
+#[cfg(test)]
+mod gate;
+#[cfg(test)]
+mod given;
+#[cfg(test)]
+mod jobs;
+#[cfg(test)]
+mod sweep;
+#[cfg(test)]
+mod threads;
+#[cfg(test)]
+mod worked;
