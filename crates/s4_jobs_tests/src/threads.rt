@@ -76,14 +76,9 @@ fn take_part<R: Wait>(rt: &R, alloc: Global, mut place: Place<'_>) -> Vec<u64> {
         return handed;
     }
     let Place { jobs, mut seat, .. } = place;
-    work(
-        rt,
-        jobs,
-        &mut seat,
-        |task: Task| {
-            let _ = handed.push(task.0);
-        },
-    );
+    work(rt, jobs, &mut seat, |task: Task| {
+        let _ = handed.push(task.0);
+    });
     handed
 }
 

@@ -1,7 +1,9 @@
 //! Callers, requests and fronts of the tests.
 
 use s4_pool::{Closed, Front, Gate, Pass};
-use s4_types::{Bytes, Caller, Moment, ObjectId, Principal, Purse, PurseNo, Reply, Request, Serial};
+use s4_types::{
+    Bytes, Caller, Moment, ObjectId, Principal, Purse, PurseNo, Reply, Request, Serial,
+};
 use std::alloc::Global;
 use std::sync::Wait;
 use std::test::Fail;

@@ -7,8 +7,8 @@ use crate::given::{Ask, closed, create};
 use s4_jobs::{Job, Jobs, NoMemory, Numbered, Seat, work};
 use s4_pool::{Front, Pass};
 use std::alloc::Global;
-use std::sync::atomic::Ordering;
 use std::sync::Wait;
+use std::sync::atomic::Ordering;
 use std::test::Fail;
 use std::thread;
 

@@ -51,16 +51,8 @@ fn one_thread_reads_what_another_wrote(rt: HostRuntime) -> Result<(), Fail> {
     let reads = [Ask::new(7, 7, read)?];
     let shared = &front;
     let handle = &rt;
-    let (first, ()) = thread::join(
-        handle,
-        || ask_all(handle, shared, alloc, a, &writes),
-        || (),
-    );
-    let ((), second) = thread::join(
-        handle,
-        || (),
-        || ask_all(handle, shared, alloc, b, &reads),
-    );
+    let (first, ()) = thread::join(handle, || ask_all(handle, shared, alloc, a, &writes), || ());
+    let ((), second) = thread::join(handle, || (), || ask_all(handle, shared, alloc, b, &reads));
     let (a, written) = first?;
     let (b, read) = second?;
     assert_eq!(rt; written.as_slice(), [made(7, 1)?, Reply::Done].as_slice());

@@ -24,7 +24,11 @@ fn serve_five<R: Wait>(
 }
 
 // The front and its first pass, with which alone it can't be closed.
-fn unclosed(alloc: Global, front: Front<OpenGate>, a: Pass) -> Result<(Front<OpenGate>, Vec<Pass>), Fail> {
+fn unclosed(
+    alloc: Global,
+    front: Front<OpenGate>,
+    a: Pass,
+) -> Result<(Front<OpenGate>, Vec<Pass>), Fail> {
     let mut one = Vec::new(alloc);
     one.push(a)?;
     let Err(fault) = front.close(alloc, one) else {
@@ -38,7 +42,9 @@ fn unclosed(alloc: Global, front: Front<OpenGate>, a: Pass) -> Result<(Front<Ope
 }
 
 fn closed(alloc: Global, front: Front<OpenGate>, passes: Vec<Pass>) -> Result<Closed, Fail> {
-    front.close(alloc, passes).map_err(|_fault| "not closed".into())
+    front
+        .close(alloc, passes)
+        .map_err(|_fault| "not closed".into())
 }
 
 #[test]
