@@ -13,6 +13,7 @@ mod words;
 
 pub use arrivals::{ArrivalLine, parse_arrival};
 pub use error::ParseError;
-pub use line::{Line, parse_line, parse_principal, parse_window};
+pub use line::{Line, parse_line, parse_number, parse_principal, parse_window};
 pub use replies::{ReplyText, UsedText};
+pub use requests::parse_request;
 pub use sent::SentText;

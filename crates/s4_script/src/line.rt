@@ -22,6 +22,14 @@ pub fn parse_window(alloc: Global, line: &[u8]) -> Result<u64, ParseError> {
     }
 }
 
+/// The number that a word spells in decimal digits, without leading zeros and in the range of its type.
+pub fn parse_number<T: TryFrom<u64>>(word: &str) -> Result<T, ParseError>
+where
+    T::Error: Drop,
+{
+    words::number(word)
+}
+
 /// The principal that a word names.
 pub fn parse_principal(word: &str) -> Result<Principal, ParseError> {
     words::principal(word)

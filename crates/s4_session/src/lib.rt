@@ -17,10 +17,11 @@ pub use answer::{FAULT, WELCOME};
 pub use event::{Event, Fault, Stand};
 pub use hall::Hall;
 pub use hall_step::HallStep;
-pub use hello::VERSION;
+pub use hello::{Hello, VERSION};
 pub use laws::{
     connections_speak_in_order, cuts_change_nothing, each_request_has_one_reply,
     hellos_have_one_spelling, sent_bytes_determine_replies,
 };
+pub use login_text::{principal_in, secret_in};
 pub use logins::{LoginFault, Logins};
 pub use session::{FeedError, Session};

@@ -26,7 +26,7 @@ pub fn login_in(line: &[u8]) -> Option<(u32, [u8; 16])>
 }
 
 /// The principal that a word spells, in decimal digits without a leading zero.
-fn principal_in(word: &[u8]) -> Option<u32>
+pub fn principal_in(word: &[u8]) -> Option<u32>
     ensures { result ≡ principal_in word.now }
 {
     if !is_plain(word) {
@@ -63,8 +63,8 @@ fn number_in(word: &[u8]) -> Option<u32>
     Some(value as u32)
 }
 
-/// The secret that 32 hexadecimal digits spell.
-fn secret_in(word: &[u8]) -> Option<[u8; 16]>
+/// The secret that 32 hexadecimal digits spell, in either case.
+pub fn secret_in(word: &[u8]) -> Option<[u8; 16]>
     ensures { result ≡ secret_in word.now }
 {
     let mut secret = [0; 16];

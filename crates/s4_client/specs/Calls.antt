@@ -1,0 +1,35 @@
+-- What a call sends and hears.
+use Rattle.std.specs.Prelude.{◌⊎◌, ⊤, ℕ, Option, List, ◌++◌, take}
+use Rattle.std.specs.Io.KnownBytes.{Appends, Consumes}
+use Rattle.s4_types.specs.declared.request.Request.{Request}
+use Rattle.s4_codec.specs.Frames.{framed}
+use Rattle.s4_codec.specs.Requests as requests
+use Rattle.s4_session.specs.declared.hello.Hello.{Hello}
+use Rattle.s4_session.specs.declared.event.Fault.{Fault}
+use Rattle.s4_session.specs.Hello as hellos
+use Rattle.s4_client.specs.declared.fault.CallFault.{CallFault}
+use Rattle.s4_client.specs.declared.fault.CallFault.TheVariants as fault
+use Rattle.s4_session.specs.Sent.{welcome, fault_frame}
+
+-- the frame of the Hello, and then that of the request
+abbrev pub message_of : Hello → Request → List ℕ
+message_of hello request = framed (hellos.hello.spell hello) ++ framed (requests.request.spell request)
+
+-- A beginning of these bytes is written, and nothing else.
+abbrev pub Begins : Option (List ℕ) → Option (List ℕ) → List ℕ → Type 0
+Begins old new bytes = (n : ℕ) × Appends old new (take n bytes)
+
+-- What is read is the frame of the fault, or the Welcome and then that frame.
+abbrev pub HearsFault : Option (List ℕ) → Option (List ℕ) → Fault → Type 0
+HearsFault old new fault = Consumes old new (fault_frame fault) ⊎ Consumes old new (welcome ++ fault_frame fault)
+
+-- There is no reply, or not enough memory.
+abbrev pub IsLoss : CallFault → Type 0
+IsLoss fault.ConnectionLost = ⊤
+IsLoss fault.NoMemory = ⊤
+IsLoss other = ⊥
+
+-- That, or a fault of the session: what a call may meet once it is connected.
+abbrev pub IsMet : CallFault → Type 0
+IsMet (fault.Session told) = ⊤
+IsMet other = IsLoss other

@@ -1,0 +1,67 @@
+//! What a call sends.
+
+ghost use Rattle.std.specs.Prelude.{◌≡◌, ◌<◌, ◌≤◌, ◌++◌, ◌⊎◌, ℕ, List, IfErr, IfOk, IsErrOf, OnOk, length};
+ghost use Rattle.byteorder.specs.Endian.{big_bytes};
+ghost use Rattle.s4_codec.specs.Frames.{frame_limit, framed};
+ghost use Rattle.s4_codec.specs.Requests.{IsRequestBody};
+ghost use Rattle.s4_session.specs.Hello as format;
+ghost use Rattle.s4_client.specs.Calls.{message_of};
+ghost use Rattle.s4_client.specs.declared.fault.CallFault.TheVariants as fault;
+
+use crate::fault::CallFault;
+use byteorder::{BigEndian, ByteOrder};
+use s4_codec::{WriteError, write_frame, write_request};
+use s4_session::{Hello, VERSION};
+use s4_types::{NoMemory, Request};
+use std::alloc::Global;
+
+/// The code of a Hello.
+const HELLO: u8 = 0;
+
+/// The bytes of a call: the frame of its Hello, and then that of its request. `BadRequest` where the
+/// request has no spelling within a frame.
+pub fn message(alloc: Global, hello: &Hello, request: &Request) -> Result<Vec<u8>, CallFault>
+    ensures message { IfOk result (λ message. message.items ≡ message_of hello.now request.now) }
+    ensures bad { IsErrOf result fault.BadRequest → (body : List ℕ) → IsRequestBody body request.now → ⊥ }
+    ensures why { IfErr result (λ why. (why ≡ fault.BadRequest) ⊎ (why ≡ fault.NoMemory)) }
+{
+    let body = match write_request(alloc, request) {
+        Ok(body) => body,
+        Err(WriteError::TooBig) => return Err(CallFault::BadRequest),
+        Err(WriteError::NoMemory) => return Err(CallFault::NoMemory),
+    };
+    Ok(framed(alloc, hello, body.as_slice())?)
+}
+
+/// The frame of a Hello, and then that of a body.
+fn framed(alloc: Global, hello: &Hello, body: &[u8]) -> Result<Vec<u8>, NoMemory>
+    requires some { 0 < length body.now }
+    requires limit { length body.now ≤ frame_limit }
+    ensures { IfOk result (λ message. message.items ≡ framed (format.hello.spell hello.now) ++ framed body.now) }
+{
+    let mut message = Vec::new(alloc);
+    write_frame(&mut message, write_hello(alloc, hello)?.as_slice())?;
+    write_frame(&mut message, body)?;
+    Ok(message)
+}
+
+/// The body that spells a Hello, 26 bytes.
+fn write_hello(alloc: Global, hello: &Hello) -> Result<Vec<u8>, NoMemory>
+    ensures body { IfOk result (λ body. body.items ≡ format.hello.spell hello.now) }
+    ensures length { IfOk result (λ body. length body.items ≡ 26) }
+{
+    let mut body = Vec::new(alloc);
+    body.extend_from_slice(&[HELLO, VERSION])?;
+    write_u32(&mut body, hello.caller.who.number())?;
+    write_u32(&mut body, hello.caller.client)?;
+    body.extend_from_slice(&hello.secret)?;
+    Ok(body)
+}
+
+fn write_u32(out: &mut Vec<u8>, number: u32) -> Result<(), NoMemory>
+    ensures { OnOk result (out.new.items ≡ out.old.items ++ big_bytes 4 number) }
+{
+    let mut bytes = [0; 4];
+    BigEndian::write_u32(&mut bytes, number);
+    out.extend_from_slice(&bytes)
+}
