@@ -9,6 +9,8 @@ mod memory;
 #[cfg(test)]
 mod peers;
 #[cfg(test)]
+mod random;
+#[cfg(test)]
 mod stream;
 #[cfg(test)]
 mod talks;
