@@ -1,13 +1,17 @@
-//! Campaigns as scripts, and as lists of steps that a drive is given at once: whole, and struck for the one
-//! and for the other principal, with a sweep at each place. Each line that stays is told the same.
+//! Campaigns as scripts, as lists of steps that a drive is given at once, and as calls of a front of two
+//! cells: whole, and struck for the one and for the other principal, with a sweep at each place. Each line
+//! that stays is told the same.
 
 use crate::campaigns::{Asked, CAMPAIGNS, Campaign, SWEEPS, kept, script_with, steps_of, told};
 use s4_drive::{Drive, never_down};
+use s4_pool::{Front, OpenGate};
 use s4_run::run_script;
 use s4_script::{ReplyText, parse_window};
 use s4_store::PlainStore;
+use s4_types::Step;
 use std::alloc::Global;
 use std::process::Abort;
+use std::sync::Wait;
 use std::test::Fail;
 
 /// What the program writes for a script without a fault.
@@ -33,8 +37,35 @@ fn told_at_once<A: Abort>(rt: &A, alloc: Global, script: &str) -> Result<String,
     Ok(told)
 }
 
+/// What a fresh front of two cells tells that is asked for the script's steps one by one, each sweep
+/// being one of both cells.
+fn told_by_front<R: Wait>(rt: &R, alloc: Global, script: &str) -> Result<String, Fail> {
+    let first = script.lines().next().ok_or("a first line")?;
+    let window = parse_window(alloc, first.as_bytes())?;
+    let (front, mut passes) = Front::open(alloc, window, 2, 1, OpenGate)?;
+    let mut pass = passes.pop().ok_or("a pass")?;
+    let mut told = String::new(alloc);
+    for step in &steps_of(alloc, script)? {
+        match step {
+            Step::Request {
+                moment,
+                caller,
+                request,
+            } => {
+                let reply = front.serve(rt, &mut pass, *caller, *moment, request);
+                writeln!(told, "{}", ReplyText(&reply))?;
+            }
+            Step::Sweep { n } => {
+                front.sweep(rt, 0, *n);
+                front.sweep(rt, 1, *n);
+            }
+        }
+    }
+    Ok(told)
+}
+
 /// That these lines are told what stands beside them, whatever sweep stands where.
-fn check_lines<A: Abort>(
+fn check_lines<A: Abort + Wait>(
     rt: &A,
     alloc: Global,
     campaign: &Campaign,
@@ -53,6 +84,13 @@ fn check_lines<A: Abort>(
             );
             let told = told_at_once(rt, alloc, text.as_str())?;
             assert_eq!(rt; told.as_str(), wanted.as_str(), "{}: {text}", campaign.name);
+            let served = told_by_front(rt, alloc, text.as_str())?;
+            assert_eq!(rt;
+                served.as_str(),
+                wanted.as_str(),
+                "{}: {text}",
+                campaign.name
+            );
         }
     }
     Ok(())
