@@ -1,22 +1,36 @@
 -- What the program exits with, and what it tells.
-use Rattle.std.specs.Prelude.{◌≡◌, ⊤, ℕ, List, string_bytes}
+use Rattle.std.specs.Prelude.{◌≡◌, ⊤, ℕ, List, codes, string_bytes}
 use Rattle.s4d.specs.declared.fault.Fault.{Fault}
 use Rattle.s4d.specs.declared.fault.Fault.TheVariants as fault
+use Rattle.s4_client.specs.Texts.{call_fault_text}
+use Rattle.s4_client.specs.declared.fault.CallFault.{CallFault}
+use Rattle.s4_client.specs.declared.fault.CallFault.TheVariants as call_fault
+use Rattle.s4_script.specs.declared.error.ParseError.{ParseError}
+use Rattle.s4_script.specs.declared.error.ParseError.TheVariants as parse_error
 use Rattle.s4_run.specs.Texts as run
+use Rattle.s4_server.specs.Faults as server
 use Rattle.s4_run.specs.declared.fault.RunFault.TheVariants as run_fault
 
 -- what the program exits with: 2 where the command line spells no command, or else 1
 abbrev pub exit_status : Fault → ℕ
 exit_status (fault.CommandLine text) = 2
-exit_status (fault.Run why) = 1
+exit_status other = 1
 
 -- why the program ends without success
 abbrev pub fault_text : Fault → List ℕ
 fault_text (fault.CommandLine text) = string_bytes text
 fault_text (fault.Run why) = run.fault_text why
+fault_text (fault.Call why) = call_fault_text why
+fault_text fault.CannotListen = codes "cannot listen"
+fault_text (fault.Serve why) = server.fault_text why
+
+-- the fault of words that spell no request
+abbrev pub fault_of_request : ParseError → CallFault
+fault_of_request parse_error.Bad = call_fault.BadRequest
+fault_of_request parse_error.NoMemory = call_fault.NoMemory
 
 -- it is the fault of a command line that is told by this text, unless memory ran out
 abbrev pub IsFaultOf : List ℕ → Fault → Type 0
 IsFaultOf said (fault.CommandLine text) = string_bytes text ≡ said
 IsFaultOf said (fault.Run run_fault.NoMemory) = ⊤
-IsFaultOf said (fault.Run other) = ⊥
+IsFaultOf said other = ⊥

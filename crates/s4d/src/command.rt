@@ -1,19 +1,28 @@
 //! The command line.
 
-ghost use Rattle.std.specs.Prelude.{◌≡◌, ◌≢◌, ◌⊎◌, IfOk, Err, codes};
+ghost use Rattle.std.specs.Prelude.{◌≡◌, ◌≢◌, ◌≤◌, ◌⊎◌, IfOk, Err, codes};
+ghost use Rattle.clap.specs.Matches.{found_of};
 ghost use Rattle.std.specs.IoError.{error_kind};
 ghost use Rattle.std.specs.declared.io.ErrorKind.TheVariants as io_kind;
 ghost use Rattle.clap.specs.Values.{kind_of};
+ghost use Rattle.s4_session.specs.LoginText.{principal_in};
+ghost use Rattle.s4d.specs.Calling.{IsHelloOf, client_in, word_of};
+ghost use Rattle.s4d.specs.Commands.{IsCallOf, IsForTenant};
 ghost use Rattle.s4d.specs.Faults.{IsFaultOf};
 ghost use Rattle.s4d.specs.declared.fault.Fault.TheVariants as fault;
 ghost use Rattle.s4_run.specs.declared.fault.RunFault.TheVariants as run_fault;
 
-use crate::fault::Fault;
+use crate::calling::Call;
+use crate::fault::{Fault, of_request};
+use crate::serving::Service;
 use clap::error::ErrorKind;
 use clap::{Arg, ArgMatches, Command as Parser, Error};
+use s4_client::CallFault;
 use s4_run::RunFault;
-use s4_script::parse_principal;
-use s4_types::Principal;
+use s4_script::{parse_number, parse_principal, parse_request};
+use s4_server::Settings;
+use s4_session::{Hello, principal_in, secret_in};
+use s4_types::{Caller, Principal, Request};
 use std::alloc::{AllocError, Global};
 use std::rt::Env;
 use std::{env, io};
@@ -54,11 +63,44 @@ The principal is replied the same by the whole script and by what is written.
 Example: s4d strike 8 < examples/intrusion.script | s4d run
 docs/TUTORIAL.md tells that example; docs/SCRIPTS.md says which lines stay.";
 
+/// What the help of `serve` ends with.
+const SERVE_PAGES: &str = "\
+Example: s4d serve 127.0.0.1:4710 examples/first.logins
+docs/OPERATIONS.md says what it writes, what it holds in memory, and what ends it.";
+
+/// What the help of `call` ends with.
+const CALL_PAGES: &str = "\
+Example: s4d call 127.0.0.1:4710 7 1 000102030405060708090a0b0c0d0e0f read 7.0.1 0 100 at 9
+docs/SCRIPTS.md has the words and the replies; \"Calls\" there says what else is told.";
+
 /// The argument that is the path of a file of logins.
 const LOGINS: &str = "LOGINS";
 
 /// The argument that is the number of a principal.
 const WHO: &str = "WHO";
+
+/// The arguments of a call beside its principal: the address, the client, the secret, and the words
+/// of the request.
+const ADDRESS: &str = "ADDRESS";
+
+const CLIENT: &str = "CLIENT";
+
+const SECRET: &str = "SECRET";
+
+const WORD: &str = "WORD";
+
+/// The flags of a server.
+const WINDOW: &str = "window";
+
+const CELLS: &str = "cells";
+
+const WORKERS: &str = "workers";
+
+const CONNECTIONS: &str = "connections";
+
+const IDLE: &str = "idle";
+
+const OPEN: &str = "open";
 
 /// What the program is asked to do.
 #[derive(Debug, PartialEq, Drop)]
@@ -71,6 +113,10 @@ pub enum Command {
     Hall(String),
     /// To write a script without what this principal's strangers ask.
     Strike(Principal),
+    /// To call a served drive.
+    Call(Call),
+    /// To serve a drive.
+    Serve(Service),
 }
 
 /// The command that the program's arguments spell.
@@ -99,7 +145,9 @@ fn parser<'a>(alloc: Global) -> Result<Parser<'a>, AllocError> {
         .subcommand_required(true)
         .subcommand(run_parser(alloc))?
         .subcommand(hall_parser(alloc)?)?
-        .subcommand(strike_parser(alloc)?)
+        .subcommand(strike_parser(alloc)?)?
+        .subcommand(serve_parser(alloc)?)?
+        .subcommand(call_parser(alloc)?)
 }
 
 fn run_parser<'a>(alloc: Global) -> Parser<'a> {
@@ -131,11 +179,95 @@ fn strike_parser<'a>(alloc: Global) -> Result<Parser<'a>, AllocError> {
         .arg(who)
 }
 
+fn serve_parser<'a>(alloc: Global) -> Result<Parser<'a>, AllocError> {
+    Parser::new(alloc, "serve")
+        .about("Serves a drive over TCP, and writes where it listens")
+        .after_help(SERVE_PAGES)
+        .arg(wanted(alloc, ADDRESS, "Where it listens, a host and a port"))?
+        .arg(wanted(
+            alloc,
+            LOGINS,
+            "A file of the principals that may log in, each with its secret",
+        ))?
+        .arg(flag(
+            alloc,
+            WINDOW,
+            "The detection window at the start, in milliseconds",
+            "86400000",
+        ))?
+        .arg(flag(alloc, CELLS, "How many cells there are, from 1 to 16", "4"))?
+        .arg(flag(
+            alloc,
+            WORKERS,
+            "How many threads serve connections, from 1 to 8",
+            "4",
+        ))?
+        .arg(flag(
+            alloc,
+            CONNECTIONS,
+            "After how many connections it ends, or 0 for never",
+            "0",
+        ))?
+        .arg(flag(
+            alloc,
+            IDLE,
+            "How many milliseconds a peer may be silent, or 0 for ever",
+            "60000",
+        ))?
+        .arg(flag(alloc, OPEN, "How many connections may be open", "1024"))
+}
+
+fn flag<'a>(alloc: Global, name: &'a str, help: &'a str, standard: &'a str) -> Arg<'a> {
+    Arg::new(alloc, name)
+        .long(name)
+        .value_name("N")
+        .help(help)
+        .default_value(standard)
+}
+
+fn call_parser<'a>(alloc: Global) -> Result<Parser<'a>, AllocError> {
+    let word = wanted(
+        alloc,
+        WORD,
+        "The request, as in a line of a script from its verb on",
+    );
+    Parser::new(alloc, "call")
+        .about("Asks a served drive once, and writes the reply")
+        .after_help(CALL_PAGES)
+        .arg(wanted(
+            alloc,
+            ADDRESS,
+            "Where the drive is served, a host and a port",
+        ))?
+        .arg(wanted(
+            alloc,
+            WHO,
+            "The principal that asks, a number from 0 to 4294967294",
+        ))?
+        .arg(wanted(
+            alloc,
+            CLIENT,
+            "The client that is recorded, a number from 0 to 4294967295",
+        ))?
+        .arg(wanted(
+            alloc,
+            SECRET,
+            "The principal's secret, 32 hexadecimal digits",
+        ))?
+        .arg(word.num_args(1..))
+}
+
+fn wanted<'a>(alloc: Global, name: &'a str, help: &'a str) -> Arg<'a> {
+    Arg::new(alloc, name).help(help).required(true)
+}
+
 fn chosen(alloc: Global, matches: &ArgMatches) -> Result<Command, Fault> {
     match matches.subcommand() {
         Some(("run", _)) => Ok(Command::Run),
         Some(("hall", words)) => hall(alloc, words.get_str(LOGINS)),
         Some(("strike", words)) => strike(alloc, words.get_str(WHO).unwrap_or_default()),
+        Some(("serve", words)) => serve(alloc, words),
+        Some(("call", words)) => call(alloc, words),
         _ => Err(Fault::of_words(alloc, "error: a command is wanted, as run")),
     }
 }
@@ -147,7 +279,10 @@ fn hall(alloc: Global, logins: Option<&str>) -> Result<Command, Fault> {
     }
 }
 
-fn strike(alloc: Global, word: &str) -> Result<Command, Fault> {
+/// A script is to be struck for the principal of that number, which isn't the administrator.
+fn strike(alloc: Global, word: &str) -> Result<Command, Fault>
+    ensures { IfOk result (λ command. IsForTenant command) }
+{
     match parse_principal(word) {
         Ok(who) if !who.is_administrator() => Ok(Command::Strike(who)),
         _ => {
@@ -158,6 +293,117 @@ fn strike(alloc: Global, word: &str) -> Result<Command, Fault> {
             Err(Fault::CommandLine(text))
         }
     }
+}
+
+fn serve(alloc: Global, words: &ArgMatches) -> Result<Command, Fault> {
+    let settings = Settings {
+        window: number(alloc, words, WINDOW, 0, u64::MAX)?,
+        cells: number(alloc, words, CELLS, 1, 16)? as usize,
+        workers: number(alloc, words, WORKERS, 1, 8)?,
+        connections: number(alloc, words, CONNECTIONS, 0, u64::from(u32::MAX))? as u32,
+        idle: number(alloc, words, IDLE, 0, u64::MAX)?,
+        open: number(alloc, words, OPEN, 1, u64::from(u32::MAX))? as u32,
+    };
+    let address = String::from_str(alloc, word(words, ADDRESS))?;
+    let logins = String::from_str(alloc, word(words, LOGINS))?;
+    Ok(Command::Serve(Service {
+        address,
+        logins,
+        settings,
+    }))
+}
+
+/// The number behind a flag, which has to be within these bounds.
+fn number(
+    alloc: Global,
+    words: &ArgMatches,
+    flag: &str,
+    least: u64,
+    most: u64,
+) -> Result<u64, Fault>
+    ensures least { IfOk result (λ number. least ≤ number) }
+    ensures most { IfOk result (λ number. number ≤ most) }
+{
+    match parse_number(word(words, flag)) {
+        Ok(number) if least <= number && number <= most => Ok(number),
+        _ => {
+            let text = format!(in alloc;
+                "error: invalid value for '--{flag} <N>': it isn't a number from {least} to {most}\n\n\
+                 For more information, try '--help'."
+            )?;
+            Err(Fault::CommandLine(text))
+        }
+    }
+}
+
+fn call(alloc: Global, words: &ArgMatches) -> Result<Command, Fault>
+    ensures { IfOk result (IsCallOf (found_of words.now)) }
+{
+    let hello = hello(alloc, words)?;
+    let request = request(alloc, words.get_strs(WORD).unwrap_or_default())?;
+    let call = Call::new(alloc, word(words, ADDRESS), hello, request)?;
+    Ok(Command::Call(call))
+}
+
+/// The request that the words spell, of which the first is its verb.
+fn request(alloc: Global, words: &[&str]) -> Result<Request, CallFault> {
+    match words {
+        [verb, words @ ..] => parse_request(alloc, verb, words).map_err(of_request),
+        [] => Err(CallFault::BadRequest),
+    }
+}
+
+/// The Hello of a call.
+fn hello(alloc: Global, words: &ArgMatches) -> Result<Hello, Fault>
+    ensures { IfOk result (IsHelloOf (found_of words.now)) }
+{
+    let Some(who) = who_in(word(words, WHO)) else {
+        return Err(misfit(alloc, WHO, "a number from 0 to 4294967294"));
+    };
+    let Some(client) = client_in(word(words, CLIENT)) else {
+        return Err(misfit(alloc, CLIENT, "a number from 0 to 4294967295"));
+    };
+    let Some(secret) = secret_in(word(words, SECRET).as_bytes()) else {
+        return Err(misfit(alloc, SECRET, "32 hexadecimal digits"));
+    };
+    let caller = Caller { who, client };
+    Ok(Hello { caller, secret })
+}
+
+/// The word of that name, or an empty one where there is none.
+fn word<'a>(words: &ArgMatches<'a>, name: &str) -> &'a str
+    ensures { result.now ≡ word_of (found_of words.now) name.now }
+{
+    match words.get_str(name) {
+        Some(word) => word,
+        None => "",
+    }
+}
+
+/// The principal that a word spells.
+fn who_in(word: &str) -> Option<Principal>
+    ensures { result ≡ principal_in word.now }
+{
+    Principal::new(principal_in(word.as_bytes())?)
+}
+
+/// The client that a word spells, up to 4294967295, which is no principal.
+fn client_in(word: &str) -> Option<u32>
+    ensures { result ≡ client_in word.now }
+{
+    if word == "4294967295" {
+        return Some(u32::MAX);
+    }
+    principal_in(word.as_bytes())
+}
+
+/// The fault of an argument that isn't what it has to be. It doesn't tell the word, which may be a
+/// secret.
+fn misfit(alloc: Global, name: &str, wanted: &str) -> Fault {
+    let text = format!(in alloc;
+        "error: invalid value for '<{name}>': it isn't {wanted}\n\nFor more information, try '--help'."
+    );
+    text.map_or_else(Fault::from, Fault::CommandLine)
 }
 
 /// What comes of words that spell no command: a text, which was asked for, or a fault.

@@ -1,11 +1,14 @@
 //! What ends the program without success.
 
 ghost use Rattle.std.specs.Prelude.{◌≡◌, ◌++◌, Some, codes};
-ghost use Rattle.s4d.specs.Faults.{IsFaultOf, exit_status, fault_text};
+ghost use Rattle.s4d.specs.Faults.{IsFaultOf, exit_status, fault_of_request, fault_text};
 ghost use Rattle.s4d.specs.declared.fault.Fault.TheVariants as fault;
 ghost use Rattle.s4_run.specs.declared.fault.RunFault.TheVariants as run_fault;
 
+use s4_client::CallFault;
 use s4_run::RunFault;
+use s4_script::ParseError;
+use s4_server::ServerFault;
 use std::alloc::{AllocError, AllocFailed, Global};
 use std::fmt;
 use thiserror::Error;
@@ -17,6 +20,22 @@ pub enum Fault {
     CommandLine(String),
     /// The run ended so.
     Run(RunFault),
+    /// The call has no reply.
+    Call(CallFault),
+    /// The address of a server can't be had.
+    CannotListen,
+    /// The server ended so.
+    Serve(ServerFault),
+}
+
+/// The fault of words that spell no request.
+pub fn of_request(error: ParseError) -> CallFault
+    ensures { result ≡ fault_of_request error }
+{
+    match error {
+        ParseError::Bad => CallFault::BadRequest,
+        ParseError::NoMemory => CallFault::NoMemory,
+    }
 }
 
 impl Fault {
@@ -33,7 +52,7 @@ impl Fault {
     {
         match self {
             Fault::CommandLine(_) => 2,
-            Fault::Run(_) => 1,
+            _ => 1,
         }
     }
 }
@@ -45,6 +64,9 @@ impl fmt::Display for Fault {
         match self {
             Fault::CommandLine(text) => write!(f, "{text}"),
             Fault::Run(fault) => write!(f, "{fault}"),
+            Fault::Call(fault) => write!(f, "{fault}"),
+            Fault::CannotListen => write!(f, "cannot listen"),
+            Fault::Serve(fault) => write!(f, "{fault}"),
         }
     }
 }
@@ -54,6 +76,22 @@ impl From<RunFault> for Fault {
 
     fn from(fault: RunFault) -> Fault {
         Fault::Run(fault)
+    }
+}
+
+impl From<CallFault> for Fault {
+    ghost from_gives = { λ call why. why ≡ fault.Call call };
+
+    fn from(fault: CallFault) -> Fault {
+        Fault::Call(fault)
+    }
+}
+
+impl From<ServerFault> for Fault {
+    ghost from_gives = { λ server why. why ≡ fault.Serve server };
+
+    fn from(fault: ServerFault) -> Fault {
+        Fault::Serve(fault)
     }
 }
 

@@ -7,8 +7,14 @@ ghost use Rattle.std.specs.Process.{exit_status as code_of};
 ghost use Rattle.s4d.specs.Commands.{IsObeyed};
 ghost use Rattle.s4d.specs.Faults.{exit_status};
 
+mod calling;
+#[cfg(test)]
+mod calling_tests;
 mod command;
 mod fault;
+mod serving;
+#[cfg(test)]
+mod serving_tests;
 #[cfg(test)]
 mod tests;
 
@@ -17,8 +23,12 @@ use fault::{Fault, FaultText};
 use s4_run::RunFault;
 use std::io;
 use std::io::{BufWriter, Read, Write};
+use std::net::{Net, TcpListener, TcpStream};
 use std::process::ExitCode;
 use std::rt::Files;
+use std::sync::Wait;
+use std::thread::Threads;
+use std::time::Clock;
 
 fn main(rt: HostRuntime) -> ExitCode {
     let outcome = command::given(&rt).and_then(|command| answer(&rt, &command));
@@ -40,25 +50,43 @@ fn ended<R: Eprint>(rt: &R, outcome: &Result<(), Fault>) -> ExitCode
 }
 
 /// Does what the command asks for, from standard input to standard output.
-fn answer<R: Files + Input + Print + AllocGlobal>(rt: &R, command: &Command) -> Result<(), Fault> {
+fn answer<
+    R: Files
+        + Net<Listener = TcpListener, Stream = TcpStream>
+        + Threads
+        + Wait
+        + Clock
+        + Sync
+        + Input
+        + Print
+        + AllocGlobal,
+>(rt: &R, command: &Command) -> Result<(), Fault> {
     let mut output = BufWriter::new(rt.alloc(), io::writer(rt)).map_err(RunFault::writing)?;
     obey(rt, command, rt.reader(), &mut output)
 }
 
-/// Does what the command asks for, from the input to the output. A file of logins is one of `files`.
-fn obey<F: Files + AllocGlobal, R: Read + Drop, W: Write>(
-    files: &F,
-    command: &Command,
-    input: R,
-    output: &mut W,
-) -> Result<(), Fault>
+/// Does what the command asks for, from the input to the output. Files, sockets, threads and the clock
+/// are those of `system`.
+fn obey<
+    S: Files
+        + Net<Listener = TcpListener, Stream = TcpStream>
+        + Threads
+        + Wait
+        + Clock
+        + Sync
+        + AllocGlobal,
+    R: Read + Drop,
+    W: Write,
+>(system: &S, command: &Command, input: R, output: &mut W) -> Result<(), Fault>
     ensures shown { OnOk result (IsObeyed command.now (W.contents output.old) (W.contents output.new)) }
 {
     match command {
         Command::Show(text) => show(output, text)?,
-        Command::Run => s4_run::run_script(files.alloc(), input, output)?,
-        Command::Hall(path) => run_hall(files, path, input, output)?,
-        Command::Strike(who) => s4_run::run_strike(files.alloc(), *who, input, output)?,
+        Command::Run => s4_run::run_script(system.alloc(), input, output)?,
+        Command::Hall(path) => run_hall(system, path, input, output)?,
+        Command::Strike(who) => s4_run::run_strike(system.alloc(), *who, input, output)?,
+        Command::Serve(service) => serving::serve_at(system, service, output)?,
+        Command::Call(call) => calling::call_at(system, system.alloc(), call, output)?,
     }
     Ok(())
 }

@@ -5,9 +5,13 @@ use s4_run::RunFault;
 use s4_types::Principal;
 use std::alloc::Global;
 use std::env::FillError;
+use std::net::{Net, TcpListener, TcpStream};
 use std::process::Abort;
 use std::rt::{Env, Files};
+use std::sync::Wait;
 use std::test::Fail;
+use std::thread::Threads;
+use std::time::Clock;
 use std::{fs, process, str};
 
 /// The first script, and what is written for it.
@@ -33,6 +37,8 @@ Commands:
   run     Runs a script from standard input, and writes the replies
   hall    Runs arrivals from standard input, and writes what each connection is sent
   strike  Writes a script from standard input without what a principal's strangers ask
+  serve   Serves a drive over TCP, and writes where it listens
+  call    Asks a served drive once, and writes the reply
   help    Print this message or the help of the given subcommand(s)
 
 Options:
@@ -113,24 +119,28 @@ impl Env for Words<'_> {
 }
 
 /// The command that these arguments spell.
-fn given(alloc: Global, words: &[&[u8]]) -> Result<Command, Fault> {
+pub fn given(alloc: Global, words: &[&[u8]]) -> Result<Command, Fault> {
     command::given(&(Words(words), alloc))
 }
 
 /// What is written to standard output for these arguments and this input.
-fn written<F: Files + AllocGlobal>(
-    files: &F,
-    words: &[&[u8]],
-    input: &str,
-) -> Result<Vec<u8>, Fault> {
-    let mut output = Vec::new(files.alloc());
-    let command = given(files.alloc(), words)?;
-    obey(files, &command, input.as_bytes(), &mut output)?;
+pub fn written<
+    S: Files
+        + Net<Listener = TcpListener, Stream = TcpStream>
+        + Threads
+        + Wait
+        + Clock
+        + Sync
+        + AllocGlobal,
+>(system: &S, words: &[&[u8]], input: &str) -> Result<Vec<u8>, Fault> {
+    let mut output = Vec::new(system.alloc());
+    let command = given(system.alloc(), words)?;
+    obey(system, &command, input.as_bytes(), &mut output)?;
     Ok(output)
 }
 
 /// The line on standard error where these arguments spell no command; its status is 2.
-fn refused<R: Abort>(rt: &R, alloc: Global, words: &[&[u8]]) -> Result<String, Fail> {
+pub fn refused<R: Abort>(rt: &R, alloc: Global, words: &[&[u8]]) -> Result<String, Fail> {
     let fault = given(alloc, words).err().ok_or("a fault")?;
     assert_eq!(rt; fault.status(), 2);
     Ok(FaultText(&fault).to_string(alloc)?)
@@ -197,7 +207,7 @@ fn wrong_command_lines(rt: HostRuntime) -> Result<(), Fail> {
     let cases: [(&[&[u8]], &str); 10] = [
         (
             &[b"s4d"],
-            "'s4d' requires a subcommand but one was not provided\n  [subcommands: run, hall, strike, help]\n\nUsage: s4d <COMMAND>",
+            "'s4d' requires a subcommand but one was not provided\n  [subcommands: run, hall, strike, serve, call, help]\n\nUsage: s4d <COMMAND>",
         ),
         (
             &[b"s4d", b"walk"],
@@ -317,7 +327,16 @@ fn run_reads_a_script(rt: HostRuntime) -> Result<(), Fail> {
 }
 
 /// That a hall lets principal 7 in by the logins of a new file with that path.
-fn check_hall<F: Files + Abort + AllocGlobal>(rt: &F, path: &str) -> Result<(), Fail> {
+fn check_hall<
+    S: Files
+        + Net<Listener = TcpListener, Stream = TcpStream>
+        + Threads
+        + Wait
+        + Clock
+        + Sync
+        + Abort
+        + AllocGlobal,
+>(rt: &S, path: &str) -> Result<(), Fail> {
     fs::write(rt, path, SECRET)?;
     let sent = written(rt, &[b"s4d", b"hall", path.as_bytes()], ARRIVALS);
     fs::remove_file(rt, path)?;

@@ -1,0 +1,12 @@
+use Rattle.std.proofs.Common.{List, ap, subst, sym}
+use Rattle.s4_calls.specs.Calls.{CallList}
+use Rattle.s4_pool.specs.Numbers.{HasAll}
+use Rattle.s4_server.specs.Setup.{Setup}
+use Rattle.s4_server.proofs.server.Server.run.Goals as goal
+
+pub returns-in-Ok-clause-there : goal.returns-in-Ok-clause-there
+returns-in-Ok-clause-there g c =
+    let workers = ap (λ (s : Setup). s.workers) c.self.view_is in
+    let opened = subst (λ n. HasAll n c.in_ok-passes.passes.items) c.self.invariant.2 c.in-Ok.ensures.there in
+    let there = subst (λ n. HasAll n c.in_ok-passes.passes.items) workers opened in
+    subst (λ (p : List CallList). HasAll c.args.self.workers p) (sym c.in-Ok.ensures.passes) there

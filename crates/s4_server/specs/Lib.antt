@@ -1,0 +1,5 @@
+pub mod Desks
+pub mod Drains
+pub mod Faults
+pub mod Places
+pub mod Setup

@@ -1,0 +1,13 @@
+-- The places of a queue of connections, and the numbers of these.
+use Rattle.std.specs.Prelude.{◌≡◌, ℕ, zero, suc, List, [], ◌∷◌, ◌++◌, All}
+use Rattle.atomic_table.specs.Seated.{TableId}
+use Rattle.s4_jobs.specs.Seats.{Seat}
+
+-- each seat is one of this queue's
+abbrev pub AreOf : TableId → List Seat → Type 0
+AreOf queue seats = All (λ (s : Seat). s.queue ≡ queue) seats
+
+-- the numbers from 1 on, up to this one
+abbrev pub numbers_to : ℕ → List ℕ
+numbers_to zero = []
+numbers_to (suc n) = numbers_to n ++ (suc n ∷ [])

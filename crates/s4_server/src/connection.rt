@@ -1,0 +1,28 @@
+//! A connection that was accepted.
+
+ghost use Rattle.std.specs.Prelude.{◌≡◌, ◌==◌, ◌+◌, cond};
+
+use s4_jobs::Numbered;
+use std::net::TcpStream;
+
+/// A connection that was accepted, with its number.
+#[derive(Drop)]
+pub struct Connection {
+    pub number: u64,
+    pub stream: TcpStream,
+}
+
+impl Numbered for Connection {
+    ghost numbered = { λ connection. connection.number };
+
+    fn number(&self) -> u64 {
+        self.number
+    }
+}
+
+/// The number of the next connection: from 1 on, and after the greatest from 1 again.
+pub fn number_after(number: u64) -> u64
+    ensures { result ≡ cond (number == 18446744073709551615) 1 (number + 1) }
+{
+    number.checked_add(1).unwrap_or(1)
+}

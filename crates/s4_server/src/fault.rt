@@ -1,0 +1,69 @@
+//! Why a server ends without success.
+
+ghost use Rattle.std.specs.Prelude.{◌≡◌, Some};
+ghost use Rattle.s4_server.specs.Faults.{fault_of, fault_text};
+ghost use Rattle.s4_server.specs.declared.fault.ServerFault.TheVariants as fault;
+
+use s4_pool::Why;
+use std::alloc::{AllocError, AllocFailed};
+use std::fmt;
+use thiserror::Error;
+
+/// Why a server ends without success (docs/OPERATIONS.md, "Faults").
+#[derive(Debug, PartialEq, Drop, Error)]
+pub enum ServerFault {
+    /// Not all passes came back.
+    Missing,
+    /// The cells don't have the same wide records, or another window.
+    Torn,
+    /// Calls and records don't match one to one.
+    Stray,
+    /// There isn't enough memory.
+    NoMemory,
+    /// The system gives no watch over sockets.
+    NoWatch,
+}
+
+impl ServerFault {
+    /// The fault of a front that can't be closed.
+    pub fn of(why: Why) -> ServerFault
+        ensures { result ≡ fault_of why }
+    {
+        match why {
+            Why::Missing => ServerFault::Missing,
+            Why::Torn => ServerFault::Torn,
+            Why::Stray => ServerFault::Stray,
+            Why::NoMemory => ServerFault::NoMemory,
+        }
+    }
+}
+
+impl fmt::Display for ServerFault {
+    ghost output = { λ fault. Some (fault_text fault) };
+
+    fn fmt<W: fmt::Write>(&self, f: &mut fmt::Formatter<W>) -> fmt::Result {
+        match self {
+            ServerFault::Missing => write!(f, "missing"),
+            ServerFault::Torn => write!(f, "torn"),
+            ServerFault::Stray => write!(f, "stray"),
+            ServerFault::NoMemory => write!(f, "no memory"),
+            ServerFault::NoWatch => write!(f, "cannot listen"),
+        }
+    }
+}
+
+impl From<AllocError> for ServerFault {
+    ghost from_gives = { λ _ why. why ≡ fault.NoMemory };
+
+    fn from(_: AllocError) -> ServerFault {
+        ServerFault::NoMemory
+    }
+}
+
+impl<T: Drop> From<AllocFailed<T>> for ServerFault {
+    ghost from_gives = { λ _ why. why ≡ fault.NoMemory };
+
+    fn from(_: AllocFailed<T>) -> ServerFault {
+        ServerFault::NoMemory
+    }
+}

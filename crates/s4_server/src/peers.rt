@@ -1,0 +1,122 @@
+//! The peers of a worker.
+
+use crate::clock::Ticks;
+use crate::desk::Desk;
+use crate::peer::{Next, Peer};
+use crate::threads::Shared;
+use crate::watch::Watch;
+use mio::net::TcpStream;
+use s4_pool::OpenGate;
+use slab::Slab;
+use std::alloc::Global;
+use std::collections::VecDeque;
+use std::io;
+use std::sync::Wait;
+use std::time::Duration;
+
+/// How often it is looked for idle peers, in milliseconds.
+const LOOKS: u64 = 50;
+
+/// The peers of a worker, each at its place.
+#[derive(Drop)]
+pub struct Peers {
+    alloc: Global,
+    places: Slab<Peer>,
+    /// The places of those that go on at once.
+    eager: VecDeque<usize>,
+    /// When it was looked for idle ones, in milliseconds.
+    looked: u64,
+}
+
+impl Peers {
+    /// No peers. Takes no memory.
+    pub fn new(alloc: Global) -> Peers {
+        Peers {
+            alloc,
+            places: Slab::new(alloc),
+            eager: VecDeque::new(alloc),
+            looked: 0,
+        }
+    }
+
+    /// How many peers there are.
+    pub fn len(&self) -> usize {
+        self.places.len()
+    }
+
+    /// Whether there are none.
+    pub fn is_empty(&self) -> bool {
+        self.places.is_empty()
+    }
+
+    /// How long a wait may be: not at all where some go on at once, and without end where there are none.
+    pub fn patience(&self) -> Option<Duration> {
+        if !self.eager.is_empty() {
+            return Some(Duration::from_millis(0));
+        }
+        if self.places.is_empty() {
+            return None;
+        }
+        Some(Duration::from_millis(LOOKS))
+    }
+
+    /// Takes in a peer, and has its stream watched.
+    pub fn add(&mut self, watch: &Watch, stream: TcpStream, now: u64) -> io::Result<()> {
+        let place = self.places.insert(Peer::new(self.alloc, stream, now))?;
+        let watched = match self.places.get_mut(place) {
+            Some(peer) => watch.add(peer.stream_mut(), place),
+            None => Ok(()),
+        };
+        if watched.is_err() {
+            self.places.try_remove(place);
+        }
+        watched
+    }
+
+    /// Serves the peer of this place, where there is one. `last` says that it sends no more.
+    pub fn serve<R: Wait, C: Ticks>(
+        &mut self,
+        shared: &Shared<'_, R, C>,
+        desk: &mut Desk<'_, R, C, OpenGate>,
+        now: u64,
+        place: usize,
+        last: bool,
+    ) {
+        let Some(peer) = self.places.get_mut(place) else {
+            return;
+        };
+        let over = match peer.serve(shared, desk, now, last) {
+            Next::Waits => false,
+            Next::GoesOn => peer.becomes_eager() && self.eager.push_back(place).is_err(),
+            Next::Over => true,
+        };
+        if over {
+            self.places.try_remove(place);
+        }
+    }
+
+    /// Serves those that go on, each once.
+    pub fn serve_eager<R: Wait, C: Ticks>(
+        &mut self,
+        shared: &Shared<'_, R, C>,
+        desk: &mut Desk<'_, R, C, OpenGate>,
+        now: u64,
+    ) {
+        for _ in 0..self.eager.len() {
+            if let Some(place) = self.eager.pop_front() {
+                if let Some(peer) = self.places.get_mut(place) {
+                    peer.becomes_patient();
+                }
+                self.serve(shared, desk, now, place, false);
+            }
+        }
+    }
+
+    /// Closes those that were idle for so many milliseconds, or for none where that is 0.
+    pub fn close_idle(&mut self, now: u64, idle: u64) {
+        if now.saturating_sub(self.looked) >= LOOKS {
+            self.looked = now;
+            self.places.retain(|_, peer| !peer.is_idle(now, idle));
+        }
+    }
+}

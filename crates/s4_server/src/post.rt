@@ -1,0 +1,86 @@
+//! Where connections are left for a worker.
+
+use crate::watch::WAKE;
+use mio::{Registry, Waker};
+use std::io;
+use std::sync::atomic::{AtomicBool, AtomicU64, Ordering};
+
+/// A worker's post: where it is woken, and how many connections it was given and has ended.
+#[derive(Drop)]
+pub struct Post {
+    waker: Waker,
+    begun: AtomicBool,
+    given: AtomicU64,
+    ended: AtomicU64,
+}
+
+impl Post {
+    /// The post of a worker that waits at this registry.
+    pub fn new(registry: &Registry) -> io::Result<Post> {
+        Ok(Post {
+            waker: Waker::new(registry, WAKE)?,
+            begun: AtomicBool::new(false),
+            given: AtomicU64::new(0),
+            ended: AtomicU64::new(0),
+        })
+    }
+
+    /// The worker is at its post.
+    pub fn begin(&self) {
+        self.begun.store(true, Ordering::SeqCst);
+    }
+
+    /// Whether the worker is at its post.
+    pub fn has_begun(&self) -> bool {
+        self.begun.load(Ordering::SeqCst)
+    }
+
+    /// How many connections the worker was given so far.
+    pub fn given(&self) -> u64 {
+        self.given.load(Ordering::SeqCst)
+    }
+
+    /// How many of them have not ended.
+    pub fn open(&self) -> u64 {
+        self.given().wrapping_sub(self.ended.load(Ordering::SeqCst))
+    }
+
+    /// Gives the worker one connection more, and wakes it.
+    pub fn give(&self) {
+        self.given.fetch_add(1, Ordering::SeqCst);
+        self.wake();
+    }
+
+    /// So many of the connections have ended.
+    pub fn end(&self, connections: u64) {
+        self.ended.fetch_add(connections, Ordering::SeqCst);
+    }
+
+    /// Ends the worker's wait, or its next one.
+    pub fn wake(&self) {
+        // This fails only where the worker's counter of wakes is full, and then it is woken.
+        let _ = self.waker.wake();
+    }
+}
+
+/// The post with the fewest open connections, of those whose workers are there.
+pub fn least(posts: &[Post]) -> Option<&Post> {
+    posts
+        .iter()
+        .filter(|post| post.has_begun())
+        .min_by_key(|post| post.open())
+}
+
+/// How many connections are open.
+pub fn open(posts: &[Post]) -> u64 {
+    posts
+        .iter()
+        .fold(0u64, |sum, post| sum.saturating_add(post.open()))
+}
+
+/// Wakes all workers.
+pub fn wake_all(posts: &[Post]) {
+    for post in posts {
+        post.wake();
+    }
+}

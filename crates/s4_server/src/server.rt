@@ -1,0 +1,168 @@
+//! The server.
+
+ghost use Rattle.std.specs.Prelude.{◌≡◌, ◌==◌, ℕ, false, IfOk};
+ghost use Rattle.s4_types.specs.Base.{opened};
+ghost use Rattle.s4_types.specs.Play.{replies};
+ghost use Rattle.s4_types.specs.Strike.{records_of};
+ghost use Rattle.s4_drive.specs.Step.{replies_without_strangers};
+ghost use Rattle.s4_cells.specs.Played.{requests_in};
+ghost use Rattle.s4_merge.specs.Merged.{AreWhole};
+ghost use Rattle.s4_merge.specs.Order.{IsClosing};
+ghost use Rattle.s4_pool.specs.Numbers.{HasAll};
+
+use crate::clock::Ticks;
+use crate::connection::Connection;
+use crate::fault::ServerFault;
+use crate::post::Post;
+use crate::settings::Settings;
+use crate::threads::{Shared, serve_all};
+use crate::watch::Watch;
+use crate::workers::{gather, staff};
+use s4_jobs::{Jobs, Seat};
+use s4_pool::{Closed, Front, OpenGate, Pass};
+use s4_session::Logins;
+use std::alloc::Global;
+use std::marker::Model;
+use std::net::{Net, TcpListener};
+use std::sync::Wait;
+use std::sync::atomic::AtomicBool;
+use std::thread::Threads;
+use std::time::Clock;
+
+/// How many connections wait for a worker at most; a further one waits to be accepted.
+const WAITING: usize = 64;
+
+/// A server that is set up, and accepts nothing yet. Callers see its settings.
+#[derive(Drop)]
+pub struct Server {
+    alloc: Global,
+    settings: Settings,
+    front: Front<OpenGate>,
+    passes: Vec<Pass>,
+    jobs: Jobs<Connection>,
+    /// The seat of the one who accepts.
+    seat: Seat<Connection>,
+    /// The seats of the workers.
+    seats: Vec<Seat<Connection>>,
+    watches: Vec<Watch>,
+    posts: Vec<Post>,
+}
+
+impl Model for Server {
+    ghost use Rattle.std.specs.Prelude.{◌≡◌};
+    ghost use Rattle.s4_server.specs.Places.{AreOf};
+    ghost use Rattle.s4_server.specs.Setup.{Setup};
+
+    ghost Value = { Setup };
+
+    ghost view = { λ s. s.settings };
+
+    ghost invariant = { λ s. (s.front.window ≡ s.settings.window)
+        × (s.front.cells ≡ s.settings.cells)
+        × (s.front.passes ≡ s.settings.workers)
+        × (s.seat.queue ≡ s.jobs.queue)
+        × AreOf s.jobs.queue s.seats.items };
+}
+
+impl Server {
+    /// A server of these settings: its cells, a pass, a seat and a watch for each worker, and the queue
+    /// of connections. `NoMemory` where a growth was refused, and `NoWatch` where the system gives no
+    /// watch.
+    pub fn open<N: Net>(net: &N, alloc: Global, settings: Settings) -> Result<Server, ServerFault>
+        ensures { IfOk result (λ server. server ≡ settings) }
+    {
+        let Settings {
+            window,
+            cells,
+            workers,
+            ..
+        } = settings;
+        let (front, passes) = Front::open(alloc, window, cells, workers, OpenGate)?;
+        let (jobs, mut seats) = Jobs::open(alloc, WAITING, workers + 1)?;
+        let seat = seats.remove(0);
+        let (watches, posts) = open_watches(net, alloc, workers)?;
+        Ok(Server {
+            alloc,
+            settings,
+            front,
+            passes,
+            jobs,
+            seat,
+            seats,
+            watches,
+            posts,
+        })
+    }
+
+    /// Serves the connections of the listener, each by one worker until it ends, while one thread more
+    /// sweeps the cells in turn. Where the settings name a number of connections it ends after so many:
+    /// they are served to their ends, the workers are joined, and the front is closed. What it then gives
+    /// is what the closing of a front gives (docs/ARCHITECTURE.md, "Fronts"). It waits.
+    pub fn run<R: Threads + Wait + Clock + Sync, C: Ticks>(
+        self,
+        rt: &R,
+        clock: &C,
+        listener: &TcpListener,
+        logins: &Logins,
+    ) -> Result<Closed, ServerFault>
+        ensures there { IfOk result (λ closed. HasAll self.workers closed.passes.items) }
+        ensures whole { IfOk result (λ closed. AreWhole self.window closed.cells.items) }
+        ensures history { IfOk result (λ closed. IsClosing self.window closed.cells.items closed.passes.items closed.history.items) }
+        ensures isolated { IfOk result (λ closed. (who : ℕ) → (who == 0) ≡ false
+            → replies (records_of who closed.history.items)
+            ≡ replies_without_strangers (opened self.window) who (requests_in closed.history.items)) }
+    {
+        let Server {
+            alloc,
+            settings,
+            front,
+            passes,
+            jobs,
+            seat,
+            seats,
+            watches,
+            posts,
+        } = self;
+        let accepted = AtomicBool::new(false);
+        let shared = Shared {
+            rt,
+            alloc,
+            front: &front,
+            clock,
+            logins,
+            posts: posts.as_slice(),
+            accepted: &accepted,
+            idle: settings.idle,
+        };
+        let mut workers = staff(&shared, &jobs, seats, passes, watches)?;
+        serve_all(
+            &shared,
+            &settings,
+            listener,
+            &jobs,
+            seat,
+            workers.as_mut_slice(),
+        );
+        let passes = gather(alloc, workers)?;
+        match front.close(alloc, passes) {
+            Ok(closed) => Ok(closed),
+            Err(fault) => Err(ServerFault::of(fault.why)),
+        }
+    }
+}
+
+/// A watch and a post for each worker.
+fn open_watches<N: Net>(
+    net: &N,
+    alloc: Global,
+    workers: u64,
+) -> Result<(Vec<Watch>, Vec<Post>), ServerFault> {
+    let mut watches = Vec::new(alloc);
+    let mut posts = Vec::new(alloc);
+    for _ in 0..workers {
+        let (watch, post) = Watch::open(net, alloc).map_err(|_| ServerFault::NoWatch)?;
+        watches.push(watch)?;
+        posts.push(post)?;
+    }
+    Ok((watches, posts))
+}

@@ -1,0 +1,38 @@
+//! How a server is set up.
+
+ghost use Rattle.std.specs.Prelude.{◌<◌, ◌≤◌};
+
+/// What a server is told at its start (docs/OPERATIONS.md, "Flags").
+#[derive(Clone, Copy, Debug, PartialEq, Eq)]
+pub struct Settings {
+    /// The window at the opening, in milliseconds.
+    pub window: u64,
+    /// How many cells there are, from 1 to 16.
+    pub cells: usize,
+    /// How many workers there are, from 1 to 8.
+    pub workers: u64,
+    /// After how many connections the server ends; 0 for never.
+    pub connections: u32,
+    /// For how many milliseconds a peer may be silent, or take nothing of what it is sent; 0 for ever.
+    pub idle: u64,
+    /// How many connections may be open; one more is closed at once.
+    pub open: u32,
+    ghost some_cells: { 0 < cells },
+    ghost few_cells: { cells ≤ 16 },
+    ghost some_workers: { 0 < workers },
+    ghost few_workers: { workers ≤ 8 },
+}
+
+impl Settings {
+    /// A window of a day, four cells, four workers, no end, a minute of silence, and 1024 connections.
+    pub fn standard() -> Settings {
+        Settings {
+            window: 86400000,
+            cells: 4,
+            workers: 4,
+            connections: 0,
+            idle: 60000,
+            open: 1024,
+        }
+    }
+}

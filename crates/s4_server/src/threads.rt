@@ -1,0 +1,142 @@
+//! The threads of a server.
+
+ghost use Rattle.std.specs.Prelude.{◌≡◌};
+
+use crate::accepting::accept_all;
+use crate::clock::Ticks;
+use crate::connection::Connection;
+use crate::post::{Post, wake_all};
+use crate::settings::Settings;
+use crate::workers::Worker;
+use s4_jobs::{Jobs, Seat};
+use s4_pool::{Front, OpenGate};
+use s4_session::Logins;
+use std::alloc::Global;
+use std::net::TcpListener;
+use std::sync::Wait;
+use std::sync::atomic::{AtomicBool, Ordering};
+use std::thread;
+use std::thread::Threads;
+use std::time::{Clock, Duration};
+
+/// How many values of a cell are freed at a time.
+const SWEPT: u64 = 256;
+
+/// How long the sweeper rests after each round, in milliseconds.
+const REST: u64 = 100;
+
+/// What the threads of a server share.
+#[derive(Drop)]
+pub struct Shared<'a, R, C> {
+    pub rt: &'a R,
+    pub alloc: Global,
+    pub front: &'a Front<OpenGate>,
+    pub clock: &'a C,
+    pub logins: &'a Logins,
+    /// Where connections are left for the workers.
+    pub posts: &'a [Post],
+    /// No more connections are accepted.
+    pub accepted: &'a AtomicBool,
+    /// How long a peer may be silent, in milliseconds; 0 for ever.
+    pub idle: u64,
+}
+
+/// Serves connections, and sweeps meanwhile, until the last connection has ended.
+pub fn serve_all<R: Threads + Wait + Clock + Sync, C: Ticks>(
+    shared: &Shared<'_, R, C>,
+    settings: &Settings,
+    listener: &TcpListener,
+    jobs: &Jobs<Connection>,
+    seat: Seat<Connection>,
+    workers: &mut [Worker<'_, R, C>],
+)
+    requires cells { settings.now.cells ≡ shared.now.front.now.cells }
+    requires seat { seat.queue ≡ jobs.now.queue }
+{
+    let flag = AtomicBool::new(false);
+    let ended = &flag;
+    let cells = settings.cells;
+    thread::join(
+        shared.rt,
+        || -> ()
+            requires { seat.queue ≡ jobs.now.queue }
+        { serve_to_the_end(shared, settings, listener, jobs, seat, workers, ended) },
+        || sweep_to_the_end(shared, cells, ended),
+    );
+}
+
+/// Accepts connections in one thread, and has each worker serve them in another.
+fn serve_to_the_end<R: Threads + Wait + Clock + Sync, C: Ticks>(
+    shared: &Shared<'_, R, C>,
+    settings: &Settings,
+    listener: &TcpListener,
+    jobs: &Jobs<Connection>,
+    mut seat: Seat<Connection>,
+    workers: &mut [Worker<'_, R, C>],
+    ended: &AtomicBool,
+)
+    requires { seat.queue ≡ jobs.now.queue }
+{
+    thread::join(
+        shared.rt,
+        || work_all(shared, workers),
+        || -> ()
+            requires { seat.queue ≡ jobs.now.queue }
+        { accept_to_the_end(shared, settings, listener, jobs, &mut seat) },
+    );
+    ended.store(true, Ordering::SeqCst);
+}
+
+/// Accepts connections, and tells the workers of the last one.
+fn accept_to_the_end<R: Wait + Clock, C>(
+    shared: &Shared<'_, R, C>,
+    settings: &Settings,
+    listener: &TcpListener,
+    jobs: &Jobs<Connection>,
+    seat: &mut Seat<Connection>,
+)
+    requires { seat.old.queue ≡ jobs.now.queue }
+{
+    let Settings {
+        connections,
+        open,
+        ..
+    } = *settings;
+    accept_all(
+        shared.rt,
+        listener,
+        jobs,
+        seat,
+        shared.posts,
+        connections,
+        open,
+    );
+    shared.accepted.store(true, Ordering::SeqCst);
+    wake_all(shared.posts);
+}
+
+/// Has each worker serve connections in a thread of its own, to the end.
+fn work_all<R: Threads + Wait + Sync, C: Ticks>(
+    shared: &Shared<'_, R, C>,
+    workers: &mut [Worker<'_, R, C>],
+) {
+    let count = workers.len();
+    if count > 0 {
+        thread::for_each_mut(shared.rt, workers, count, &|_, worker| worker.run(shared));
+    }
+}
+
+/// Sweeps the cells in turn, round by round, until the end.
+fn sweep_to_the_end<R: Wait + Clock, C>(shared: &Shared<'_, R, C>, cells: usize, ended: &AtomicBool)
+    requires { cells ≡ shared.now.front.now.cells }
+{
+    for _ in shared.rt.forever() {
+        for cell in 0..cells {
+            shared.front.sweep(shared.rt, cell, SWEPT);
+        }
+        if ended.load(Ordering::SeqCst) {
+            return;
+        }
+        thread::sleep(shared.rt, Duration::from_millis(REST));
+    }
+}

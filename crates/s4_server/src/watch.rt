@@ -1,0 +1,56 @@
+//! What a worker waits for.
+
+use crate::post::Post;
+use mio::net::TcpStream;
+use mio::{Events, Interest, Poll, Token};
+use std::alloc::Global;
+use std::io;
+use std::net::Net;
+use std::time::Duration;
+
+/// What stands for the worker's post. A peer is known by its place and one more.
+pub const WAKE: Token = Token(0);
+
+/// How much is told at a time at most.
+const EVENTS: usize = 256;
+
+/// A worker's watch over its post and over the streams of its peers.
+#[derive(Drop)]
+pub struct Watch {
+    poll: Poll,
+    events: Events,
+}
+
+impl Watch {
+    /// A watch over a new post.
+    pub fn open<N: Net>(net: &N, alloc: Global) -> io::Result<(Watch, Post)> {
+        let poll = Poll::new(net)?;
+        let events = Events::with_capacity(alloc, EVENTS)?;
+        let post = Post::new(poll.registry())?;
+        Ok((Watch { poll, events }, post))
+    }
+
+    /// Watches the stream of the peer of this place too.
+    pub fn add(&self, stream: &mut TcpStream, place: usize) -> io::Result<()> {
+        let both = Interest::READABLE | Interest::WRITABLE;
+        self.poll.registry().register(stream, token_of(place), both)
+    }
+
+    /// Waits until something is told, and for so long at most. Where the system can't tell, nothing is.
+    pub fn wait(&mut self, most: Option<Duration>) -> &Events {
+        let Watch { poll, events } = self;
+        // Where it fails no event is left there.
+        let _ = poll.poll(events, most);
+        events
+    }
+}
+
+/// What stands for the peer of this place.
+fn token_of(place: usize) -> Token {
+    Token(place.wrapping_add(1))
+}
+
+/// The place of the peer that this stands for; none where it stands for the post.
+pub fn place_of(token: Token) -> Option<usize> {
+    token.0.checked_sub(1)
+}

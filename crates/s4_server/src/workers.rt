@@ -1,0 +1,140 @@
+//! Workers, which serve connections.
+
+ghost use Rattle.std.specs.Prelude.{◌≡◌};
+ghost use Rattle.s4_server.specs.Places.{AreOf};
+
+use crate::clock::Ticks;
+use crate::connection::Connection;
+use crate::desk::Desk;
+use crate::peers::Peers;
+use crate::post::Post;
+use crate::threads::Shared;
+use crate::watch::{Watch, place_of};
+use mio::net::TcpStream;
+use s4_jobs::{Jobs, Seat};
+use s4_pool::{OpenGate, Pass};
+use s4_types::NoMemory;
+use std::alloc::Global;
+use std::sync::Wait;
+use std::sync::atomic::Ordering;
+
+/// A worker's place: where it takes connections, where it waits for what their peers say, and where it
+/// answers their requests.
+#[derive(Drop)]
+pub struct Worker<'a, R, C> {
+    jobs: &'a Jobs<Connection>,
+    seat: Seat<Connection>,
+    /// How many connections it took.
+    taken: u64,
+    post: &'a Post,
+    watch: Watch,
+    peers: Peers,
+    desk: Desk<'a, R, C, OpenGate>,
+    pub ghost same: { seat.queue ≡ jobs.now.queue },
+}
+
+/// A worker for each seat, pass, watch and post.
+pub fn staff<'a, R, C>(
+    shared: &Shared<'a, R, C>,
+    jobs: &'a Jobs<Connection>,
+    seats: Vec<Seat<Connection>>,
+    passes: Vec<Pass>,
+    watches: Vec<Watch>,
+) -> Result<Vec<Worker<'a, R, C>>, NoMemory>
+    requires { AreOf jobs.now.queue seats.items }
+{
+    let mut seats = seats;
+    let mut workers = Vec::new(shared.alloc);
+    let places = watches.into_iter().zip(shared.posts.iter());
+    for (pass, (watch, post)) in passes.into_iter().zip(places) {
+        if let Some(seat) = seats.pop() {
+            let desk = Desk {
+                rt: shared.rt,
+                clock: shared.clock,
+                front: shared.front,
+                pass,
+            };
+            workers.push(Worker {
+                jobs,
+                seat,
+                taken: 0,
+                post,
+                watch,
+                peers: Peers::new(shared.alloc),
+                desk,
+            })?;
+        }
+    }
+    Ok(workers)
+}
+
+/// The passes of all workers.
+pub fn gather<R, C>(alloc: Global, workers: Vec<Worker<'_, R, C>>) -> Result<Vec<Pass>, NoMemory> {
+    let mut passes = Vec::new(alloc);
+    for worker in workers {
+        passes.push(worker.desk.pass)?;
+    }
+    Ok(passes)
+}
+
+impl<R: Wait, C: Ticks> Worker<'_, R, C> {
+    /// Serves the connections that it is given, until no more are accepted and all of its own have
+    /// ended.
+    pub fn run(&mut self, shared: &Shared<'_, R, C>) {
+        self.post.begin();
+        for _ in shared.rt.forever() {
+            let last = shared.accepted.load(Ordering::SeqCst);
+            self.take(shared);
+            if last && self.taken == self.post.given() && self.peers.is_empty() {
+                return;
+            }
+            self.serve(shared);
+        }
+    }
+
+    /// Takes in the connections that it was given. One for which there is no memory, or that can't be
+    /// watched, is closed.
+    fn take(&mut self, shared: &Shared<'_, R, C>) {
+        for _ in self.taken..self.post.given() {
+            let Worker {
+                jobs,
+                seat,
+                taken,
+                post,
+                watch,
+                peers,
+                ..
+            } = &mut *self;
+            if let Some(connection) = jobs.take(shared.rt, seat) {
+                *taken = taken.wrapping_add(1);
+                let stream = TcpStream::from_std(connection.stream);
+                let now = shared.clock.moment().tick();
+                if peers.add(watch, stream, now).is_err() {
+                    post.end(1);
+                }
+            }
+        }
+    }
+
+    /// Waits until something is told, and serves whom it is told of.
+    fn serve(&mut self, shared: &Shared<'_, R, C>) {
+        let Worker {
+            post,
+            watch,
+            peers,
+            desk,
+            ..
+        } = self;
+        let before = peers.len();
+        let events = watch.wait(peers.patience());
+        let now = shared.clock.moment().tick();
+        for event in events.iter() {
+            if let Some(place) = place_of(event.token()) {
+                peers.serve(shared, desk, now, place, event.is_read_closed());
+            }
+        }
+        peers.serve_eager(shared, desk, now);
+        peers.close_idle(now, shared.idle);
+        post.end(before.saturating_sub(peers.len()) as u64);
+    }
+}

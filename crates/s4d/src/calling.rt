@@ -1,0 +1,96 @@
+//! Calls of a served drive (docs/SCRIPTS.md, "Calls").
+
+ghost use Rattle.std.specs.Prelude.{◌≡◌, ◌++◌, ◌∷◌, [], ℕ, List, IfOk, IsErrOf, OnOk, string_bytes};
+ghost use Rattle.std.specs.Io.KnownBytes.{Appends, Keeps};
+ghost use Rattle.s4_script.specs.Texts.{reply_text};
+ghost use Rattle.s4_session.specs.declared.event.Fault as faults;
+ghost use Rattle.s4_client.specs.Calls.{Begins, HearsFault, message_of};
+ghost use Rattle.s4_client.specs.declared.fault.CallFault as call_faults;
+ghost use Rattle.s4_client.specs.declared.fault.CallFault.TheVariants as call_fault;
+ghost use Rattle.s4d.specs.Calling.{TellsReply, TellsSomeReply};
+ghost use Rattle.s4d.specs.declared.fault.Fault.TheVariants as fault;
+
+use crate::fault::Fault;
+use s4_client::{CallFault, connect, message};
+use s4_run::RunFault;
+use s4_script::ReplyText;
+use s4_session::Hello;
+use s4_types::{Reply, Request};
+use std::alloc::Global;
+use std::io::{Read, Write};
+use std::net::{Net, TcpStream};
+
+/// A call: where, as whom, and what is asked.
+#[derive(Debug, PartialEq, Drop)]
+pub struct Call {
+    pub address: String,
+    pub hello: Hello,
+    pub request: Request,
+    /// What is sent.
+    message: Vec<u8>,
+    ghost spelled: { message.items ≡ message_of hello request },
+}
+
+impl Call {
+    /// `BadRequest` where the request has no spelling within a frame.
+    pub fn new(
+        alloc: Global,
+        address: &str,
+        hello: Hello,
+        request: Request,
+    ) -> Result<Call, CallFault>
+        ensures address { IfOk result (λ call. string_bytes call.address ≡ address.now) }
+        ensures hello { IfOk result (λ call. call.hello ≡ hello) }
+        ensures request { IfOk result (λ call. call.request ≡ request) }
+    {
+        let message = message(alloc, &hello, &request)?;
+        Ok(Call {
+            address: String::from_str(alloc, address)?,
+            hello,
+            request,
+            message,
+        })
+    }
+}
+
+/// Calls at the address, and writes the text of the reply.
+pub fn call_at<N: Net<Stream = TcpStream>, W: Write>(
+    net: &N,
+    alloc: Global,
+    call: &Call,
+    output: &mut W,
+) -> Result<(), Fault>
+    ensures told { OnOk result (TellsSomeReply (W.contents output.old) (W.contents output.new)) }
+{
+    let stream = connect(net, call.address.as_str())?;
+    call_over(alloc, call, &mut &stream, &mut &stream, output)
+}
+
+/// Calls over a reader and a writer, and writes the text of the reply, which ends in a line feed.
+pub fn call_over<R: Read, W: Write, O: Write>(
+    alloc: Global,
+    call: &Call,
+    reader: &mut R,
+    writer: &mut W,
+    output: &mut O,
+) -> Result<(), Fault>
+    // Nothing but the Hello and the request of the call is sent, and where a reply is told both are.
+    ensures sent { Begins (W.contents writer.old) (W.contents writer.new) (message_of call.now.hello call.now.request) }
+    ensures all_sent { OnOk result (Appends (W.contents writer.old) (W.contents writer.new) (message_of call.now.hello call.now.request)) }
+    ensures told { OnOk result (TellsReply (R.remaining reader.old) (R.remaining reader.new) (O.contents output.old) (O.contents output.new)) }
+    // A fault of the session is told where the peer told it, and then no reply is.
+    ensures fault { (f : faults.Fault) → IsErrOf result (fault.Call (call_fault.Session f)) → HearsFault (R.remaining reader.old) (R.remaining reader.new) f }
+    ensures silent { (why : call_faults.CallFault) → IsErrOf result (fault.Call why) → Keeps (O.contents output.old) (O.contents output.new) }
+{
+    let reply = s4_client::call(alloc, reader, writer, call.message.as_slice())?;
+    tell(output, &reply)?;
+    Ok(())
+}
+
+/// Writes the text of a reply.
+fn tell<W: Write>(output: &mut W, reply: &Reply) -> Result<(), RunFault>
+    ensures { OnOk result (Appends (W.contents output.old) (W.contents output.new) (reply_text reply.now ++ 10 ∷ [])) }
+{
+    writeln!(output, "{}", ReplyText(reply)).map_err(RunFault::writing)?;
+    output.flush().map_err(RunFault::writing)
+}

@@ -1,0 +1,79 @@
+//! A served drive (docs/OPERATIONS.md).
+
+ghost use Rattle.std.specs.Prelude.{OnOk, string_bytes};
+ghost use Rattle.std.specs.Io.KnownBytes.{Appends};
+ghost use Rattle.s4d.specs.Serving.{TellsService, closed_line, listening_line};
+
+use crate::fault::Fault;
+use s4_run::RunFault;
+use s4_server::{Server, Settings, Stopwatch, Ticks};
+use s4_session::Logins;
+use std::io::Write;
+use std::net::{Net, TcpListener, TcpStream};
+use std::rt::Files;
+use std::sync::Wait;
+use std::thread::Threads;
+use std::time::Clock;
+
+/// A served drive: where it listens, the file of who may log in, and how it is set up.
+#[derive(Debug, PartialEq, Drop)]
+pub struct Service {
+    pub address: String,
+    pub logins: String,
+    pub settings: Settings,
+}
+
+/// Serves at the address of the service. Logins are read before it listens.
+pub fn serve_at<
+    R: Files
+        + Net<Listener = TcpListener, Stream = TcpStream>
+        + Threads
+        + Wait
+        + Clock
+        + Sync
+        + AllocGlobal,
+    W: Write,
+>(rt: &R, service: &Service, output: &mut W) -> Result<(), Fault>
+    ensures told { OnOk result (TellsService (string_bytes service.now.address) (W.contents output.old) (W.contents output.new)) }
+{
+    let logins = s4_run::open_logins(rt, service.logins.as_str())?;
+    let listener = TcpListener::bind(rt, service.address.as_str());
+    let listener = listener.map_err(|_| Fault::CannotListen)?;
+    let clock = Stopwatch::start(rt);
+    serve_on(rt, service, &clock, &listener, &logins, output)
+}
+
+/// Serves the connections of the listener to the end of the service, and tells that it listens, and
+/// how many records there are at its end.
+pub fn serve_on<R: Net + Threads + Wait + Clock + Sync + AllocGlobal, C: Ticks, W: Write>(
+    rt: &R,
+    service: &Service,
+    clock: &C,
+    listener: &TcpListener,
+    logins: &Logins,
+    output: &mut W,
+) -> Result<(), Fault>
+    ensures told { OnOk result (TellsService (string_bytes service.now.address) (W.contents output.old) (W.contents output.new)) }
+{
+    let server = Server::open(rt, rt.alloc(), service.settings)?;
+    tell_listening(output, service.address.as_str())?;
+    let closed = server.run(rt, clock, listener, logins)?;
+    tell_closed(output, closed.history.len())?;
+    Ok(())
+}
+
+/// Writes where it listens, at once.
+fn tell_listening<W: Write>(output: &mut W, address: &str) -> Result<(), RunFault>
+    ensures { OnOk result (Appends (W.contents output.old) (W.contents output.new) (listening_line address.now)) }
+{
+    writeln!(output, "listening {address}").map_err(RunFault::writing)?;
+    output.flush().map_err(RunFault::writing)
+}
+
+/// Writes how many records there are.
+fn tell_closed<W: Write>(output: &mut W, records: usize) -> Result<(), RunFault>
+    ensures { OnOk result (Appends (W.contents output.old) (W.contents output.new) (closed_line records)) }
+{
+    writeln!(output, "closed {records}").map_err(RunFault::writing)?;
+    output.flush().map_err(RunFault::writing)
+}
