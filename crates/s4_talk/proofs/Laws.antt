@@ -1,10 +1,9 @@
 -- Turns one after another.
-use Rattle.std.proofs.Common.{◌≡◌, ◌∙◌, ℕ, ◌≤◌, ◌+◌, Bool, true, false, Option, Some, None, List, [], ◌∷◌, ◌++◌, take, drop, length, take-append-drop, refl, sym, ap, subst, arith, append_assoc}
+use Rattle.std.proofs.Common.{◌≡◌, ◌∙◌, ℕ, ◌+◌, Bool, true, false, Option, Some, None, List, [], ◌∷◌, ◌++◌, take, drop, length, take-append-drop, refl, sym, ap, subst, arith, append_assoc}
 use Rattle.std.specs.Prelude.{IsTrue}
-use Rattle.std.specs.List.{list_all}
 use Rattle.std.proofs.lemmas.List.{append-nil, length-append}
 use Rattle.std.proofs.lemmas.List.Folds.{list_all-append}
-use Rattle.std.specs.Io.KnownBytes.{Consumes, Appends, Keeps, IsAtEnd}
+use Rattle.std.specs.Io.KnownBytes.{Consumes, Appends, Keeps}
 use Rattle.s4_types.specs.declared.principal.Caller.{Caller}
 use Rattle.s4_types.specs.declared.request.Request as asked
 use Rattle.s4_types.specs.declared.reply.Reply.{Reply}
@@ -14,7 +13,7 @@ use Rattle.s4_session.specs.declared.event.Event.TheVariants.{Welcome, Request, 
 use Rattle.s4_session.specs.declared.event.Fault as faults
 use Rattle.s4_session.specs.declared.event.Stand.TheVariants.{Greeting}
 use Rattle.s4_session.specs.Logins.{Logins}
-use Rattle.s4_session.specs.Stream.{Heard, hear, events_of}
+use Rattle.s4_session.specs.Stream.{Heard, events_of}
 use Rattle.s4_session.specs.Feeding.{Listening, hear_piece, left_by}
 use Rattle.s4_session.specs.Sent.{sent_for, welcome, reply_frame, fault_frame}
 use Rattle.s4_session.specs.Determined.{requests_in}

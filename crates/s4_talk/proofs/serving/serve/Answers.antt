@@ -1,4 +1,4 @@
-use Rattle.std.proofs.Common.{rules, ◌≡◌, ◌∙◌, ap, sym, false, is_ok, ◌++◌, ◌∷◌, [], List, ℕ}
+use Rattle.std.proofs.Common.{rules, ◌≡◌, ◌∙◌, ap, false, is_ok, ◌++◌, ◌∷◌, [], List, ℕ}
 use Rattle.s4_codec.specs.Frames.{framed}
 use Rattle.s4_session.specs.Sent.{welcome, reply_frame, fault_frame}
 use Rattle.s4_talk.proofs.Laws.{Serves-nothing, Serves-welcome, Serves-request, Serves-lost, Serves-fault}

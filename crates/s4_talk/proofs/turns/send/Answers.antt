@@ -1,4 +1,4 @@
-use Rattle.s4_talk.proofs.Laws.{Sends-none, Sends-more, Sends-kept}
+use Rattle.s4_talk.proofs.Laws.{Sends-more, Sends-kept}
 use Rattle.s4_talk.proofs.turns.send.Goals as goal
 use Rattle.s4_talk.proofs.turns.send.Goals.{in-Ok, in-Err+in-Interrupted}
 

@@ -1,5 +1,5 @@
-use Rattle.std.proofs.Common.{true, refl}
-use Rattle.s4_talk.proofs.Laws.{turn_of_sends, turn_of_both, turn_of_all}
+use Rattle.std.proofs.Common.{refl}
+use Rattle.s4_talk.proofs.Laws.{turn_of_sends, turn_of_all}
 use Rattle.s4_talk.proofs.turns.turn.Goals as goal
 
 pub returns-in-Later-clause-turns : goal.returns-in-Later-clause-turns

@@ -1,4 +1,4 @@
-use Rattle.std.proofs.Common.{◌≡◌, true, subst, sym}
+use Rattle.std.proofs.Common.{true, subst, sym}
 use Rattle.s4_talk.specs.Turning.{Turns, Told, scene, opened, is_whole_end}
 use Rattle.s4_talk.proofs.Laws.{turns_none, Turns-then, Talked-from, turns_whole}
 use Rattle.s4_talk.proofs.whole.talk.Goals as goal

@@ -1,6 +1,5 @@
-use Rattle.std.proofs.Common.{true, sym, ap, subst}
-use Rattle.s4_talk.specs.Turning.{Turns, scene, is_whole}
-use Rattle.s4_talk.specs.declared.turns.TurnEnd.TheVariants as turn
+use Rattle.std.proofs.Common.{true}
+use Rattle.s4_talk.specs.Turning.{scene, is_whole}
 use Rattle.s4_talk.proofs.Laws.{turns_none, Turns-then}
 use Rattle.s4_talk.proofs.turns.Talking.turns.Goals as goal
 
