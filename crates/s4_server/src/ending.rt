@@ -1,6 +1,6 @@
 //! How it is listened to a peer that was told a fault.
 
-ghost use Rattle.std.specs.Prelude.{◌≡◌, ◌≤◌, ◌*◌, ◌-◌};
+ghost use Rattle.std.specs.Prelude.{◌≡◌, ◌≤◌, ◌*◌, ◌-◌, nat_lt};
 ghost use Rattle.s4_server.specs.Drains.{Drains};
 
 use std::io::{ErrorKind, Read};
@@ -26,6 +26,7 @@ impl Leaving {
 
     /// Reads what the peer says now, and forgets it. Tells whether more may come that is to be read.
     pub fn hear<R: Read>(&mut self, reader: &mut R) -> bool
+        ensures more { result ≡ nat_lt 0 self.new.reads }
         ensures fewer { self.new.reads ≤ self.old.reads }
         ensures drained { Drains (1024 * (self.old.reads - self.new.reads)) (R.remaining reader.old) (R.remaining reader.new) }
     {

@@ -119,8 +119,9 @@ impl Peer {
             return None;
         };
         let waited = talking.waiting();
+        let stream: &TcpStream = stream;
         let mut reader = Hasty::new(stream, *last);
-        let mut writer: &TcpStream = stream;
+        let mut writer = stream;
         let end = converse(shared, desk, talking, &mut reader, &mut writer);
         if reader.has_heard() || talking.waiting() < waited {
             *since = now;
