@@ -48,7 +48,8 @@ impl<T> Model for Arena<T> {
 
     ghost view = { λ a. seen a.heap.cells a.rows.items a.room (length a.blocks.items) };
 
-    ghost invariant = { λ a. IsWhole a.size.bytes (λ b. b.place.ptr) (IsDeed a.alloc) a.blocks.items a.heap.cells a.free a.room a.used a.rows.items a.closed };
+    ghost invariant = { λ a. IsWhole a.size.bytes (λ b. b.place.ptr)
+        (IsDeed a.alloc) a.blocks.items a.heap.cells a.free a.room a.used a.rows.items a.closed };
 }
 
 /// Where an item of an arena stands: its chain, its index, and its node. It is good for the arena that

@@ -75,7 +75,8 @@ pub(crate) fn add_block<T>(
     free: Option<Link<T>>,
 ) -> Result<Option<Link<T>>, AllocError>
     requires { FitsInBlock (node_row T.row) 64 }
-    ensures ok { IfOk result (λ next. Added size.now.bytes (λ b. b.place.ptr) (IsDeed alloc.now) heap.old.cells heap.new.cells blocks.old.items blocks.new.items free next 1) }
+    ensures ok { IfOk result (λ next. Added size.now.bytes (λ b. b.place.ptr)
+        (IsDeed alloc.now) heap.old.cells heap.new.cells blocks.old.items blocks.new.items free next 1) }
     ensures err { OnErr result ((heap.new.cells ≡ heap.old.cells) × (blocks.new.items ≡ blocks.old.items)) }
 {
     blocks.reserve(1)?;
@@ -98,7 +99,8 @@ pub(crate) fn add_blocks<T>(
     requires fits { 64 * size.now.bytes < 2 ^ 63 }
     requires placed { places heap.old.cells ≡ in_blocks size.now.bytes (map (λ b. b.place.ptr) blocks.old.items) }
     requires deeds { AllByRecursion (IsDeed alloc.now) blocks.old.items }
-    ensures ok { IfOk result (λ next. Added size.now.bytes (λ b. b.place.ptr) (IsDeed alloc.now) heap.old.cells heap.new.cells blocks.old.items blocks.new.items free next more) }
+    ensures ok { IfOk result (λ next. Added size.now.bytes (λ b. b.place.ptr)
+        (IsDeed alloc.now) heap.old.cells heap.new.cells blocks.old.items blocks.new.items free next more) }
     ensures err { OnErr result ((heap.new.cells ≡ heap.old.cells) × (blocks.new.items ≡ blocks.old.items)) }
 {
     let before = blocks.len();

@@ -146,7 +146,8 @@ impl<X> Heap<X> {
     /// Writes `value` into the first fresh place, and hands the rest back.
     pub fn carve(&mut self, fresh: Fresh<X>, value: X) -> (Place<X>, Fresh<X>)
         requires { (0 < fresh.left) × (0 < type_size X.row) }
-        ensures { (result.0.ptr ≡ fresh.ptr) × (self.new.cells ≡ self.old.cells ++ (fresh.ptr, value) ∷ []) × IsFresh fresh.ptr self.old.cells × (result.1.ptr ≡ fresh.ptr +ₚ type_size X.row) × (result.1.left + 1 ≡ fresh.left) }
+        ensures { (result.0.ptr ≡ fresh.ptr) × (self.new.cells ≡ self.old.cells ++ (fresh.ptr, value) ∷ [])
+            × IsFresh fresh.ptr self.old.cells × (result.1.ptr ≡ fresh.ptr +ₚ type_size X.row) × (result.1.left + 1 ≡ fresh.left) }
     {
         let Fresh { ptr } = fresh;
         unsafe {
@@ -157,7 +158,8 @@ impl<X> Heap<X> {
 
     /// Forgets the last `len` values, which lie side by side from `place` on.
     pub fn retire(&mut self, place: Place<X>, len: usize) -> Fresh<X>
-        requires { (0 < len) × (places (drop (length self.old.cells - len) self.old.cells) ≡ run (type_size X.row) place.ptr len) × FitsInBlock X.row len }
+        requires { (0 < len) × (places (drop (length self.old.cells - len) self.old.cells) ≡ run (type_size X.row) place.ptr len)
+            × FitsInBlock X.row len }
         ensures { (self.new.cells ≡ take (length self.old.cells - len) self.old.cells) × (result.ptr ≡ place.ptr) × (result.left ≡ len) }
     {
         Fresh { ptr: place.ptr }

@@ -70,7 +70,8 @@ pub(crate) fn fill<T: Drop>(
 /// Has the node lead on to another one, or to none.
 pub(crate) fn set_next<T>(heap: &mut Heap<Node<T>>, at: Link<T>, next: Option<Link<T>>)
     requires { (n : _) × (look heap.old.cells at.ptr ≡ Some n) }
-    ensures { (n : _) → look heap.old.cells at.ptr ≡ Some n → heap.new.cells ≡ put heap.old.cells at.ptr (record { chain = n.chain; prev = n.prev; next = next; item = n.item }) }
+    ensures { (n : _) → look heap.old.cells at.ptr ≡ Some n
+        → heap.new.cells ≡ put heap.old.cells at.ptr (record { chain = n.chain; prev = n.prev; next = next; item = n.item }) }
 {
     heap.get_mut(at.place()).next = next;
 }
@@ -78,7 +79,8 @@ pub(crate) fn set_next<T>(heap: &mut Heap<Node<T>>, at: Link<T>, next: Option<Li
 /// Has the node lead back to another one, or to none.
 pub(crate) fn set_prev<T>(heap: &mut Heap<Node<T>>, at: Link<T>, prev: Option<Link<T>>)
     requires { (n : _) × (look heap.old.cells at.ptr ≡ Some n) }
-    ensures { (n : _) → look heap.old.cells at.ptr ≡ Some n → heap.new.cells ≡ put heap.old.cells at.ptr (record { chain = n.chain; prev = prev; next = n.next; item = n.item }) }
+    ensures { (n : _) → look heap.old.cells at.ptr ≡ Some n
+        → heap.new.cells ≡ put heap.old.cells at.ptr (record { chain = n.chain; prev = prev; next = n.next; item = n.item }) }
 {
     heap.get_mut(at.place()).prev = prev;
 }
@@ -90,7 +92,8 @@ pub(crate) fn vacate<T: Drop>(
     free: Option<Link<T>>,
 ) -> (Option<T>, Option<Link<T>>)
     requires { (n : _) × (look heap.old.cells at.ptr ≡ Some n) }
-    ensures { (n : _) → look heap.old.cells at.ptr ≡ Some n → (result.0 ≡ n.item) × (result.1 ≡ n.next) × (heap.new.cells ≡ put heap.old.cells at.ptr (record { chain = n.chain; prev = None; next = free; item = None })) }
+    ensures { (n : _) → look heap.old.cells at.ptr ≡ Some n → (result.0 ≡ n.item) × (result.1 ≡ n.next)
+        × (heap.new.cells ≡ put heap.old.cells at.ptr (record { chain = n.chain; prev = None; next = free; item = None })) }
 {
     let node = heap.get_mut(at.place());
     let item = node.item.take();
@@ -136,7 +139,8 @@ pub(crate) fn item_at<T>(heap: &Heap<Node<T>>, at: Link<T>) -> &T
 /// Puts an item in the place of a node's, and gives that other one.
 pub(crate) fn set_item<T: Drop>(heap: &mut Heap<Node<T>>, at: Link<T>, item: T) -> T
     requires { (n : _) × (x : _) × (look heap.old.cells at.ptr ≡ Some n) × (n.item ≡ Some x) }
-    ensures { (n : _) → look heap.old.cells at.ptr ≡ Some n → (n.item ≡ Some result) × (heap.new.cells ≡ put heap.old.cells at.ptr (record { chain = n.chain; prev = n.prev; next = n.next; item = Some item })) }
+    ensures { (n : _) → look heap.old.cells at.ptr ≡ Some n → (n.item ≡ Some result)
+        × (heap.new.cells ≡ put heap.old.cells at.ptr (record { chain = n.chain; prev = n.prev; next = n.next; item = Some item })) }
 {
     let node = heap.get_mut(at.place());
     match node.item.replace(item) {

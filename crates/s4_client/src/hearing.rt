@@ -76,7 +76,8 @@ fn send_some<W: Write>(writer: &mut W, bytes: &[u8]) -> Result<usize, CallFault>
 /// Hears the Welcome.
 fn hear_welcome<R: Read>(alloc: Global, reader: &mut R) -> Result<(), CallFault>
     ensures welcome { OnOk result (Consumes (R.remaining reader.old) (R.remaining reader.new) welcome) }
-    ensures fault { (f : faults.Fault) → IsErrOf result (fault.Session f) → Consumes (R.remaining reader.old) (R.remaining reader.new) (fault_frame f) }
+    ensures fault { (f : faults.Fault) → IsErrOf result (fault.Session f)
+        → Consumes (R.remaining reader.old) (R.remaining reader.new) (fault_frame f) }
     ensures met { IfErr result IsMet }
 {
     let body = hear_body(alloc, reader)?;
@@ -89,7 +90,8 @@ fn hear_welcome<R: Read>(alloc: Global, reader: &mut R) -> Result<(), CallFault>
 /// Hears the reply.
 fn hear_reply<R: Read>(alloc: Global, reader: &mut R) -> Result<Reply, CallFault>
     ensures reply { IfOk result (λ reply. Consumes (R.remaining reader.old) (R.remaining reader.new) (reply_frame reply)) }
-    ensures fault { (f : faults.Fault) → IsErrOf result (fault.Session f) → Consumes (R.remaining reader.old) (R.remaining reader.new) (fault_frame f) }
+    ensures fault { (f : faults.Fault) → IsErrOf result (fault.Session f)
+        → Consumes (R.remaining reader.old) (R.remaining reader.new) (fault_frame f) }
     ensures met { IfErr result IsMet }
 {
     let body = hear_body(alloc, reader)?;

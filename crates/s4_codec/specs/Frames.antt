@@ -18,7 +18,8 @@ pub data Front : Type 0 where
 
 -- what a length and the bytes after it are, where a body has at most so many bytes
 abbrev pub body_of : ℕ → ℕ → List ℕ → Front
-body_of limit n rest = if (n == 0) || nat_lt limit n then BadLength else if nat_lt (length rest) n then Part else Whole (take n rest) (drop n rest)
+body_of limit n rest = if (n == 0) || nat_lt limit n then BadLength
+    else if nat_lt (length rest) n then Part else Whole (take n rest) (drop n rest)
 
 -- what stands at the front of the bytes
 abbrev pub front_of : ℕ → List ℕ → Front

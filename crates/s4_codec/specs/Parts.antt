@@ -103,7 +103,8 @@ flag = made (only (λ n. nat_lt n 2) byte) flag_of (λ b. Some (number_of_flag b
 
 -- the right of that number
 abbrev pub right_of : ℕ → Right
-right_of n = if n == 1 then right.Read else if n == 2 then right.Write else if n == 4 then right.Delete else if n == 8 then right.Control else if n == 16 then right.Recover else right.Admin
+right_of n = if n == 1 then right.Read else if n == 2 then right.Write else if n == 4 then right.Delete
+    else if n == 8 then right.Control else if n == 16 then right.Recover else right.Admin
 
 -- whether a right has the number
 abbrev pub is_right : ℕ → Bool

@@ -18,7 +18,8 @@ use Rattle.s4_codec.specs.Frames.{frame_limit}
 
 -- a partition on a page
 abbrev pub name_line : Format NameLine
-name_line = made (name & (object & grant)) (λ x. record { name = x.0; object = x.1.0; grant = x.1.1 }) (λ l. Some (l.name, (l.object, l.grant)))
+name_line = made (name & (object & grant)) (λ x. record { name = x.0; object = x.1.0; grant = x.1.1 })
+    (λ l. Some (l.name, (l.object, l.grant)))
 
 -- the number of a kind of request
 abbrev pub code : Format ℕ

@@ -67,8 +67,10 @@ pub fn read_values_are_spelled()
 /// For each limit of a body: a body that is framed is the first whole frame, whatever follows it,
 /// and a whole frame is that of its body.
 pub fn framed_bodies_are_read_back()
-    ensures read { (limit : ℕ) (body rest : List ℕ) → 0 < length body → length body ≤ limit → limit < 2 ^ 32 → front_of limit (framed body ++ rest) ≡ Whole body rest }
-    ensures framed { (limit : ℕ) (bytes body rest : List ℕ) → AreBytes bytes → front_of limit bytes ≡ Whole body rest → bytes ≡ framed body ++ rest }
+    ensures read { (limit : ℕ) (body rest : List ℕ) → 0 < length body → length body ≤ limit → limit < 2 ^ 32
+        → front_of limit (framed body ++ rest) ≡ Whole body rest }
+    ensures framed { (limit : ℕ) (bytes body rest : List ℕ) → AreBytes bytes → front_of limit bytes ≡ Whole body rest
+        → bytes ≡ framed body ++ rest }
 {}
 
 /// A reply of which each part has a spelling, and that keeps to the drive's limits, has a spelling

@@ -31,7 +31,8 @@ above horizon weight end cost = if nat_lt horizon end then weight end cost else 
 pub record LimitsStand (base : Base) (h : List Record) (limits : Limits) : Type 0 where
   pub window : limits.window ≡ guarded_at base h
   pub horizon : limits.ledger.horizon ≡ horizon_at base h (last_of h)
-  pub charges : (weight : ℕ → ℕ → ℕ) (p : Purse) → sum_by (charge_weight weight p) limits.ledger.charges ≡ purse_weight base (above limits.ledger.horizon weight) p h
+  pub charges : (weight : ℕ → ℕ → ℕ) (p : Purse)
+      → sum_by (charge_weight weight p) limits.ledger.charges ≡ purse_weight base (above limits.ledger.horizon weight) p h
   pub budgets : (p : Purse) → books.budget_of p limits.ledger.budgets ≡ budget_of base p h
 
 -- what a drive holds stands for its history, and the history is sound

@@ -46,7 +46,8 @@ impl Limits {
     /// past, and an account for the budget that it sets. A refused one changes nothing here, and a wide
     /// request's needs no room.
     pub fn reserve(&mut self, added: &Record, past: Past) -> Result<(), NoMemory>
-        ensures places { is_refused added.now.reply ≡ false → OnOk result ((p : Purse) → purse_of added.now.caller added.now.request ≡ Some p
+        ensures places { is_refused added.now.reply ≡ false
+            → OnOk result ((p : Purse) → purse_of added.now.caller added.now.request ≡ Some p
             → HasPlaces p added.now.moment (costs_of past) self.new.ledger.places) }
         ensures budget { is_refused added.now.reply ≡ false → OnOk result (HasBudget added.now.request self.new.ledger.budgets) }
         ensures stand { (base : Base) (h : List Record) → LimitsStand base h self.old → LimitsStand base h self.new }
@@ -71,7 +72,8 @@ impl Limits {
         ensures horizon { self.new.ledger.horizon ≡ horizon_of window moment }
         ensures charges { self.new.ledger.charges ≡ books.lasting (horizon_of window moment) self.old.ledger.charges }
         ensures budgets { self.new.ledger.budgets ≡ self.old.ledger.budgets }
-        ensures places { (c : Charge) → horizon_of window moment < c.end → Contains self.old.ledger.places c → Contains self.new.ledger.places c }
+        ensures places { (c : Charge) → horizon_of window moment < c.end → Contains self.old.ledger.places c
+            → Contains self.new.ledger.places c }
     {
         self.window = window;
         self.ledger.advance(window.horizon(moment));
@@ -80,8 +82,10 @@ impl Limits {
     /// Gives back what was charged for values that a flush erased. What is expired is spent no longer
     /// as it is. Takes no memory.
     pub fn forgive(&mut self, refunds: &[Refund])
-        requires charged { (weight : ℕ → ℕ → ℕ) (p : Purse) → refunded (above self.old.ledger.horizon weight) p refunds.now ≤ sum_by (charge_weight weight p) self.old.ledger.charges }
-        ensures charges { (weight : ℕ → ℕ → ℕ) (p : Purse) → sum_by (charge_weight weight p) self.new.ledger.charges + refunded (above self.old.ledger.horizon weight) p refunds.now
+        requires charged { (weight : ℕ → ℕ → ℕ) (p : Purse)
+            → refunded (above self.old.ledger.horizon weight) p refunds.now ≤ sum_by (charge_weight weight p) self.old.ledger.charges }
+        ensures charges { (weight : ℕ → ℕ → ℕ) (p : Purse)
+            → sum_by (charge_weight weight p) self.new.ledger.charges + refunded (above self.old.ledger.horizon weight) p refunds.now
             ≡ sum_by (charge_weight weight p) self.old.ledger.charges }
         ensures window { self.new.window ≡ self.old.window }
         ensures horizon { self.new.ledger.horizon ≡ self.old.ledger.horizon }
@@ -100,8 +104,10 @@ impl Limits {
         ensures window { self.new.window ≡ self.old.window }
         ensures horizon { self.new.ledger.horizon ≡ self.old.ledger.horizon }
         ensures charges { (weight : ℕ → ℕ → ℕ) (p : Purse) → sum_by (charge_weight weight p) self.new.ledger.charges
-            ≡ sum_by (charge_weight weight p) self.old.ledger.charges + charged (above self.old.ledger.horizon weight) moment (purse_of caller.now request.now) (costs_of past) p }
-        ensures budgets { (p : Purse) → books.budget_of p self.new.ledger.budgets ≡ budget_by p request.now (books.budget_of p self.old.ledger.budgets) }
+            ≡ sum_by (charge_weight weight p) self.old.ledger.charges
+            + charged (above self.old.ledger.horizon weight) moment (purse_of caller.now request.now) (costs_of past) p }
+        ensures budgets { (p : Purse) → books.budget_of p self.new.ledger.budgets
+            ≡ budget_by p request.now (books.budget_of p self.old.ledger.budgets) }
     {
         if let Some(purse) = request.purse(caller) {
             charge(&mut self.ledger, &purse, moment, past);
@@ -143,7 +149,8 @@ fn charge(ledger: &mut Ledger, purse: &Purse, moment: Moment, past: Past)
     ensures horizon { ledger.new.horizon ≡ ledger.old.horizon }
     ensures budgets { ledger.new.budgets ≡ ledger.old.budgets }
     ensures charges { (weight : ℕ → ℕ → ℕ) (p : Purse) → sum_by (charge_weight weight p) ledger.new.charges
-        ≡ sum_by (charge_weight weight p) ledger.old.charges + charged (above ledger.old.horizon weight) moment (Some purse.now) (costs_of past) p }
+        ≡ sum_by (charge_weight weight p) ledger.old.charges
+        + charged (above ledger.old.horizon weight) moment (Some purse.now) (costs_of past) p }
 {
     match past {
         Past::Nothing => {}
@@ -162,8 +169,10 @@ fn charge(ledger: &mut Ledger, purse: &Purse, moment: Moment, past: Past)
 
 // Takes the charges out that the refunds tell of, where they still count.
 fn forgive(ledger: &mut Ledger, refunds: &[Refund])
-    requires charged { (weight : ℕ → ℕ → ℕ) (p : Purse) → refunded (above ledger.old.horizon weight) p refunds.now ≤ sum_by (charge_weight weight p) ledger.old.charges }
-    ensures charges { (weight : ℕ → ℕ → ℕ) (p : Purse) → sum_by (charge_weight weight p) ledger.new.charges + refunded (above ledger.old.horizon weight) p refunds.now
+    requires charged { (weight : ℕ → ℕ → ℕ) (p : Purse)
+        → refunded (above ledger.old.horizon weight) p refunds.now ≤ sum_by (charge_weight weight p) ledger.old.charges }
+    ensures charges { (weight : ℕ → ℕ → ℕ) (p : Purse)
+        → sum_by (charge_weight weight p) ledger.new.charges + refunded (above ledger.old.horizon weight) p refunds.now
         ≡ sum_by (charge_weight weight p) ledger.old.charges }
     ensures horizon { ledger.new.horizon ≡ ledger.old.horizon }
     ensures budgets { ledger.new.budgets ≡ ledger.old.budgets }

@@ -39,7 +39,8 @@ pub fn outcome<S: Store<Version>>(
 ) -> Result<Reply, Refusal>
     requires later { last_of state.now.history ≤ moment }
     requires told { IsTold state.now range.at }
-    ensures { IsOutcome result (data_read (base_of state.now) state.now.history moment caller object.now range.offset range.length range.at) }
+    ensures { IsOutcome result (data_read (base_of state.now) state.now.history moment caller object.now
+        range.offset range.length range.at) }
 {
     let grant = state.judge(caller, object, Right::Read, range.at)?;
     let data = state.data(object, range.at).ok_or(Refusal::Flushed)?;

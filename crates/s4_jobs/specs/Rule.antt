@@ -69,15 +69,18 @@ pub record HandFits (log : List Taking) (all : List Tag) (seat : ℕ) (x : Hand)
   pub put : x.put ≡ put_by seat all
   pub taken : x.taken ≡ taken_by seat log
 
--- a live seat is that of its owner, and put and took what the log says; the first knows how many seats were made, which have ended, and what was left
-pub record Fits (owner : ℕ → Option ℕ) (made : ℕ) (closed : List Hand) (left : List Tag) (log : List Taking) (all : List Tag) (port : ℕ) (v : View) : Type 0 where
+-- a live seat is that of its owner, and put and took what the log says; the first
+-- knows how many seats were made, which have ended, and what was left
+pub record Fits (owner : ℕ → Option ℕ) (made : ℕ) (closed : List Hand) (left : List Tag) (log : List Taking) (all : List Tag)
+    (port : ℕ) (v : View) : Type 0 where
   pub owned : v.live ≡ true → owner v.seat ≡ some port
   pub below : v.live ≡ true → v.seat < made
   pub put : v.live ≡ true → v.put ≡ put_by v.seat all
   pub taken : v.live ≡ true → v.taken ≡ taken_by v.seat log
   pub leads : v.live ≡ true → v.seat ≡ 0 → (v.made ≡ made) × (v.closed ≡ closed) × (v.left ≡ left)
 
--- There is a log of what was taken. What was put is that, what was left over, and what the queue holds, in this order. Nothing is left over before all seats but the first have ended
+-- There is a log of what was taken. What was put is that, what was left over, and what the queue
+-- holds, in this order. Nothing is left over before all seats but the first have ended
 pub record Holds (items : List Tag) (views : List View) : Type 0 where
   pub log : List Taking
   pub left : List Tag
@@ -98,7 +101,8 @@ tag_of number x = tag x.from (number x.job)
 abbrev pub HoldsOf : {J : Type 0} → (J → ℕ) → List (Posted J) → List View → Type 0
 HoldsOf number items views = Holds (map (tag_of number) items) views
 
--- There is a log of what was taken. With what the queue holds it says what the seat of that number put, and what it took. The first seat knows how many seats there are
+-- There is a log of what was taken. With what the queue holds it says what the seat of
+-- that number put, and what it took. The first seat knows how many seats there are
 pub record Sees (number seats : ℕ) (have_put : List ℕ) (have_taken : List Tag) (items : List Tag) : Type 0 where
   pub log : List Taking
   pub put : have_put ≡ put_by number (tags_of log ++ items)
@@ -109,7 +113,8 @@ pub record Sees (number seats : ℕ) (have_put : List ℕ) (have_taken : List Ta
 abbrev pub SeenBy : {J : Type 0} → (J → ℕ) → View → List (Posted J) → Type 0
 SeenBy number v items = Sees v.seat v.made v.put v.taken (map (tag_of number) items)
 
--- the same of the first seat in which all others have ended: what was put is what the log says, what was left over, and what the queue holds
+-- the same of the first seat in which all others have ended: what was put is
+-- what the log says, what was left over, and what the queue holds
 pub record Settles (v : View) (items : List Tag) : Type 0 where
   pub log : List Taking
   pub from : All (λ (t : Tag). t.from < v.made) (tags_of log ++ (v.left ++ items))

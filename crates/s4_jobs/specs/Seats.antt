@@ -39,7 +39,8 @@ having_taken s t = record { queue = s.queue; number = s.number; seats = s.seats;
 
 -- at one moment of the call the queue held so many jobs
 abbrev pub HeldThen : {J : Type 0} → (J → ℕ) → ℕ → Seat → Type 0
-HeldThen {J} number count s = Held {T = Posted J} count (λ (items : List (Posted J)). Sees s.number s.seats s.put s.taken (map (tag_of number) items))
+HeldThen {J} number count s = Held {T = Posted J} count
+    (λ (items : List (Posted J)). Sees s.number s.seats s.put s.taken (map (tag_of number) items))
 
 abbrev pub WasFull : {J : Type 0} → (J → ℕ) → Jobs → Seat → Type 0
 WasFull number jobs s = HeldThen number jobs.capacity s
@@ -57,7 +58,8 @@ pub record AreAll (jobs : Jobs) (seats : List Seat) : Type 0 where
 abbrev pub AreFresh : List Seat → Type 0
 AreFresh seats = All (λ (s : Seat). (s.put ≡ []) × (s.taken ≡ [])) seats
 
--- There is one log of all takings, in the order of the queue, and what is left comes after it. Each seat put and took what they say, and they speak of these seats alone
+-- There is one log of all takings, in the order of the queue, and what is left comes after
+-- it. Each seat put and took what they say, and they speak of these seats alone
 pub record Settled (seats : List Seat) (left : List ℕ) : Type 0 where
   pub log : List Taking
   pub rest : List Tag

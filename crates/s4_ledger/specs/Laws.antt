@@ -8,7 +8,8 @@ use Rattle.s4_ledger.specs.declared.charge.Charge.{Charge}
 use Rattle.s4_ledger.specs.Books.{lasts_above, lasting}
 
 -- what the charges that last weigh, summed up over all
-pub sum_by-lasting : (weight : Charge → ℕ) (horizon : ℕ) (charges : List Charge) → sum_by weight (lasting horizon charges) ≡ sum_by (λ c. if lasts_above horizon c then weight c else 0) charges
+pub sum_by-lasting : (weight : Charge → ℕ) (horizon : ℕ) (charges : List Charge)
+    → sum_by weight (lasting horizon charges) ≡ sum_by (λ c. if lasts_above horizon c then weight c else 0) charges
 sum_by-lasting weight horizon [] = refl
 sum_by-lasting weight horizon (c ∷ charges) =
     let rest = sum_by-lasting weight horizon charges in

@@ -35,7 +35,12 @@ impl Model for Ledger {
 
     ghost Value = { Books };
 
-    ghost view = { λ l. record { horizon = l.horizon; charges = charges_of l.charges; places = keys_of l.charges; budgets = budgets_of l.accounts } };
+    ghost view = { λ l. record {
+      horizon = l.horizon;
+      charges = charges_of l.charges;
+      places = keys_of l.charges;
+      budgets = budgets_of l.accounts;
+    } };
 
     ghost invariant = { λ l. IsBalanced l.charges l.accounts };
 }

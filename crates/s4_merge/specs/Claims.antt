@@ -55,7 +55,8 @@ abbrev pub AllClaimed : ℕ → List Record → ℕ → List Bool → Type 0
 AllClaimed m h k claimed = (p : ℕ) (r : Record) → p < m → slice_get h p ≡ Some r → counts k r ≡ true → slice_index_or claimed p false ≡ true
 
 abbrev pub OneUnclaimed : List Record → ℕ → List Bool → Type 0
-OneUnclaimed h k claimed = (p : ℕ) × (r : Record) × (slice_get h p ≡ Some r) × (counts k r ≡ true) × (slice_index_or claimed p false ≡ false)
+OneUnclaimed h k claimed = (p : ℕ) × (r : Record) × (slice_get h p ≡ Some r) × (counts k r ≡ true)
+    × (slice_index_or claimed p false ≡ false)
 
 abbrev pub NoneClaimed : List Bool → Type 0
 NoneClaimed claimed = (p : ℕ) → slice_index_or claimed p false ≡ false
@@ -67,4 +68,5 @@ all_calls (p ∷ ps) = p.calls ++ all_calls ps
 
 -- the calls of all passes and the records of all cells match one to one
 abbrev pub AllMatch : List Log → List CallList → Type 0
-AllMatch cells passes = (k : ℕ) (d : Log) → k < length cells → Matches (length cells) (slice_index_or cells k d).history k (all_calls passes)
+AllMatch cells passes = (k : ℕ) (d : Log) → k < length cells
+    → Matches (length cells) (slice_index_or cells k d).history k (all_calls passes)

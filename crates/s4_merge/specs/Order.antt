@@ -25,7 +25,8 @@ touches n k c = is_in_cell n k (record_of c)
 
 -- of two calls of one cell the earlier one's record stands first, a wide call counting as one of every cell
 abbrev pub CallsInOrder : ℕ → List Record → List Call → Type 0
-CallsInOrder n all calls = (k i j : ℕ) (c d : Call) → k < n → i < j → slice_get calls i ≡ Some c → slice_get calls j ≡ Some d → touches n k c ≡ true → touches n k d ≡ true → position n all c < position n all d
+CallsInOrder n all calls = (k i j : ℕ) (c d : Call) → k < n → i < j → slice_get calls i ≡ Some c → slice_get calls j ≡ Some d
+    → touches n k c ≡ true → touches n k d ≡ true → position n all c < position n all d
 
 -- the calls of each pass stand in their order
 abbrev pub AllInOrder : ℕ → List Record → List CallList → Type 0
@@ -38,7 +39,8 @@ spot mine first c = cond (is_wide_record (record_of c)) (slice_index first c.rec
 -- the calls of the k-th cell stand in their order, none before low
 abbrev pub Climbs : ℕ → ℕ → List ℕ → List ℕ → ℕ → List Call → Type 0
 Climbs n k mine first low [] = Unit {0}
-Climbs n k mine first low (c ∷ cs) = MatchBool (touches n k c) ((low ≤ spot mine first c) × Climbs n k mine first (spot mine first c + 1) cs) (Climbs n k mine first low cs)
+Climbs n k mine first low (c ∷ cs) = MatchBool (touches n k c)
+    ((low ≤ spot mine first c) × Climbs n k mine first (spot mine first c + 1) cs) (Climbs n k mine first low cs)
 
 -- one more than the last
 abbrev pub low_of : Option ℕ → ℕ
@@ -72,10 +74,13 @@ pub record IsClosing (window : ℕ) (cells : List Log) (passes : List CallList) 
   pub isolated : (who : ℕ) → (who == 0) ≡ false → records_of who (play (opened window) (strike who (requests_in all))) ≡ records_of who all
   pub rises : InOrder 0 all
   pub matched : AllMatch cells passes
-  pub stands : (i : ℕ) (c : Call) → slice_get (all_calls passes) i ≡ Some c → slice_get all (position (length cells) all c) ≡ Some (record_of c)
+  pub stands : (i : ℕ) (c : Call) → slice_get (all_calls passes) i ≡ Some c
+      → slice_get all (position (length cells) all c) ≡ Some (record_of c)
   pub order : AllInOrder (length cells) all passes
-  pub earlier : (i j : ℕ) (c d : Call) → slice_get (all_calls passes) i ≡ Some c → slice_get (all_calls passes) j ≡ Some d → c.receipt.moment < d.receipt.moment → position (length cells) all c < position (length cells) all d
+  pub earlier : (i j : ℕ) (c d : Call) → slice_get (all_calls passes) i ≡ Some c → slice_get (all_calls passes) j ≡ Some d
+      → c.receipt.moment < d.receipt.moment → position (length cells) all c < position (length cells) all d
 
--- calls and records don't match: with no merged history do all calls have their records, each record its one call, and the calls of a pass their order
+-- calls and records don't match: with no merged history do all calls have their
+-- records, each record its one call, and the calls of a pass their order
 pub record IsStray (cells : List Log) (passes : List CallList) : Type 0 where
   pub never : (all : List Record) → IsMergeOf (length cells) all cells → AllMatch cells passes → AllInOrder (length cells) all passes → ⊥

@@ -117,7 +117,8 @@ fn cell_matches(
     passes: &[Pass],
 ) -> Result<bool, NoMemory>
     requires cells { 0 < n }
-    ensures { IfOk result (λ b. MatchBool b (Matches n history.now cell (all_calls passes.now)) (¬ Matches n history.now cell (all_calls passes.now))) }
+    ensures { IfOk result (λ b. MatchBool b (Matches n history.now cell (all_calls passes.now))
+        (¬ Matches n history.now cell (all_calls passes.now))) }
 {
     let mut claimed = Vec::from_elem(alloc, false, history.len())?;
     Ok(matches(history, n, cell, passes, claimed.as_mut_slice()))

@@ -114,7 +114,8 @@ fn climbs(n: usize, k: usize, mine: &[usize], first: &[usize], pass: &Pass) -> b
 /// Whether the calls of each pass in a cell stand in their order.
 fn all_climb(n: usize, k: usize, mine: &[usize], first: &[usize], passes: &[Pass]) -> bool
     requires { 0 < n }
-    ensures { MatchBool result (AllClimb n k mine.now first.now (length passes.now) passes.now) (¬ AllClimb n k mine.now first.now (length passes.now) passes.now) }
+    ensures { MatchBool result (AllClimb n k mine.now first.now (length passes.now) passes.now)
+        (¬ AllClimb n k mine.now first.now (length passes.now) passes.now) }
 {
     for p in 0..passes.len() {
         if !climbs(n, k, mine, first, &passes[p]) {

@@ -26,4 +26,5 @@ held chains (Some kept) w = items_of chains (chain_of w kept)
 -- each track has an open chain, and no two tracks share one
 pub record Chained (chains : Chains Version) (found : ObjectId → Option Kept) : Type 0 where
   pub opened : (o : ObjectId) (k : Kept) (w : Which) → found o ≡ Some k → IsOpen chains (chain_of w k)
-  pub apart : (o q : ObjectId) (k l : Kept) (w u : Which) → found o ≡ Some k → found q ≡ Some l → chain_of w k ≡ chain_of u l → (o ≡ q) × (w ≡ u)
+  pub apart : (o q : ObjectId) (k l : Kept) (w u : Which) → found o ≡ Some k → found q ≡ Some l → chain_of w k ≡ chain_of u l
+      → (o ≡ q) × (w ≡ u)

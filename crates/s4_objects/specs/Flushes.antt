@@ -70,10 +70,13 @@ abbrev pub erasable_in : Chains Version → ℕ → ℕ → List (ObjectId × Ke
 erasable_in chains from to entries = sum_by (λ e. erasable_count chains from to e.1) entries
 
 -- the objects that are asked for are flushed of what lies between the moments, and nothing else changes
-pub record Flushes (before after : Chains Version) (found : ObjectId → Option Kept) (asked : ObjectId → Bool) (from to : ℕ) (refunds : List Refund) : Type 0 where
-  pub tracks : (o : ObjectId) (w : Which) → held after (found o) w ≡ (if asked o then flushed_on from to w (held before (found o) w) else held before (found o) w)
+pub record Flushes (before after : Chains Version) (found : ObjectId → Option Kept) (asked : ObjectId → Bool) (from to : ℕ)
+    (refunds : List Refund) : Type 0 where
+  pub tracks : (o : ObjectId) (w : Which) → held after (found o) w
+      ≡ (if asked o then flushed_on from to w (held before (found o) w) else held before (found o) w)
   -- a chain that is none of an object's
-  pub others : (c : ℕ) → ((o : ObjectId) (k : Kept) (w : Which) → found o ≡ Some k → (c == chain_of w k) ≡ false) → items_of after c ≡ items_of before c
+  pub others : (c : ℕ) → ((o : ObjectId) (k : Kept) (w : Which) → found o ≡ Some k → (c == chain_of w k) ≡ false)
+      → items_of after c ≡ items_of before c
   pub still : StillOpen before after
   -- no chain was opened
   pub unopened : StillOpen after before
@@ -81,4 +84,5 @@ pub record Flushes (before after : Chains Version) (found : ObjectId → Option 
   pub used : item_count after ≡ item_count before
   -- what a purse's past weighs less is what is refunded
   pub weights : (weight : ℕ → ℕ → ℕ) (p : Purse) (n : ℕ) → ((o : ObjectId) → is_some (found o) ≡ true → o.purse ≡ p → o.serial ≤ n)
-      → sum_to n (λ s. past_weight weight after (found (object_in p s))) + refunded weight p refunds ≡ sum_to n (λ s. past_weight weight before (found (object_in p s)))
+      → sum_to n (λ s. past_weight weight after (found (object_in p s))) + refunded weight p refunds
+      ≡ sum_to n (λ s. past_weight weight before (found (object_in p s)))

@@ -15,7 +15,8 @@ use Rattle.s4_objects.specs.Table.{found_in, held_in, Holds}
 -- the chains of the objects' tracks are open, and hold what they held
 pub record KeepsObjects (old new : Chains Version) (objects : Objects) : Type 0 where
   pub opened : (o : ObjectId) (k : Kept) (w : Which) → found_in objects o ≡ Some k → IsOpen new (chain_of w k)
-  pub items : (o : ObjectId) (k : Kept) (w : Which) → found_in objects o ≡ Some k → items_of new (chain_of w k) ≡ items_of old (chain_of w k)
+  pub items : (o : ObjectId) (k : Kept) (w : Which) → found_in objects o ≡ Some k
+      → items_of new (chain_of w k) ≡ items_of old (chain_of w k)
 
 module _ {old new : Chains Version} {objects : Objects} (k : KeepsObjects old new objects) where
   -- each track has the values that it had

@@ -39,7 +39,8 @@ room_in objects = deque_capacity objects.ends - deque_len objects.ends
 
 -- whether a value is held on some track
 abbrev pub holds_any : Chains Version → Kept → Bool
-holds_any chains k = is_any (items_of chains k.data.chain) || is_any (items_of chains k.attributes.chain) || is_any (items_of chains k.acl.chain)
+holds_any chains k = is_any (items_of chains k.data.chain) || is_any (items_of chains k.attributes.chain)
+    || is_any (items_of chains k.acl.chain)
 
 pub record HoldsFor (chains : Chains Version) (found : ObjectId → Option Kept) (queue : List Ended) : Type 0 where
   pub chained : Chained chains found
@@ -80,7 +81,8 @@ LeavesNoChain old new before after = LeavesNone old new (found_in before) (found
 -- the oldest value of a track is gone, and an object without values too
 pub record Frees (old new : Chains Version) (before after : ObjectId → Option Kept) (o : ObjectId) (w : Which) : Type 0 where
   pub chained : Chained new after
-  pub tracks : (q : ObjectId) (u : Which) → held new (after q) u ≡ (if same_object o q && same_which w u then drop 1 (held old (before q) u) else held old (before q) u)
+  pub tracks : (q : ObjectId) (u : Which) → held new (after q) u
+      ≡ (if same_object o q && same_which w u then drop 1 (held old (before q) u) else held old (before q) u)
   pub kept : (q : ObjectId) (k : Kept) → after q ≡ Some k → before q ≡ Some k
   pub living : (k : Kept) → after o ≡ Some k → holds_any new k ≡ true
   pub others : SparesOthers old new before after

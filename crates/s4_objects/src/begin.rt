@@ -67,7 +67,8 @@ pub fn begin<S: Store<Version>>(
 )
     requires opened { (before : Chains Version) × Opens before (S.chains store.old) kept.now }
     requires room { 3 ≤ S.room store.old }
-    ensures begins { (before : Chains Version) → Opens before (S.chains store.old) kept.now → Begins before (S.chains store.new) kept.now moment creator }
+    ensures begins { (before : Chains Version) → Opens before (S.chains store.old) kept.now
+        → Begins before (S.chains store.new) kept.now moment creator }
     ensures used { item_count (S.chains store.new) ≡ item_count (S.chains store.old) + 3 }
     ensures room { S.room store.new + 3 ≡ S.room store.old }
 {

@@ -38,7 +38,8 @@ pub fn flush<S: Store<Version>>(
 ) -> Result<(), NoMemory>
     requires chained { Chained (S.chains store.old) (get object_cmp objects.now) }
     requires empty { refunds.old.items ≡ [] }
-    ensures ok { OnOk result (Flushes (S.chains store.old) (S.chains store.new) (get object_cmp objects.now) (λ o. true) from to refunds.new.items) }
+    ensures ok { OnOk result (Flushes (S.chains store.old) (S.chains store.new) (get object_cmp objects.now)
+        (λ o. true) from to refunds.new.items) }
     ensures err { OnErr result (S.chains store.new ≡ S.chains store.old) }
     ensures none { OnErr result (refunds.new.items ≡ []) }
     ensures capacity { vec_capacity refunds.old ≤ vec_capacity refunds.new }
@@ -66,7 +67,8 @@ pub fn flush_object<S: Store<Version>>(
 ) -> Result<(), NoMemory>
     requires chained { Chained (S.chains store.old) (get object_cmp objects.now) }
     requires empty { refunds.old.items ≡ [] }
-    ensures ok { OnOk result (Flushes (S.chains store.old) (S.chains store.new) (get object_cmp objects.now) (same_object object.now) from to refunds.new.items) }
+    ensures ok { OnOk result (Flushes (S.chains store.old) (S.chains store.new) (get object_cmp objects.now)
+        (same_object object.now) from to refunds.new.items) }
     ensures err { OnErr result (S.chains store.new ≡ S.chains store.old) }
     ensures none { OnErr result (refunds.new.items ≡ []) }
     ensures capacity { vec_capacity refunds.old ≤ vec_capacity refunds.new }
@@ -163,12 +165,16 @@ fn flush_kept<S: Store<Version>>(
     requires apart { (kept.now.attributes.chain == kept.now.data.chain) ≡ false }
     requires room { length refunds.old.items + erasable_count (S.chains store.old) from to kept.now ≤ vec_capacity refunds.old }
     ensures data { items_of (S.chains store.new) kept.now.data.chain ≡ flushed from to (items_of (S.chains store.old) kept.now.data.chain) }
-    ensures attributes { items_of (S.chains store.new) kept.now.attributes.chain ≡ flushed from to (items_of (S.chains store.old) kept.now.attributes.chain) }
-    ensures others { (c : ℕ) → (c == kept.now.data.chain) ≡ false → (c == kept.now.attributes.chain) ≡ false → items_of (S.chains store.new) c ≡ items_of (S.chains store.old) c }
+    ensures attributes { items_of (S.chains store.new) kept.now.attributes.chain
+        ≡ flushed from to (items_of (S.chains store.old) kept.now.attributes.chain) }
+    ensures others { (c : ℕ) → (c == kept.now.data.chain) ≡ false → (c == kept.now.attributes.chain) ≡ false
+        → items_of (S.chains store.new) c ≡ items_of (S.chains store.old) c }
     ensures still { StillOpen (S.chains store.old) (S.chains store.new) }
     ensures unopened { StillOpen (S.chains store.new) (S.chains store.old) }
     ensures used { item_count (S.chains store.new) ≡ item_count (S.chains store.old) }
-    ensures refunds { refunds.new.items ≡ refunds.old.items ++ (refunds_of purse.now from to (items_of (S.chains store.old) kept.now.data.chain) ++ refunds_of purse.now from to (items_of (S.chains store.old) kept.now.attributes.chain)) }
+    ensures refunds { refunds.new.items ≡ refunds.old.items
+        ++ (refunds_of purse.now from to (items_of (S.chains store.old) kept.now.data.chain)
+        ++ refunds_of purse.now from to (items_of (S.chains store.old) kept.now.attributes.chain)) }
     ensures capacity { vec_capacity refunds.new ≡ vec_capacity refunds.old }
     ensures room { S.room store.new ≡ S.room store.old }
 {
@@ -187,9 +193,12 @@ fn flush_track<S: Store<Version>>(
     refunds: &mut Vec<Refund>,
 )
     requires open { IsOpen (S.chains store.old) track.now.chain }
-    requires room { length refunds.old.items + count_by (can_be_erased from to) (items_of (S.chains store.old) track.now.chain) ≤ vec_capacity refunds.old }
-    ensures chains { S.chains store.new ≡ finmap.insert (S.chains store.old) track.now.chain (flushed from to (items_of (S.chains store.old) track.now.chain)) }
-    ensures refunds { refunds.new.items ≡ refunds.old.items ++ refunds_of purse.now from to (items_of (S.chains store.old) track.now.chain) }
+    requires room { length refunds.old.items + count_by (can_be_erased from to) (items_of (S.chains store.old) track.now.chain)
+        ≤ vec_capacity refunds.old }
+    ensures chains { S.chains store.new ≡ finmap.insert (S.chains store.old) track.now.chain
+        (flushed from to (items_of (S.chains store.old) track.now.chain)) }
+    ensures refunds { refunds.new.items ≡ refunds.old.items
+        ++ refunds_of purse.now from to (items_of (S.chains store.old) track.now.chain) }
     ensures capacity { vec_capacity refunds.new ≡ vec_capacity refunds.old }
     ensures room { S.room store.new ≡ S.room store.old }
 {

@@ -77,7 +77,8 @@ impl Objects {
         ensures holds { Holds (S.chains store.new) self.new }
         ensures kept { OnOk result ((o : ObjectId) → kept_in self.new o ≡ (same_object object.now o || kept_in self.old o)) }
         ensures held { OnOk result ((o : ObjectId) (w : Which) → held_in (S.chains store.new) self.new o w
-            ≡ (if same_object object.now o then first_on w moment object.now.purse.creator ∷ [] else held_in (S.chains store.old) self.old o w)) }
+            ≡ (if same_object object.now o then first_on w moment object.now.purse.creator ∷ []
+            else held_in (S.chains store.old) self.old o w)) }
         ensures ends { ends_in self.new ≡ ends_in self.old }
         ensures others { KeepsOthers (S.chains store.old) (S.chains store.new) self.old self.new }
         ensures leaves { LeavesNoChain (S.chains store.old) (S.chains store.new) self.old self.new }
@@ -146,7 +147,8 @@ impl Objects {
         ensures holds { Holds (S.chains store.new) self.new }
         ensures kept { (o : ObjectId) → found_in self.new o ≡ found_in self.old o }
         ensures held { (o : ObjectId) (w : Which) → held_in (S.chains store.new) self.new o w
-            ≡ (if same_object object.now o && same_which which w then with_put moment item (held_in (S.chains store.old) self.old o w) else held_in (S.chains store.old) self.old o w) }
+            ≡ (if same_object object.now o && same_which which w
+            then with_put moment item (held_in (S.chains store.old) self.old o w) else held_in (S.chains store.old) self.old o w) }
         ensures ends { ends_in self.new ≡ ends_in self.old ++ moment ∷ [] }
         ensures by_now { all_by moment (ends_in self.new) ≡ true }
         ensures room { room_in self.new + 1 ≡ room_in self.old }
@@ -174,7 +176,8 @@ impl Objects {
         ensures holds { Holds (S.chains store.new) self.new }
         ensures kept { (o : ObjectId) → found_in self.new o ≡ found_in self.old o }
         ensures held { (o : ObjectId) (w : Which) → held_in (S.chains store.new) self.new o w
-            ≡ (if same_object object.now o then with_end moment (held_in (S.chains store.old) self.old o w) else held_in (S.chains store.old) self.old o w) }
+            ≡ (if same_object object.now o then with_end moment (held_in (S.chains store.old) self.old o w)
+            else held_in (S.chains store.old) self.old o w) }
         ensures ends { ends_in self.new ≡ ends_in self.old ++ moment ∷ moment ∷ moment ∷ [] }
         ensures by_now { all_by moment (ends_in self.new) ≡ true }
         ensures room { room_in self.new + 3 ≡ room_in self.old }
@@ -203,7 +206,8 @@ impl Objects {
         ensures holds { Holds (S.chains store.new) self.new }
         ensures kept { (o : ObjectId) → found_in self.new o ≡ found_in self.old o }
         ensures held { (o : ObjectId) (w : Which) → held_in (S.chains store.new) self.new o w
-            ≡ (if same_object object.now o && same_which which w then with_end moment (held_in (S.chains store.old) self.old o w) else held_in (S.chains store.old) self.old o w) }
+            ≡ (if same_object object.now o && same_which which w then with_end moment (held_in (S.chains store.old) self.old o w)
+            else held_in (S.chains store.old) self.old o w) }
         ensures ends { ends_in self.new ≡ ends_in self.old ++ moment ∷ [] }
         ensures by_now { all_by moment (ends_in self.new) ≡ true }
         ensures room { room_in self.new + 1 ≡ room_in self.old }
@@ -234,7 +238,8 @@ impl Objects {
     ) -> Result<(), NoMemory>
         requires holds { Holds (S.chains store.old) self.now }
         requires empty { refunds.old.items ≡ [] }
-        ensures ok { OnOk result (Flushes (S.chains store.old) (S.chains store.new) (found_in self.now) (λ o. true) from to refunds.new.items) }
+        ensures ok { OnOk result (Flushes (S.chains store.old) (S.chains store.new) (found_in self.now)
+            (λ o. true) from to refunds.new.items) }
         ensures err { OnErr result (S.chains store.new ≡ S.chains store.old) }
         ensures none { OnErr result (refunds.new.items ≡ []) }
         ensures capacity { vec_capacity refunds.old ≤ vec_capacity refunds.new }
@@ -259,7 +264,8 @@ impl Objects {
     ) -> Result<(), NoMemory>
         requires holds { Holds (S.chains store.old) self.now }
         requires empty { refunds.old.items ≡ [] }
-        ensures ok { OnOk result (Flushes (S.chains store.old) (S.chains store.new) (found_in self.now) (same_object object.now) from to refunds.new.items) }
+        ensures ok { OnOk result (Flushes (S.chains store.old) (S.chains store.new) (found_in self.now)
+            (same_object object.now) from to refunds.new.items) }
         ensures err { OnErr result (S.chains store.new ≡ S.chains store.old) }
         ensures none { OnErr result (refunds.new.items ≡ []) }
         ensures capacity { vec_capacity refunds.old ≤ vec_capacity refunds.new }
@@ -279,7 +285,8 @@ impl Objects {
         ensures first { result ≡ min most (prefix_len (is_gone horizon) (ends_in self.old)) }
         ensures ends { ends_in self.new ≡ drop result (ends_in self.old) }
         ensures by_then { (m : ℕ) → all_by m (ends_in self.old) ≡ true → all_by m (ends_in self.new) ≡ true }
-        ensures held { (o : ObjectId) (w : Which) → IsSwept horizon (held_in (S.chains store.new) self.new o w) (held_in (S.chains store.old) self.old o w) }
+        ensures held { (o : ObjectId) (w : Which)
+            → IsSwept horizon (held_in (S.chains store.new) self.new o w) (held_in (S.chains store.old) self.old o w) }
         ensures kept { (o : ObjectId) → kept_in self.new o ≡ true → kept_in self.old o ≡ true }
         ensures holds { Holds (S.chains store.new) self.new }
         ensures room { room_in self.new ≡ room_in self.old + result }
@@ -305,7 +312,8 @@ fn keep(
     object: &ObjectId,
     kept: &Kept,
 ) -> Result<(), NoMemory>
-    ensures ok { OnOk result ((o : ObjectId) → get object_cmp objects.new o ≡ (if same_object object.now o then Some kept.now else get object_cmp objects.old o)) }
+    ensures ok { OnOk result ((o : ObjectId) → get object_cmp objects.new o
+        ≡ (if same_object object.now o then Some kept.now else get object_cmp objects.old o)) }
     ensures err { OnErr result ((o : ObjectId) → get object_cmp objects.new o ≡ get object_cmp objects.old o) }
 {
     objects.insert(*object, *kept)?;

@@ -29,7 +29,8 @@ line_of visible at name bindings = line_to visible name (object_of (version_in a
 abbrev pub lines_in : Chains Version → Parts → (ObjectId → Option Grant) → ℕ → Option After → Option ℕ → ℕ → List NameLine
 lines_in chains parts visible range after at number =
     let purse : Purse = record { creator = range; number = number } in
-    filter_map (λ name. line_of visible at name (bindings_in chains parts purse name)) (filter (is_after after number) (names_in chains parts purse))
+    filter_map (λ name. line_of visible at name (bindings_in chains parts purse name))
+    (filter (is_after after number) (names_in chains parts purse))
 
 -- all lines of the range that come after the place, by the number of the purse and then by the name
 abbrev pub lines_of : Chains Version → Parts → (ObjectId → Option Grant) → ℕ → Option After → Option ℕ → List NameLine

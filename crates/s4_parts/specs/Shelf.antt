@@ -25,9 +25,11 @@ pub record Grows (old new : Chains Version) (before after : Shelf) (name : List 
   pub needed : is_some (chain_on (Some before) name) ≡ true → fresh ≡ None
   pub unopened : (c : ℕ) → fresh ≡ Some c → finmap.get old c ≡ None
   pub opened : new ≡ with_chain old fresh
-  pub chains : (n : List ℕ) → chain_on (Some after) n ≡ (if same_name name n then or_else (chain_on (Some before) name) fresh else chain_on (Some before) n)
+  pub chains : (n : List ℕ) → chain_on (Some after) n
+      ≡ (if same_name name n then or_else (chain_on (Some before) name) fresh else chain_on (Some before) n)
   -- but for the name, where it had no chain, the names are as before
-  pub names : (test : List ℕ → Bool) → (chain_on (Some before) name ≡ None → test name ≡ false) → filter test (names_on (Some after)) ≡ filter test (names_on (Some before))
+  pub names : (test : List ℕ → Bool) → (chain_on (Some before) name ≡ None → test name ≡ false)
+      → filter test (names_on (Some after)) ≡ filter test (names_on (Some before))
   pub sorted : IsStrictlySortedBy name_cmp (names_on (Some before)) → IsStrictlySortedBy name_cmp (names_on (Some after))
   pub serials : after.bound.items ≡ before.bound.items
 

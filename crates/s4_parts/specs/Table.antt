@@ -86,12 +86,14 @@ binding m name object = record { begin = m; end = None; item = Some (Bind object
 -- WHAT HOLDS OF A TABLE OVER A STORE
 
 -- each name has an open chain of its own, the names are in order, and what is bound now is known
-pub record HoldsFor (chains : Chains Version) (chain : Purse → List ℕ → Option ℕ) (names : Purse → List (List ℕ)) (serials : Purse → List ℕ) : Type 0 where
+pub record HoldsFor (chains : Chains Version) (chain : Purse → List ℕ → Option ℕ) (names : Purse → List (List ℕ))
+    (serials : Purse → List ℕ) : Type 0 where
   pub opened : (p : Purse) (n : List ℕ) (c : ℕ) → chain p n ≡ Some c → IsOpen chains c
   pub apart : (p q : Purse) (n m : List ℕ) (c : ℕ) → chain p n ≡ Some c → chain q m ≡ Some c → (p ≡ q) × (n ≡ m)
   pub named : (p : Purse) (n : List ℕ) → is_some (chain p n) ≡ list_any (same_name n) (names p)
   pub sorted : (p : Purse) → IsStrictlySortedBy name_cmp (names p)
-  pub known : (p : Purse) (test : ℕ → Bool) → count_by test (serials p) ≡ count_by (λ n. passes test (serial_now (items_on chains (chain p n)))) (names p)
+  pub known : (p : Purse) (test : ℕ → Bool) → count_by test (serials p)
+      ≡ count_by (λ n. passes test (serial_now (items_on chains (chain p n)))) (names p)
 
 abbrev pub Holds : Chains Version → Parts → Type 0
 Holds chains parts = HoldsFor chains (chain_at parts) (λ p. names_on (shelf_of parts p)) (λ p. serials_on (shelf_of parts p))
@@ -128,7 +130,8 @@ pub record TakesRoom (before after : Parts) (p : Purse) : Type 0 where
   pub others : (q : Purse) → same_purse p q ≡ false → names_room after q ≡ names_room before q
   pub ends : ends_room after + 1 ≡ ends_room before
   -- a name that had room has it still, where there was room for two
-  pub rooms : (q : Purse) (n : List ℕ) → HasRoom before q n → 1 < ends_room before → (same_purse p q ≡ true → 1 < names_room before q) → HasRoom after q n
+  pub rooms : (q : Purse) (n : List ℕ) → HasRoom before q n → 1 < ends_room before
+      → (same_purse p q ≡ true → 1 < names_room before q) → HasRoom after q n
 
 -- only the name has another chain than before, and only where it had none
 pub record OpensFor (before after : Parts) (p : Purse) (name : List ℕ) : Type 0 where

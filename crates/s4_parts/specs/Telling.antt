@@ -16,7 +16,11 @@ use Rattle.s4_parts.specs.Page.{lines_of}
 
 -- now, and at each moment that isn't before the horizon
 pub record TellsSame (horizon : ℕ) (old new : Chains Version) (before after : Parts) : Type 0 where
-  pub mounted : (p : Purse) (n : List ℕ) (at : Option ℕ) → IsFrom horizon at → object_of (version_in at (bindings_in new after p n)) ≡ object_of (version_in at (bindings_in old before p n))
-  pub listed : (visible : ObjectId → Option Grant) (range : ℕ) (place : Option After) (at : Option ℕ) → IsFrom horizon at → lines_of new after visible range place at ≡ lines_of old before visible range place at
-  pub bound : (p : Purse) → count_by (λ n. is_some (serial_now (bindings_in new after p n))) (names_in new after p) ≡ count_by (λ n. is_some (serial_now (bindings_in old before p n))) (names_in old before p)
-  pub named : (p : Purse) (serial : ℕ) → list_any (λ n. is_serial serial (serial_now (bindings_in new after p n))) (names_in new after p) ≡ list_any (λ n. is_serial serial (serial_now (bindings_in old before p n))) (names_in old before p)
+  pub mounted : (p : Purse) (n : List ℕ) (at : Option ℕ) → IsFrom horizon at
+      → object_of (version_in at (bindings_in new after p n)) ≡ object_of (version_in at (bindings_in old before p n))
+  pub listed : (visible : ObjectId → Option Grant) (range : ℕ) (place : Option After) (at : Option ℕ) → IsFrom horizon at
+      → lines_of new after visible range place at ≡ lines_of old before visible range place at
+  pub bound : (p : Purse) → count_by (λ n. is_some (serial_now (bindings_in new after p n))) (names_in new after p)
+      ≡ count_by (λ n. is_some (serial_now (bindings_in old before p n))) (names_in old before p)
+  pub named : (p : Purse) (serial : ℕ) → list_any (λ n. is_serial serial (serial_now (bindings_in new after p n)))
+      (names_in new after p) ≡ list_any (λ n. is_serial serial (serial_now (bindings_in old before p n))) (names_in old before p)

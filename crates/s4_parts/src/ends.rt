@@ -47,7 +47,11 @@ impl Model for Ends {
 
     ghost Value = { Queue };
 
-    ghost view = { λ q. record { ended = q.entries.items; awaited = q.awaited; spare = deque_capacity q.entries - (deque_len q.entries + q.awaited) } };
+    ghost view = { λ q. record {
+      ended = q.entries.items;
+      awaited = q.awaited;
+      spare = deque_capacity q.entries - (deque_len q.entries + q.awaited);
+    } };
 
     ghost invariant = { λ q. deque_len q.entries + q.awaited ≤ deque_capacity q.entries };
 }

@@ -57,8 +57,10 @@ impl Parts {
     ) -> Result<Page, NoMemory>
         requires holds { Holds (S.chains store.now) self.now }
         requires ready { V.is_ready visible.now }
-        ensures lines { IfOk result (λ page. page.lines ≡ take 64 (lines_of (S.chains store.now) self.now (V.shown visible.now) range after.now at.now)) }
-        ensures more { IfOk result (λ page. page.more ≡ nat_lt 64 (length (lines_of (S.chains store.now) self.now (V.shown visible.now) range after.now at.now))) }
+        ensures lines { IfOk result (λ page. page.lines
+            ≡ take 64 (lines_of (S.chains store.now) self.now (V.shown visible.now) range after.now at.now)) }
+        ensures more { IfOk result (λ page. page.more
+            ≡ nat_lt 64 (length (lines_of (S.chains store.now) self.now (V.shown visible.now) range after.now at.now))) }
     {
         let mut lines = Vec::with_capacity(self.alloc, 65)?;
         for number in 0..16 {
@@ -92,7 +94,8 @@ impl Parts {
         requires ready { V.is_ready visible.now }
         requires fits { length lines.old.items ≤ 65 }
         requires room { 65 ≤ vec_capacity lines.old }
-        ensures lines { lines.new.items ≡ take 65 (lines.old.items ++ lines_in (S.chains store.now) self.now (V.shown visible.now) purse.now.creator after.now at.now purse.now.number) }
+        ensures lines { lines.new.items ≡ take 65 (lines.old.items
+            ++ lines_in (S.chains store.now) self.now (V.shown visible.now) purse.now.creator after.now at.now purse.now.number) }
         ensures room { 65 ≤ vec_capacity lines.new }
     {
         let Some(shelf) = self.shelves.get(purse) else {
@@ -115,7 +118,8 @@ impl Parts {
 // Where the names begin that come after the place, in a purse of that number. None where no name
 // there comes after it.
 fn start_of(after: &Option<After>, number: PurseNo) -> Option<Bound<&Name>>
-    ensures some { IfSome result (λ start. (name : List ℕ) → is_from_start name_cmp (bound_map (λ x. x.now) start) name ≡ is_after after.now number name) }
+    ensures some { IfSome result (λ start. (name : List ℕ)
+        → is_from_start name_cmp (bound_map (λ x. x.now) start) name ≡ is_after after.now number name) }
     ensures none { IfNone result ((name : List ℕ) → is_after after.now number name ≡ false) }
 {
     let Some(after) = after else {

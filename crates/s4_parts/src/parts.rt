@@ -60,14 +60,16 @@ impl Parts {
         ensures waits { Waits (S.chains store.new) self.new }
         ensures waiting { waiting_in self.new ≡ waiting_in self.old }
         ensures names { (p : Purse) → names_in (S.chains store.new) self.new p ≡ names_in (S.chains store.old) self.old p }
-        ensures bindings { (p : Purse) (n : List ℕ) → bindings_in (S.chains store.new) self.new p n ≡ bindings_in (S.chains store.old) self.old p n }
+        ensures bindings { (p : Purse) (n : List ℕ)
+            → bindings_in (S.chains store.new) self.new p n ≡ bindings_in (S.chains store.old) self.old p n }
         ensures room { OnOk result (HasRoom self.new purse.now name.now) }
         ensures there { HasRoom self.old purse.now name.now → IsOk result }
         ensures rooms { (p : Purse) (n : List ℕ) → HasRoom self.old p n → HasRoom self.new p n }
         ensures keeps_room { KeepsRoom self.old self.new }
         ensures others { (c : ℕ) → IsOpen (S.chains store.old) c → items_of (S.chains store.new) c ≡ items_of (S.chains store.old) c }
         ensures still { StillOpen (S.chains store.old) (S.chains store.new) }
-        ensures own { (p : Purse) (n : List ℕ) (c : ℕ) → chain_at self.new p n ≡ Some c → IsOpen (S.chains store.old) c → chain_at self.old p n ≡ Some c }
+        ensures own { (p : Purse) (n : List ℕ) (c : ℕ) → chain_at self.new p n ≡ Some c → IsOpen (S.chains store.old) c
+            → chain_at self.old p n ≡ Some c }
         ensures asked { OpensFor self.old self.new purse.now name.now }
         ensures leaves { LeavesNoChain (S.chains store.old) (S.chains store.new) self.old self.new }
         ensures used { item_count (S.chains store.new) ≡ item_count (S.chains store.old) }
@@ -116,9 +118,12 @@ impl Parts {
         ensures waits { Waits (S.chains store.new) self.new }
         ensures waiting { waiting_in self.new ≡ waiting_in self.old }
         ensures names { (p : Purse) → names_in (S.chains store.new) self.new p
-            ≡ (if same_purse object.now.purse p then with_name name.now (names_in (S.chains store.old) self.old p) else names_in (S.chains store.old) self.old p) }
+            ≡ (if same_purse object.now.purse p then with_name name.now (names_in (S.chains store.old) self.old p)
+            else names_in (S.chains store.old) self.old p) }
         ensures bindings { (p : Purse) (n : List ℕ) → bindings_in (S.chains store.new) self.new p n
-            ≡ (if same_purse object.now.purse p && same_name name.now n then bindings_in (S.chains store.old) self.old p n ++ binding moment name.now object.now ∷ [] else bindings_in (S.chains store.old) self.old p n) }
+            ≡ (if same_purse object.now.purse p && same_name name.now n
+            then bindings_in (S.chains store.old) self.old p n ++ binding moment name.now object.now ∷ []
+            else bindings_in (S.chains store.old) self.old p n) }
         ensures others { KeepsOthers (S.chains store.old) (S.chains store.new) self.old }
         ensures own { (p : Purse) (n : List ℕ) → chain_at self.new p n ≡ chain_at self.old p n }
         ensures leaves { LeavesNoChain (S.chains store.old) (S.chains store.new) self.old self.new }
@@ -157,7 +162,8 @@ impl Parts {
         ensures waiting { waiting_in self.new ≡ waiting_in self.old ++ record { end = moment; purse = purse.now; name = name.now } ∷ [] }
         ensures names { (p : Purse) → names_in (S.chains store.new) self.new p ≡ names_in (S.chains store.old) self.old p }
         ensures bindings { (p : Purse) (n : List ℕ) → bindings_in (S.chains store.new) self.new p n
-            ≡ (if same_purse purse.now p && same_name name.now n then with_end moment (bindings_in (S.chains store.old) self.old p n) else bindings_in (S.chains store.old) self.old p n) }
+            ≡ (if same_purse purse.now p && same_name name.now n
+            then with_end moment (bindings_in (S.chains store.old) self.old p n) else bindings_in (S.chains store.old) self.old p n) }
         ensures others { KeepsOthers (S.chains store.old) (S.chains store.new) self.old }
         ensures own { (p : Purse) (n : List ℕ) → chain_at self.new p n ≡ chain_at self.old p n }
         ensures leaves { LeavesNoChain (S.chains store.old) (S.chains store.new) self.old self.new }
@@ -204,11 +210,14 @@ impl Parts {
     fn free<S: Store<Version>>(&mut self, store: &mut S, purse: &Purse, name: &Name)
         requires holds { Holds (S.chains store.old) self.old }
         requires any { is_any (bindings_in (S.chains store.old) self.old purse.now name.now) ≡ true }
-        requires ended { serial_now (drop 1 (bindings_in (S.chains store.old) self.old purse.now name.now)) ≡ serial_now (bindings_in (S.chains store.old) self.old purse.now name.now) }
+        requires ended { serial_now (drop 1 (bindings_in (S.chains store.old) self.old purse.now name.now))
+            ≡ serial_now (bindings_in (S.chains store.old) self.old purse.now name.now) }
         ensures holds { Holds (S.chains store.new) self.new }
         ensures bindings { (p : Purse) (n : List ℕ) → bindings_in (S.chains store.new) self.new p n
-            ≡ (if same_purse purse.now p && same_name name.now n then drop 1 (bindings_in (S.chains store.old) self.old p n) else bindings_in (S.chains store.old) self.old p n) }
-        ensures names { (p : Purse) → names_in (S.chains store.new) self.new p ≡ filter (λ n. is_any (bindings_in (S.chains store.new) self.new p n)) (names_in (S.chains store.old) self.old p) }
+            ≡ (if same_purse purse.now p && same_name name.now n then drop 1 (bindings_in (S.chains store.old) self.old p n)
+            else bindings_in (S.chains store.old) self.old p n) }
+        ensures names { (p : Purse) → names_in (S.chains store.new) self.new p
+            ≡ filter (λ n. is_any (bindings_in (S.chains store.new) self.new p n)) (names_in (S.chains store.old) self.old p) }
         ensures own { (p : Purse) (n : List ℕ) (c : ℕ) → chain_at self.new p n ≡ Some c → chain_at self.old p n ≡ Some c }
         ensures others { KeepsForeign (S.chains store.old) (S.chains store.new) self.old }
         ensures leaves { LeavesNoChain (S.chains store.old) (S.chains store.new) self.old self.new }
@@ -241,7 +250,8 @@ impl Parts {
     /// How many names are bound in the purse.
     pub fn bound_names(&self, purse: &Purse) -> usize
         ensures { (chains : Chains Version) → Holds chains self.now
-            → result ≡ count_by (λ name. is_some (serial_now (bindings_in chains self.now purse.now name))) (names_in chains self.now purse.now) }
+            → result ≡ count_by (λ name. is_some (serial_now (bindings_in chains self.now purse.now name)))
+            (names_in chains self.now purse.now) }
     {
         match self.shelves.get(purse) {
             Some(shelf) => shelf.bound.len(),
@@ -252,7 +262,8 @@ impl Parts {
     /// Whether the object has a name that is bound in its purse.
     pub fn named(&self, object: &ObjectId) -> bool
         ensures { (chains : Chains Version) → Holds chains self.now
-            → result ≡ list_any (λ name. is_serial object.now.serial (serial_now (bindings_in chains self.now object.now.purse name))) (names_in chains self.now object.now.purse) }
+            → result ≡ list_any (λ name. is_serial object.now.serial
+            (serial_now (bindings_in chains self.now object.now.purse name))) (names_in chains self.now object.now.purse) }
     {
         match self.shelves.get(&object.purse) {
             Some(shelf) => shelf.bound.contains(&object.serial),

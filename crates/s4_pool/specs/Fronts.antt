@@ -10,4 +10,5 @@ pub record FrontState : Type 0 where
 
 -- passes with the numbers from 0 on, without calls
 abbrev pub AreFresh : List CallList → Type 0
-AreFresh passes = (k : ℕ) (d : CallList) → k < length passes → ((slice_index_or passes k d).number ≡ k) × ((slice_index_or passes k d).calls ≡ [])
+AreFresh passes = (k : ℕ) (d : CallList) → k < length passes → ((slice_index_or passes k d).number ≡ k)
+    × ((slice_index_or passes k d).calls ≡ [])

@@ -31,11 +31,17 @@ pub record IsIdle (old new : CallList) : Type 0 where
 
 -- the pass has the call, or it met want of memory and has none
 abbrev pub ServesUnlessRefused : CallList → CallList → Caller → ℕ → Request → Reply → Type 0
-ServesUnlessRefused old new caller clock request reply = MatchBool (is_no_memory reply) (IsIdle old new) (Serves old new caller clock request reply)
+ServesUnlessRefused old new caller clock request reply = MatchBool (is_no_memory reply) (IsIdle old new)
+    (Serves old new caller clock request reply)
 
 -- the record that a call's receipt speaks of
 abbrev pub record_of_call : Call → Record
-record_of_call call = record { moment = call.receipt.moment; caller = call.asked.caller; request = call.asked.request; reply = call.receipt.reply }
+record_of_call call = record {
+  moment = call.receipt.moment;
+  caller = call.asked.caller;
+  request = call.asked.request;
+  reply = call.receipt.reply;
+}
 
 -- the history and the pass have one more, and the receipt names the record by the cell's number and by its place
 pub record Adds (cell : ℕ) (h k : List Record) (old new : CallList) : Type 0 where

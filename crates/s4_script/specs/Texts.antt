@@ -39,7 +39,8 @@ right_text right.Control = codes "control"
 right_text right.Recover = codes "recover"
 right_text right.Admin = codes "admin"
 
--- why a request was refused: which right was wanted, from which moment on there is an answer, or what was spent, what would be charged, and the budget
+-- why a request was refused: which right was wanted, from which moment on there is
+-- an answer, or what was spent, what would be charged, and the budget
 abbrev pub refusal_text : Refusal → List ℕ
 refusal_text (refusal.Denied wanted) = codes "denied " ++ right_text wanted
 refusal_text refusal.NoObject = codes "no-object"
@@ -54,7 +55,8 @@ refusal_text refusal.Exists = codes "exists"
 refusal_text refusal.PartsFull = codes "parts-full"
 refusal_text refusal.Named = codes "named"
 refusal_text refusal.NamesSpent = codes "names-spent"
-refusal_text (refusal.OverBudget spent charge budget) = codes "over-budget " ++ decimal spent ++ codes " " ++ decimal charge ++ codes " " ++ decimal budget
+refusal_text (refusal.OverBudget spent charge budget) = codes "over-budget " ++ decimal spent ++ codes " " ++ decimal charge
+    ++ codes " " ++ decimal budget
 refusal_text refusal.BadRange = codes "bad-range"
 refusal_text refusal.NoMemory = codes "no-memory"
 
@@ -106,7 +108,8 @@ reply_text reply.Done = codes "done"
 reply_text (reply.Made object) = codes "made " ++ object_text object
 reply_text (reply.Data granted bytes) = codes "data " ++ bytes_text bytes ++ codes " " ++ grant_text granted
 reply_text (reply.Attr granted bytes) = codes "attr " ++ bytes_text bytes ++ codes " " ++ grant_text granted
-reply_text (reply.Entry granted index user rights) = codes "entry " ++ decimal index ++ codes " " ++ decimal user ++ codes " " ++ decimal rights ++ codes " " ++ grant_text granted
+reply_text (reply.Entry granted index user rights) = codes "entry " ++ decimal index ++ codes " " ++ decimal user ++ codes " "
+    ++ decimal rights ++ codes " " ++ grant_text granted
 reply_text (reply.Mounted granted object) = codes "mounted " ++ object_text object ++ codes " " ++ grant_text granted
 reply_text (reply.Names lines more) = names_text lines more
 reply_text (reply.Audit lines more) = audit_text lines more

@@ -23,7 +23,8 @@ requests_in (Fault f ∷ events) = requests_in events
 -- Of replies, one to each request that the arrivals ask, each connection has one to each request that its bytes say.
 abbrev pub EachRequestHasOneReply : Type 0
 EachRequestHasOneReply =
-    (c : ℕ) (logins : Logins) (arrivals : List HallStep) (replies : List Reply) → length replies ≡ request_count (requests_of logins arrivals)
+    (c : ℕ) (logins : Logins) (arrivals : List HallStep) (replies : List Reply)
+    → length replies ≡ request_count (requests_of logins arrivals)
     → length (replies_on c (asked_in logins arrivals) replies) ≡ requests_in (events_of logins (stream_of c arrivals))
 
 -- The replies are one to each request that the arrivals ask, and each has a spelling within a frame, as that of want of memory has.

@@ -84,10 +84,12 @@ pub record StandsAfter (window : ℕ) (logins : Logins) (arrivals : List HallSte
   pub told : replies_in hall.log.history ≡ without_no_memory replies
 
 -- What an arrival adds to the arrivals before it: some replies, and on its connection these bytes, and on no other.
-pub record Adds (window : ℕ) (logins : Logins) (arrivals : List HallStep) (replies : List Reply) (c t : ℕ) (piece : List ℕ) (new : Hall) (sent : List ℕ) : Type 0 where
+pub record Adds (window : ℕ) (logins : Logins) (arrivals : List HallStep) (replies : List Reply) (c t : ℕ) (piece : List ℕ)
+    (new : Hall) (sent : List ℕ) : Type 0 where
   pub more : List Reply
   pub stands : StandsAfter window logins (arrivals ++ Arrive c t piece ∷ []) (replies ++ more) new
-  pub bytes : (d : ℕ) → sent_by d logins (arrivals ++ Arrive c t piece ∷ []) (replies ++ more) ≡ sent_by d logins arrivals replies ++ cond (c == d) sent []
+  pub bytes : (d : ℕ) → sent_by d logins (arrivals ++ Arrive c t piece ∷ []) (replies ++ more)
+      ≡ sent_by d logins arrivals replies ++ cond (c == d) sent []
 
 -- Whatever came before, with whatever replies: the arrival adds these bytes.
 abbrev pub Arrives : ℕ → ℕ → List ℕ → Hall → Hall → List ℕ → Type 0

@@ -72,7 +72,8 @@ lines (b ∷ text) = if b == 10 then [] ∷ lines text else longer b (lines text
 -- the table with one more login, from line n; or its fault: the line is bad, or names a principal again
 abbrev pub entered : ℕ → Logins → Option (ℕ × List ℕ) → Result Logins LoginFault
 entered n table None = Err (BadLine n)
-entered n table (Some login) = if is_some (secret_of table login.0) then Err (Doubled n) else Ok (insert_entry nat_cmp table login.0 login.1)
+entered n table (Some login) = if is_some (secret_of table login.0) then Err (Doubled n)
+    else Ok (insert_entry nat_cmp table login.0 login.1)
 
 -- the table with the lines from line n on; or the first fault, before them or in them
 abbrev pub table_of : ℕ → Result Logins LoginFault → List (List ℕ) → Result Logins LoginFault

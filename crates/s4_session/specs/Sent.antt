@@ -88,7 +88,8 @@ is_by p (Sweeps n) = false
 abbrev pub sent_without_strangers : Base → ℕ → ℕ → Logins → List HallStep → List ℕ
 sent_without_strangers base p c logins arrivals =
     sent_on c logins arrivals
-    (replies_on c (filter (is_by p) (asked_in logins arrivals)) (replies_in (records_of p (play base (strike p (requests_of logins arrivals))))))
+    (replies_on c (filter (is_by p) (asked_in logins arrivals))
+    (replies_in (records_of p (play base (strike p (requests_of logins arrivals))))))
 
 -- For every principal but the administrator, each of its connections is sent what it would be sent without strangers.
 abbrev pub IsIsolated : Base → Logins → List HallStep → List (ℕ × List ℕ) → Type 0
@@ -96,14 +97,16 @@ IsIsolated base logins arrivals sent =
     (p c : ℕ) → (p == 0) ≡ false → IsTrue (is_connection_of p logins arrivals c)
     → bytes_for c sent ≡ Some (sent_without_strangers base p c logins arrivals)
 
--- The replies, one to each request that the arrivals ask, are those of the plain log, where a request that was answered NoMemory counts as not made.
+-- The replies, one to each request that the arrivals ask, are those of the plain
+-- log, where a request that was answered NoMemory counts as not made.
 -- Each has a spelling within a frame.
 pub record AreReplies (base : Base) (logins : Logins) (arrivals : List HallStep) (replies : List Reply) : Type 0 where
   pub each : length replies ≡ request_count (requests_of logins arrivals)
   pub bodies : IsTrue (list_all has_body replies)
   pub log : replies_in (play base (carried_out (requests_of logins arrivals) replies)) ≡ without_no_memory replies
 
--- What a run sends: exactly on the connections that occur, by rising number, the bytes of the definition; and where no reply is NoMemory, strangers change nothing.
+-- What a run sends: exactly on the connections that occur, by rising number, the bytes
+-- of the definition; and where no reply is NoMemory, strangers change nothing.
 pub record IsSent (base : Base) (logins : Logins) (arrivals : List HallStep) (sent : List (ℕ × List ℕ)) : Type 0 where
   pub replies : List Reply
   pub are_replies : AreReplies base logins arrivals replies

@@ -20,7 +20,8 @@ ghost use Rattle.s4_session.specs.declared.event.Stand.{Stand};
 /// has the events of all of them joined.
 pub fn cuts_change_nothing()
     ensures { (logins : table.Logins) (stand : Stand) (first second : List ℕ) → hear logins stand (first ++ second)
-        ≡ after_events (hear logins stand first).events (hear logins (hear logins stand first).stand ((hear logins stand first).left ++ second)) }
+        ≡ after_events (hear logins stand first).events
+        (hear logins (hear logins stand first).stand ((hear logins stand first).left ++ second)) }
 {}
 
 /// A connection says a good Hello, then requests of the caller whom it names, then at most a fault;
@@ -28,7 +29,8 @@ pub fn cuts_change_nothing()
 /// What is sent for it is the Welcome, the reply to each request in order, and the fault.
 pub fn connections_speak_in_order()
     ensures events { (logins : table.Logins) (stream : List ℕ) → IsTalk (events_of logins stream) }
-    ensures sent { (caller : callers.Caller) (requests : List asked.Request) (fault : Option faults.Fault) (replies : List told.Reply) → length replies ≡ length requests
+    ensures sent { (caller : callers.Caller) (requests : List asked.Request) (fault : Option faults.Fault)
+        (replies : List told.Reply) → length replies ≡ length requests
         → sent_for (talk_of caller requests fault) replies ≡ told_in_order replies fault }
     ensures unwelcome { (fault : Option faults.Fault) (replies : List told.Reply) → sent_for (ended_by fault) replies ≡ fault_bytes fault }
 {}

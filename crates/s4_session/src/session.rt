@@ -62,7 +62,8 @@ impl Session {
     /// is held. The cost is in the bytes of the piece and of the frames that it makes whole.
     pub fn feed(&mut self, logins: &Logins, piece: &[u8]) -> Result<Vec<Event>, FeedError>
         // The events, where the connection stands then and what is held are the definition's.
-        ensures events { IfOk result (λ events. hear_piece logins.now self.old piece.now ≡ heard_so_far events.items self.new.stand self.new.held) }
+        ensures events { IfOk result (λ events. hear_piece logins.now self.old piece.now
+            ≡ heard_so_far events.items self.new.stand self.new.held) }
         // After a fault nothing is heard.
         ensures closed { IsErrOf result feed_error.Closed ↔ (self.old.stand ≡ stands.Closed) }
         ensures err { OnErr result (self.new ≡ self.old) }

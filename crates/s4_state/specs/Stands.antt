@@ -54,7 +54,8 @@ pub record ObjectsStand (base : Base) (horizon : ℕ) (chains : Chains Version) 
   pub ends : IsWaiting horizon (ends_in kept) (object_ends h)
 
 -- what is kept of names stands for the history
-pub record NamesStand (base : Base) (horizon : ℕ) (chains : Chains Version) (kept : Objects) (table : Table) (h : List Record) : Type 0 where
+pub record NamesStand (base : Base) (horizon : ℕ) (chains : Chains Version) (kept : Objects) (table : Table)
+    (h : List Record) : Type 0 where
   pub holds : Holds chains table
   pub waits : Waits chains table
   -- each name has the bindings of the definition but for some of the oldest, which are expired
@@ -70,7 +71,8 @@ pub record NamesStand (base : Base) (horizon : ℕ) (chains : Chains Version) (k
 pub record IsTidy (chains : Chains Version) (kept : Objects) (table : Table) : Type 0 where
   pub none_else : (c : ℕ) → IsOpen chains c → IsForeign kept c → nameless.IsForeign table c → ⊥
 
-pub record StandsFor (base : Base) (freed : ℕ) (chains : Chains Version) (kept : Objects) (serials : Purse → ℕ) (table : Table) (h : List Record) : Type 0 where
+pub record StandsFor (base : Base) (freed : ℕ) (chains : Chains Version) (kept : Objects) (serials : Purse → ℕ) (table : Table)
+    (h : List Record) : Type 0 where
   pub sound : IsSound base h
   pub objects : ObjectsStand base (horizon_now base h) chains kept h
   pub names : (p : Purse) → serials p ≡ drawn base p h
@@ -88,7 +90,12 @@ base_in parts = opened parts.window
 
 -- what callers see, where it is made ready or isn't
 abbrev pub log_where : {S : Type 0} → Bool → (S → Chains Version) → Parts S → Log
-log_where ready chains parts = record { window = parts.window; history = parts.history.records; held = item_count (chains parts.store); ready = ready }
+log_where ready chains parts = record {
+  window = parts.window;
+  history = parts.history.records;
+  held = item_count (chains parts.store);
+  ready = ready;
+}
 
 -- what callers see where it isn't
 abbrev pub log_in : {S : Type 0} → (S → Chains Version) → Parts S → Log

@@ -36,7 +36,8 @@ pub fn follow<S: Store<Version>>(
     ensures err { OnErr result (Stands S.chains parts.new (freed_in S.chains parts.old) parts.old.history.records) }
     ensures none { OnErr result (refunds.new.items ≡ []) }
     ensures capacity { vec_capacity refunds.old ≤ vec_capacity refunds.new }
-    ensures enough { is_wide added.now.caller added.now.request ≡ true → item_count (S.chains parts.old.store) ≤ vec_capacity refunds.old → IsOk result }
+    ensures enough { is_wide added.now.caller added.now.request ≡ true
+        → item_count (S.chains parts.old.store) ≤ vec_capacity refunds.old → IsOk result }
     ensures history { parts.new.history ≡ parts.old.history }
     ensures window { parts.new.window ≡ parts.old.window }
 {

@@ -30,9 +30,11 @@ fault_after fault (Welcome caller ∷ events) = fault_after fault events
 fault_after fault (Request caller r ∷ events) = fault_after fault events
 fault_after fault (Fault f ∷ events) = fault_after (Some f) events
 
--- Of the events a beginning is served, each once and in order: its requests have one reply each and are called, and what is sent for it is added to the bytes.
+-- Of the events a beginning is served, each once and in order: its requests have one
+-- reply each and are called, and what is sent for it is added to the bytes.
 -- Where it is whole, no event is missed, no frame is lost for want of memory, and each reply has a spelling within a frame.
-pub record Serves (whole : Bool) (events : List Event) (calls calls' : List Call) (fault fault' : Option faults.Fault) (before after : List ℕ) : Type 0 where
+pub record Serves (whole : Bool) (events : List Event) (calls calls' : List Call) (fault fault' : Option faults.Fault)
+    (before after : List ℕ) : Type 0 where
   pub served : List Event
   pub missed : List Event
   pub replies : List Reply
@@ -88,7 +90,8 @@ pub record Scene : Type 0 where
 abbrev pub scene : Option (List ℕ) → Option (List ℕ) → List Call → Told → Scene
 scene l h c t = record { left = l; held = h; calls = c; talk = t }
 
--- From one scene to another: bytes are read, what they say is served, and of what waited and what is sent for that a beginning is written, and the rest waits.
+-- From one scene to another: bytes are read, what they say is served, and of what
+-- waited and what is sent for that a beginning is written, and the rest waits.
 pub record Turns (whole : Bool) (logins : Logins) (old new : Scene) : Type 0 where
   pub read : List ℕ
   pub written : List ℕ
@@ -99,7 +102,8 @@ pub record Turns (whole : Bool) (logins : Logins) (old new : Scene) : Type 0 whe
   pub serves : Serves whole events old.calls new.calls old.talk.fault new.talk.fault old.talk.waiting (written ++ new.talk.waiting)
 
 -- bytes are read, and a beginning of what they say is served
-pub record Intakes (whole : Bool) (logins : Logins) (left left' : Option (List ℕ)) (calls calls' : List Call) (old new : Told) : Type 0 where
+pub record Intakes (whole : Bool) (logins : Logins) (left left' : Option (List ℕ)) (calls calls' : List Call)
+    (old new : Told) : Type 0 where
   pub read : List ℕ
   pub consumes : Consumes left left' read
   pub takes : Takes whole logins read calls calls' old new
@@ -149,7 +153,8 @@ tells_all ends.ReadFailed = false
 tells_all ends.WriteFailed = false
 tells_all ends.NoMemory = false
 
--- What is known where a talk ends so. At the peer's end all is written and there was no fault; a fault that is told is the one that was met, and all is written.
+-- What is known where a talk ends so. At the peer's end all is written and there was no
+-- fault; a fault that is told is the one that was met, and all is written.
 abbrev pub EndsSo : TalkEnd → Option (List ℕ) → Told → Type 0
 EndsSo ends.PeerClosed left t = IsAtEnd left × (t.fault ≡ None) × (t.waiting ≡ [])
 EndsSo (ends.Faulted f) left t = (t.fault ≡ Some f) × (t.waiting ≡ [])
@@ -166,8 +171,10 @@ TurnsSo (turn.Ended end) left t = EndsSo end left t
 
 -- TALKS
 
--- All that a talk does. Of what the bytes that were read say, from the opening of the connection on, a beginning is served: its requests are called, each once and in order,
--- with one reply each, and of what is sent for it a beginning is written. Where the peer was told all, all that the bytes say is served and written.
+-- All that a talk does. Of what the bytes that were read say, from the opening of the
+-- connection on, a beginning is served: its requests are called, each once and in order,
+-- with one reply each, and of what is sent for it a beginning is written. Where
+-- the peer was told all, all that the bytes say is served and written.
 pub record Talked (end : TalkEnd) (logins : Logins) (left left' held held' : Option (List ℕ)) (calls calls' : List Call) : Type 0 where
   pub read : List ℕ
   pub written : List ℕ

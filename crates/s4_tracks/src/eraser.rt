@@ -50,7 +50,8 @@ impl<P: Copy> Eraser<P> {
         requires stands { Stands (S.is_place store.old) S.chain_at self.old }
         requires passed { IsPassed S.index_at self.old (items_of (S.chains store.old) (chain_of self.old)) }
         ensures told { result ≡ first_told (from_of self.old) (to_of self.old) (items_of (S.chains store.old) (chain_of self.old)) }
-        ensures chains { S.chains store.new ≡ finmap.insert (S.chains store.old) (chain_of self.old) (with_first_erased (from_of self.old) (to_of self.old) (items_of (S.chains store.old) (chain_of self.old))) }
+        ensures chains { S.chains store.new ≡ finmap.insert (S.chains store.old) (chain_of self.old)
+            (with_first_erased (from_of self.old) (to_of self.old) (items_of (S.chains store.old) (chain_of self.old))) }
         ensures still { StillOpen (S.chains store.old) (S.chains store.new) }
         ensures room { S.room store.new ≡ S.room store.old }
         ensures same { SameWalk self.old self.new }
@@ -73,8 +74,10 @@ impl<P: Copy> Eraser<P> {
         ensures stands { Stands (S.is_place store.now) S.chain_at self.new }
         ensures last { IfSome result (λ place. last_of self.new ≡ Some place) }
         ensures onward { IfSome result (λ place. looked S.index_at self.old ≤ S.index_at place) }
-        ensures next { IfSome result (λ place. IsNext (from_of self.old) (to_of self.old) (items_of (S.chains store.now) (chain_of self.old)) (S.index_at place)) }
-        ensures none { IfNone result (list_any (can_be_erased (from_of self.old) (to_of self.old)) (items_of (S.chains store.now) (chain_of self.old)) ≡ false) }
+        ensures next { IfSome result (λ place. IsNext (from_of self.old) (to_of self.old)
+            (items_of (S.chains store.now) (chain_of self.old)) (S.index_at place)) }
+        ensures none { IfNone result (list_any (can_be_erased (from_of self.old) (to_of self.old))
+            (items_of (S.chains store.now) (chain_of self.old)) ≡ false) }
         ensures ended { IfNone result (looked S.index_at self.new ≡ length (items_of (S.chains store.now) (chain_of self.old))) }
     {
         while let Some(place) = self.next_place(store) {
@@ -112,9 +115,11 @@ fn is_erasable(version: &Version, from: Moment, to: Moment) -> bool
 // Erases the value at that place, and tells its end and its cost.
 fn erase<S: Store<Version>>(store: &mut S, place: S::Place) -> Option<(Moment, u32)>
     requires { S.is_place store.old place }
-    ensures told { (v : Version) → slice_get (items_of (S.chains store.old) (S.chain_at place)) (S.index_at place) ≡ Some v → result ≡ told_of v }
+    ensures told { (v : Version) → slice_get (items_of (S.chains store.old) (S.chain_at place)) (S.index_at place) ≡ Some v
+        → result ≡ told_of v }
     ensures chains { (v : Version) → slice_get (items_of (S.chains store.old) (S.chain_at place)) (S.index_at place) ≡ Some v
-        → S.chains store.new ≡ finmap.insert (S.chains store.old) (S.chain_at place) (slice_set (items_of (S.chains store.old) (S.chain_at place)) (S.index_at place) (erased v)) }
+        → S.chains store.new ≡ finmap.insert (S.chains store.old) (S.chain_at place)
+        (slice_set (items_of (S.chains store.old) (S.chain_at place)) (S.index_at place) (erased v)) }
     ensures still { StillOpen (S.chains store.old) (S.chains store.new) }
     ensures places { (other : S.Place) → S.is_place store.old other → S.is_place store.new other }
     ensures room { S.room store.new ≡ S.room store.old }

@@ -67,7 +67,8 @@ impl Track {
         requires open { IsOpen (S.chains store.old) self.now.chain }
         requires room { 0 < S.room store.old }
         requires small { IsSmall item }
-        ensures chains { S.chains store.new ≡ finmap.insert (S.chains store.old) self.now.chain (items_of (S.chains store.old) self.now.chain ++ begun moment item ∷ []) }
+        ensures chains { S.chains store.new ≡ finmap.insert (S.chains store.old) self.now.chain
+            (items_of (S.chains store.old) self.now.chain ++ begun moment item ∷ []) }
         ensures still { StillOpen (S.chains store.old) (S.chains store.new) }
         ensures room { S.room store.new + 1 ≡ S.room store.old }
     {
@@ -84,7 +85,8 @@ impl Track {
     /// Ends the current value, if there is one. Takes no memory.
     pub fn end<S: Store<Version>>(&self, store: &mut S, moment: Moment)
         requires { IsOpen (S.chains store.old) self.now.chain }
-        ensures chains { S.chains store.new ≡ finmap.insert (S.chains store.old) self.now.chain (with_end moment (items_of (S.chains store.old) self.now.chain)) }
+        ensures chains { S.chains store.new ≡ finmap.insert (S.chains store.old) self.now.chain
+            (with_end moment (items_of (S.chains store.old) self.now.chain)) }
         ensures still { StillOpen (S.chains store.old) (S.chains store.new) }
         ensures room { S.room store.new ≡ S.room store.old }
     {
@@ -113,7 +115,8 @@ impl Track {
         requires open { IsOpen (S.chains store.old) self.now.chain }
         requires room { 0 < S.room store.old }
         requires small { IsSmall item }
-        ensures chains { S.chains store.new ≡ finmap.insert (S.chains store.old) self.now.chain (with_put moment item (items_of (S.chains store.old) self.now.chain)) }
+        ensures chains { S.chains store.new ≡ finmap.insert (S.chains store.old) self.now.chain
+            (with_put moment item (items_of (S.chains store.old) self.now.chain)) }
         ensures still { StillOpen (S.chains store.old) (S.chains store.new) }
         ensures room { S.room store.new + 1 ≡ S.room store.old }
     {
@@ -132,7 +135,8 @@ impl Track {
     ) -> Option<(Moment, u32)>
         requires { IsOpen (S.chains store.old) self.now.chain }
         ensures told { result ≡ first_told from to (items_of (S.chains store.old) self.now.chain) }
-        ensures chains { S.chains store.new ≡ finmap.insert (S.chains store.old) self.now.chain (with_first_erased from to (items_of (S.chains store.old) self.now.chain)) }
+        ensures chains { S.chains store.new ≡ finmap.insert (S.chains store.old) self.now.chain
+            (with_first_erased from to (items_of (S.chains store.old) self.now.chain)) }
         ensures still { StillOpen (S.chains store.old) (S.chains store.new) }
         ensures room { S.room store.new ≡ S.room store.old }
     {
@@ -146,8 +150,10 @@ impl Track {
     pub fn expire<S: Store<Version>>(&self, store: &mut S, horizon: Moment, most: u64) -> u64
         requires { IsOpen (S.chains store.old) self.now.chain }
         ensures freed { result ≡ min most (prefix_len (is_expired horizon) (items_of (S.chains store.old) self.now.chain)) }
-        ensures all { IsInOrder (items_of (S.chains store.old) self.now.chain) → result ≡ min most (count_by (is_expired horizon) (items_of (S.chains store.old) self.now.chain)) }
-        ensures chains { S.chains store.new ≡ finmap.insert (S.chains store.old) self.now.chain (drop result (items_of (S.chains store.old) self.now.chain)) }
+        ensures all { IsInOrder (items_of (S.chains store.old) self.now.chain)
+            → result ≡ min most (count_by (is_expired horizon) (items_of (S.chains store.old) self.now.chain)) }
+        ensures chains { S.chains store.new ≡ finmap.insert (S.chains store.old) self.now.chain
+            (drop result (items_of (S.chains store.old) self.now.chain)) }
         ensures still { StillOpen (S.chains store.old) (S.chains store.new) }
         ensures room { S.room store.new ≡ S.room store.old + result }
     {

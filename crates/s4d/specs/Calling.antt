@@ -11,7 +11,8 @@ use Rattle.s4_session.specs.Sent.{welcome, reply_frame}
 
 -- the Welcome and a reply are read, and the reply's text is written, with a line feed
 abbrev pub TellsReply : Option (List ℕ) → Option (List ℕ) → Option (List ℕ) → Option (List ℕ) → Type 0
-TellsReply left left' held held' = (reply : Reply) × Consumes left left' (welcome ++ reply_frame reply) × Appends held held' (reply_text reply ++ 10 ∷ [])
+TellsReply left left' held held' = (reply : Reply) × Consumes left left' (welcome ++ reply_frame reply)
+    × Appends held held' (reply_text reply ++ 10 ∷ [])
 
 -- the text of a reply is written, with a line feed
 abbrev pub TellsSomeReply : Option (List ℕ) → Option (List ℕ) → Type 0

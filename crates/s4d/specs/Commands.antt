@@ -7,7 +7,8 @@ use Rattle.s4d.specs.Serving.{TellsService}
 use Rattle.s4d.specs.declared.command.Command.{Command}
 use Rattle.s4d.specs.declared.command.Command.TheVariants as command
 
--- a text that is to be shown, the text of a reply to a call, or the lines of a server follow what was written before, where that is known; of runs nothing is said
+-- a text that is to be shown, the text of a reply to a call, or the lines of a server
+-- follow what was written before, where that is known; of runs nothing is said
 abbrev pub IsObeyed : Command → Option (List ℕ) → Option (List ℕ) → Type 0
 IsObeyed (command.Show text) before after = Appends before after (string_bytes text)
 IsObeyed (command.Call call) before after = TellsSomeReply before after
