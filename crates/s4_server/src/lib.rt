@@ -8,7 +8,7 @@ mod connection;
 mod desk;
 mod ending;
 mod fault;
-mod hasty;
+mod gauge;
 mod peer;
 mod peers;
 mod post;

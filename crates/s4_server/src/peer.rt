@@ -7,7 +7,7 @@ ghost use Rattle.s4_server.specs.Desks.{calls_told};
 use crate::clock::Ticks;
 use crate::desk::Desk;
 use crate::ending::Leaving;
-use crate::hasty::Hasty;
+use crate::gauge::Gauge;
 use crate::threads::Shared;
 use mio::net::TcpStream;
 use s4_pool::OpenGate;
@@ -92,16 +92,20 @@ impl Peer {
         last: bool,
     ) -> Next {
         self.last = self.last || last;
-        match self.talk(shared, desk, now) {
-            Some(TurnEnd::More) => Next::GoesOn,
-            Some(TurnEnd::Waits) | Some(TurnEnd::Stuck) => Next::Waits,
-            Some(TurnEnd::Ended(TalkEnd::Faulted(_))) => self.leave(now),
-            Some(TurnEnd::Ended(_)) => Next::Over,
-            None => self.hear_out(),
+        for _ in 0..TURNS {
+            match self.talk(shared, desk, now) {
+                Some(TurnEnd::More) => {}
+                Some(TurnEnd::Waits) | Some(TurnEnd::Stuck) => return Next::Waits,
+                Some(TurnEnd::Ended(TalkEnd::Faulted(_))) => return self.leave(now),
+                Some(TurnEnd::Ended(_)) => return Next::Over,
+                None => return self.hear_out(),
+            }
         }
+        Next::GoesOn
     }
 
-    /// Talks with the peer for some turns, where it was told no fault.
+    /// Takes a turn with the peer, where it was told no fault. There is no more to read where a read was
+    /// shorter than it could have been, but for the end, of which no further event may tell.
     fn talk<R: Wait, C: Ticks>(
         &mut self,
         shared: &Shared<'_, R, C>,
@@ -120,13 +124,16 @@ impl Peer {
         };
         let waited = talking.waiting();
         let stream: &TcpStream = stream;
-        let mut reader = Hasty::new(stream, *last);
+        let mut reader = Gauge::new(stream);
         let mut writer = stream;
         let end = converse(shared, desk, talking, &mut reader, &mut writer);
         if reader.has_heard() || talking.waiting() < waited {
             *since = now;
         }
-        Some(end)
+        match end {
+            TurnEnd::More if reader.is_short() && !*last => Some(TurnEnd::Waits),
+            end => Some(end),
+        }
     }
 
     /// Says that no more is sent, and hears out the peer, within bounds: a close with bytes that nobody
@@ -162,7 +169,7 @@ impl Peer {
     }
 }
 
-/// Takes some turns with one peer, and answers its requests at this desk.
+/// Takes a turn with one peer, and answers its requests at this desk.
 fn converse<R: Wait, C: Ticks, I: Read, O: Write>(
     shared: &Shared<'_, R, C>,
     desk: &mut Desk<'_, R, C, OpenGate>,
@@ -176,5 +183,5 @@ fn converse<R: Wait, C: Ticks, I: Read, O: Write>(
         (scene (I.remaining reader.new) (O.contents writer.new) (calls_told desk.new.pass.calls) talking.new) }
     ensures so { TurnsSo result (I.remaining reader.new) talking.new }
 {
-    talking.turns(shared.logins, reader, writer, desk, TURNS)
+    talking.turn(shared.logins, reader, writer, desk)
 }

@@ -14,9 +14,6 @@ use std::io;
 use std::sync::Wait;
 use std::time::Duration;
 
-/// How often it is looked for idle peers, in milliseconds.
-const LOOKS: u64 = 50;
-
 /// The peers of a worker, each at its place.
 #[derive(Drop)]
 pub struct Peers {
@@ -24,7 +21,7 @@ pub struct Peers {
     places: Slab<Peer>,
     /// The places of those that go on at once.
     eager: VecDeque<usize>,
-    /// When it was looked for idle ones, in milliseconds.
+    /// The time when it was looked for idle ones.
     looked: u64,
 }
 
@@ -49,15 +46,13 @@ impl Peers {
         self.places.is_empty()
     }
 
-    /// How long a wait may be: not at all where some go on at once, and without end where there are none.
+    /// How long a wait may be: not at all where some go on at once, and else until something is told.
     pub fn patience(&self) -> Option<Duration> {
-        if !self.eager.is_empty() {
-            return Some(Duration::from_millis(0));
+        if self.eager.is_empty() {
+            None
+        } else {
+            Some(Duration::from_millis(0))
         }
-        if self.places.is_empty() {
-            return None;
-        }
-        Some(Duration::from_millis(LOOKS))
     }
 
     /// Takes in a peer, and has its stream watched.
@@ -112,9 +107,10 @@ impl Peers {
         }
     }
 
-    /// Closes those that were idle for so many milliseconds, or for none where that is 0.
+    /// Closes those that were idle for so many milliseconds, or for none where that is 0. It looks once
+    /// at each time.
     pub fn close_idle(&mut self, now: u64, idle: u64) {
-        if now.saturating_sub(self.looked) >= LOOKS {
+        if now != self.looked {
             self.looked = now;
             self.places.retain(|_, peer| !peer.is_idle(now, idle));
         }

@@ -25,7 +25,7 @@ use std::alloc::Global;
 use std::marker::Model;
 use std::net::{Net, TcpListener};
 use std::sync::Wait;
-use std::sync::atomic::AtomicBool;
+use std::sync::atomic::{AtomicBool, AtomicU64};
 use std::thread::Threads;
 use std::time::Clock;
 
@@ -124,6 +124,7 @@ impl Server {
             posts,
         } = self;
         let accepted = AtomicBool::new(false);
+        let time = AtomicU64::new(clock.moment().tick());
         let shared = Shared {
             rt,
             alloc,
@@ -132,6 +133,7 @@ impl Server {
             logins,
             posts: posts.as_slice(),
             accepted: &accepted,
+            time: &time,
             idle: settings.idle,
         };
         let mut workers = staff(&shared, &jobs, seats, passes, watches)?;

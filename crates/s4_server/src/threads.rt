@@ -14,7 +14,7 @@ use s4_session::Logins;
 use std::alloc::Global;
 use std::net::TcpListener;
 use std::sync::Wait;
-use std::sync::atomic::{AtomicBool, Ordering};
+use std::sync::atomic::{AtomicBool, AtomicU64, Ordering};
 use std::thread;
 use std::thread::Threads;
 use std::time::{Clock, Duration};
@@ -22,7 +22,7 @@ use std::time::{Clock, Duration};
 /// How many values of a cell are freed at a time.
 const SWEPT: u64 = 256;
 
-/// How long the sweeper rests after each round, in milliseconds.
+/// How long the sweeper rests after each round, in milliseconds. So often it is looked for idle peers.
 const REST: u64 = 100;
 
 /// What the threads of a server share.
@@ -37,6 +37,8 @@ pub struct Shared<'a, R, C> {
     pub posts: &'a [Post],
     /// No more connections are accepted.
     pub accepted: &'a AtomicBool,
+    /// The time at which the sweeper began its round, in milliseconds.
+    pub time: &'a AtomicU64,
     /// How long a peer may be silent, in milliseconds; 0 for ever.
     pub idle: u64,
 }
@@ -61,7 +63,9 @@ pub fn serve_all<R: Threads + Wait + Clock + Sync, C: Ticks>(
         || -> ()
             requires { seat.queue ≡ jobs.now.queue }
         { serve_to_the_end(shared, settings, listener, jobs, seat, workers, ended) },
-        || sweep_to_the_end(shared, cells, ended),
+        || -> ()
+            requires { cells ≡ shared.now.front.now.cells }
+        { sweep_to_the_end(shared, cells, ended) },
     );
 }
 
@@ -126,11 +130,19 @@ fn work_all<R: Threads + Wait + Sync, C: Ticks>(
     }
 }
 
-/// Sweeps the cells in turn, round by round, until the end.
-fn sweep_to_the_end<R: Wait + Clock, C>(shared: &Shared<'_, R, C>, cells: usize, ended: &AtomicBool)
+/// Sweeps the cells in turn, round by round, until the end. At each round it tells the time, and has
+/// the workers look for idle peers.
+fn sweep_to_the_end<R: Wait + Clock, C: Ticks>(
+    shared: &Shared<'_, R, C>,
+    cells: usize,
+    ended: &AtomicBool,
+)
     requires { cells ≡ shared.now.front.now.cells }
 {
     for _ in shared.rt.forever() {
+        let now = shared.clock.moment().tick();
+        shared.time.store(now, Ordering::SeqCst);
+        wake_all(shared.posts);
         for cell in 0..cells {
             shared.front.sweep(shared.rt, cell, SWEPT);
         }

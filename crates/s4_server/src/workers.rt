@@ -108,7 +108,7 @@ impl<R: Wait, C: Ticks> Worker<'_, R, C> {
             if let Some(connection) = jobs.take(shared.rt, seat) {
                 *taken = taken.wrapping_add(1);
                 let stream = TcpStream::from_std(connection.stream);
-                let now = shared.clock.moment().tick();
+                let now = shared.time.load(Ordering::SeqCst);
                 if peers.add(watch, stream, now).is_err() {
                     post.end(1);
                 }
@@ -127,7 +127,7 @@ impl<R: Wait, C: Ticks> Worker<'_, R, C> {
         } = self;
         let before = peers.len();
         let events = watch.wait(peers.patience());
-        let now = shared.clock.moment().tick();
+        let now = shared.time.load(Ordering::SeqCst);
         for event in events.iter() {
             if let Some(place) = place_of(event.token()) {
                 peers.serve(shared, desk, now, place, event.is_read_closed());
@@ -135,6 +135,9 @@ impl<R: Wait, C: Ticks> Worker<'_, R, C> {
         }
         peers.serve_eager(shared, desk, now);
         peers.close_idle(now, shared.idle);
-        post.end(before.saturating_sub(peers.len()) as u64);
+        let ended = before.saturating_sub(peers.len());
+        if ended > 0 {
+            post.end(ended as u64);
+        }
     }
 }

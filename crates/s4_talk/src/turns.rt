@@ -1,6 +1,6 @@
 //! A talk, turn by turn.
 
-ghost use Rattle.std.specs.Prelude.{◌≡◌, ◌<◌, [], length};
+ghost use Rattle.std.specs.Prelude.{◌≡◌, [], length};
 ghost use Rattle.s4_talk.specs.Turning.{EndsSo, Intakes, IntakesSo, Sends, Turns, TurnsSo, is_served, is_whole, opened, scene, told};
 
 use crate::answer::Answer;
@@ -96,31 +96,6 @@ impl Talking {
             waiting,
         } = self;
         turn(session, fault, waiting, logins, reader, writer, answer)
-    }
-
-    /// Takes turns, so many at most, as long as there may be more to read. The last of them says how it
-    /// ended; it is `More` where there may still be more.
-    pub fn turns<R: Read, W: Write, A: Answer>(
-        &mut self,
-        logins: &Logins,
-        reader: &mut R,
-        writer: &mut W,
-        answer: &mut A,
-        most: u32,
-    ) -> TurnEnd
-        requires { 0 < most }
-        ensures turns { Turns (is_whole result) logins.now
-            (scene (R.remaining reader.old) (W.contents writer.old) (A.calls answer.old) self.old)
-            (scene (R.remaining reader.new) (W.contents writer.new) (A.calls answer.new) self.new) }
-        ensures so { TurnsSo result (R.remaining reader.new) self.new }
-    {
-        for _ in 1..most {
-            match self.turn(logins, reader, writer, answer) {
-                TurnEnd::More => {}
-                end => return end,
-            }
-        }
-        self.turn(logins, reader, writer, answer)
     }
 
     /// How many bytes wait to be written.
