@@ -1,4 +1,1 @@
-pub mod Faults
-pub mod Commands
-pub mod Calling
-pub mod Serving
+pub mod Words

@@ -1,6 +1,5 @@
-use crate::command::Command;
-use crate::fault::{Fault, FaultText};
-use crate::{command, obey};
+use crate::command_line;
+use s4_commands::{Command, Fault, FaultText, obey};
 use s4_run::RunFault;
 use s4_types::Principal;
 use std::alloc::Global;
@@ -120,7 +119,7 @@ impl Env for Words<'_> {
 
 /// The command that these arguments spell.
 pub fn given(alloc: Global, words: &[&[u8]]) -> Result<Command, Fault> {
-    command::given(&(Words(words), alloc))
+    command_line::given(&(Words(words), alloc))
 }
 
 /// What is written to standard output for these arguments and this input.

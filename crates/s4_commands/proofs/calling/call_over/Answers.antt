@@ -1,6 +1,6 @@
 use Rattle.std.proofs.Common.{ℕ, List, subst}
 use Rattle.std.specs.Io.KnownBytes.{Appends}
-use Rattle.s4d.proofs.calling.call_over.Goals as goal
+use Rattle.s4_commands.proofs.calling.call_over.Goals as goal
 
 pub returns-clause-all_sent : goal.returns-clause-all_sent
 returns-clause-all_sent g c =

@@ -1,12 +1,8 @@
 -- What the program exits with, and what it tells.
 use Rattle.std.specs.Prelude.{◌≡◌, ⊤, ℕ, List, codes, string_bytes}
-use Rattle.s4d.specs.declared.fault.Fault.{Fault}
-use Rattle.s4d.specs.declared.fault.Fault.TheVariants as fault
+use Rattle.s4_commands.specs.declared.fault.Fault.{Fault}
+use Rattle.s4_commands.specs.declared.fault.Fault.TheVariants as fault
 use Rattle.s4_client.specs.Texts.{call_fault_text}
-use Rattle.s4_client.specs.declared.fault.CallFault.{CallFault}
-use Rattle.s4_client.specs.declared.fault.CallFault.TheVariants as call_fault
-use Rattle.s4_script.specs.declared.error.ParseError.{ParseError}
-use Rattle.s4_script.specs.declared.error.ParseError.TheVariants as parse_error
 use Rattle.s4_run.specs.Texts as run
 use Rattle.s4_server.specs.Faults as server
 use Rattle.s4_run.specs.declared.fault.RunFault.TheVariants as run_fault
@@ -23,11 +19,6 @@ fault_text (fault.Run why) = run.fault_text why
 fault_text (fault.Call why) = call_fault_text why
 fault_text fault.CannotListen = codes "cannot listen"
 fault_text (fault.Serve why) = server.fault_text why
-
--- the fault of words that spell no request
-abbrev pub fault_of_request : ParseError → CallFault
-fault_of_request parse_error.Bad = call_fault.BadRequest
-fault_of_request parse_error.NoMemory = call_fault.NoMemory
 
 -- it is the fault of a command line that is told by this text, unless memory ran out
 abbrev pub IsFaultOf : List ℕ → Fault → Type 0

@@ -7,8 +7,8 @@ ghost use Rattle.s4_session.specs.declared.event.Fault as faults;
 ghost use Rattle.s4_client.specs.Calls.{Begins, HearsFault, message_of};
 ghost use Rattle.s4_client.specs.declared.fault.CallFault as call_faults;
 ghost use Rattle.s4_client.specs.declared.fault.CallFault.TheVariants as call_fault;
-ghost use Rattle.s4d.specs.Calling.{TellsReply, TellsSomeReply};
-ghost use Rattle.s4d.specs.declared.fault.Fault.TheVariants as fault;
+ghost use Rattle.s4_commands.specs.Calling.{TellsReply, TellsSomeReply};
+ghost use Rattle.s4_commands.specs.declared.fault.Fault.TheVariants as fault;
 
 use crate::fault::Fault;
 use s4_client::{CallFault, connect, message};

@@ -2,7 +2,7 @@
 
 ghost use Rattle.std.specs.Prelude.{OnOk, string_bytes};
 ghost use Rattle.std.specs.Io.KnownBytes.{Appends};
-ghost use Rattle.s4d.specs.Serving.{TellsService, closed_line, listening_line};
+ghost use Rattle.s4_commands.specs.Serving.{TellsService, closed_line, listening_line};
 
 use crate::fault::Fault;
 use s4_run::RunFault;

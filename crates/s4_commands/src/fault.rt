@@ -1,13 +1,12 @@
 //! What ends the program without success.
 
 ghost use Rattle.std.specs.Prelude.{◌≡◌, ◌++◌, Some, codes};
-ghost use Rattle.s4d.specs.Faults.{IsFaultOf, exit_status, fault_of_request, fault_text};
-ghost use Rattle.s4d.specs.declared.fault.Fault.TheVariants as fault;
+ghost use Rattle.s4_commands.specs.Faults.{IsFaultOf, exit_status, fault_text};
+ghost use Rattle.s4_commands.specs.declared.fault.Fault.TheVariants as fault;
 ghost use Rattle.s4_run.specs.declared.fault.RunFault.TheVariants as run_fault;
 
 use s4_client::CallFault;
 use s4_run::RunFault;
-use s4_script::ParseError;
 use s4_server::ServerFault;
 use std::alloc::{AllocError, AllocFailed, Global};
 use std::fmt;
@@ -26,16 +25,6 @@ pub enum Fault {
     CannotListen,
     /// The server ended so.
     Serve(ServerFault),
-}
-
-/// The fault of words that spell no request.
-pub fn of_request(error: ParseError) -> CallFault
-    ensures { result ≡ fault_of_request error }
-{
-    match error {
-        ParseError::Bad => CallFault::BadRequest,
-        ParseError::NoMemory => CallFault::NoMemory,
-    }
 }
 
 impl Fault {

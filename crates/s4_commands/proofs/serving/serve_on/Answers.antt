@@ -1,8 +1,8 @@
 use Rattle.std.proofs.Common.{ℕ, List, subst, string_bytes}
 use Rattle.std.specs.Io.KnownBytes.{Appends}
-use Rattle.s4d.specs.Serving.{closed_line, listening_line}
-use Rattle.s4d.proofs.Lines.{appends_both}
-use Rattle.s4d.proofs.serving.serve_on.Goals as goal
+use Rattle.s4_commands.specs.Serving.{closed_line, listening_line}
+use Rattle.s4_commands.proofs.Lines.{appends_both}
+use Rattle.s4_commands.proofs.serving.serve_on.Goals as goal
 
 pub returns : goal.returns
 returns g c =

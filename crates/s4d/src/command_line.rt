@@ -6,20 +6,17 @@ ghost use Rattle.std.specs.IoError.{error_kind};
 ghost use Rattle.std.specs.declared.io.ErrorKind.TheVariants as io_kind;
 ghost use Rattle.clap.specs.Values.{kind_of};
 ghost use Rattle.s4_session.specs.LoginText.{principal_in};
-ghost use Rattle.s4d.specs.Calling.{IsHelloOf, client_in, word_of};
-ghost use Rattle.s4d.specs.Commands.{IsCallOf, IsForTenant};
-ghost use Rattle.s4d.specs.Faults.{IsFaultOf};
-ghost use Rattle.s4d.specs.declared.fault.Fault.TheVariants as fault;
+ghost use Rattle.s4_commands.specs.Faults.{IsFaultOf};
+ghost use Rattle.s4_commands.specs.declared.fault.Fault.TheVariants as fault;
 ghost use Rattle.s4_run.specs.declared.fault.RunFault.TheVariants as run_fault;
+ghost use Rattle.s4d.specs.Words.{IsCallOf, IsForTenant, IsHelloOf, client_in, fault_of_request, word_of};
 
-use crate::calling::Call;
-use crate::fault::{Fault, of_request};
-use crate::serving::Service;
 use clap::error::ErrorKind;
 use clap::{Arg, ArgMatches, Command as Parser, Error};
 use s4_client::CallFault;
+use s4_commands::{Call, Command, Fault, Service};
 use s4_run::RunFault;
-use s4_script::{parse_number, parse_principal, parse_request};
+use s4_script::{ParseError, parse_number, parse_principal, parse_request};
 use s4_server::Settings;
 use s4_session::{Hello, principal_in, secret_in};
 use s4_types::{Caller, Principal, Request};
@@ -101,23 +98,6 @@ const CONNECTIONS: &str = "connections";
 const IDLE: &str = "idle";
 
 const OPEN: &str = "open";
-
-/// What the program is asked to do.
-#[derive(Debug, PartialEq, Drop)]
-pub enum Command {
-    /// To show this text, which was asked for.
-    Show(String),
-    /// To run a script.
-    Run,
-    /// To run arrivals on a hall of the logins in the file with this path.
-    Hall(String),
-    /// To write a script without what this principal's strangers ask.
-    Strike(Principal),
-    /// To call a served drive.
-    Call(Call),
-    /// To serve a drive.
-    Serve(Service),
-}
 
 /// The command that the program's arguments spell.
 pub fn given<R: Env + AllocGlobal>(rt: &R) -> Result<Command, Fault> {
@@ -350,6 +330,16 @@ fn request(alloc: Global, words: &[&str]) -> Result<Request, CallFault> {
     match words {
         [verb, words @ ..] => parse_request(alloc, verb, words).map_err(of_request),
         [] => Err(CallFault::BadRequest),
+    }
+}
+
+/// The fault of words that spell no request.
+fn of_request(error: ParseError) -> CallFault
+    ensures { result ≡ fault_of_request error }
+{
+    match error {
+        ParseError::Bad => CallFault::BadRequest,
+        ParseError::NoMemory => CallFault::NoMemory,
     }
 }
 

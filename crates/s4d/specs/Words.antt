@@ -1,0 +1,41 @@
+-- What the words of the command line spell.
+use Rattle.std.specs.Prelude.{◌≡◌, ◌≢◌, ℕ, Option, Some, List, [], codes, string_bytes, unwrap_or, bytes_eq, if◌then◌else◌}
+use Rattle.clap.specs.Matches.{first_value}
+use Rattle.clap.specs.declared.parser.matches.Found.{Found}
+use Rattle.s4_client.specs.declared.fault.CallFault.{CallFault}
+use Rattle.s4_client.specs.declared.fault.CallFault.TheVariants as call_fault
+use Rattle.s4_commands.specs.declared.command.Command.{Command}
+use Rattle.s4_commands.specs.declared.command.Command.TheVariants as command
+use Rattle.s4_script.specs.declared.error.ParseError.{ParseError}
+use Rattle.s4_script.specs.declared.error.ParseError.TheVariants as parse_error
+use Rattle.s4_session.specs.LoginText.{principal_in, secret_in}
+use Rattle.s4_session.specs.declared.hello.Hello.{Hello}
+
+-- the word of the command line that has this name, or no bytes
+abbrev pub word_of : Found → List ℕ → List ℕ
+word_of found name = unwrap_or (first_value found name) []
+
+-- the client that a word spells: a number as a principal's, or the greatest
+abbrev pub client_in : List ℕ → Option ℕ
+client_in word = if bytes_eq word (codes "4294967295") then Some 4294967295 else principal_in word
+
+-- it is the Hello that the words of the command line spell
+pub record IsHelloOf (found : Found) (hello : Hello) : Type 0 where
+  pub who : principal_in (word_of found (codes "WHO")) ≡ Some hello.caller.who
+  pub client : client_in (word_of found (codes "CLIENT")) ≡ Some hello.caller.client
+  pub secret : secret_in (word_of found (codes "SECRET")) ≡ Some hello.secret
+
+-- a script is to be struck for a principal other than the administrator
+abbrev pub IsForTenant : Command → Type 0
+IsForTenant (command.Strike who) = who ≢ 0
+IsForTenant other = ⊥
+
+-- it is a call at the address and with the Hello that the words spell
+abbrev pub IsCallOf : Found → Command → Type 0
+IsCallOf found (command.Call call) = (string_bytes call.address ≡ word_of found (codes "ADDRESS")) × IsHelloOf found call.hello
+IsCallOf found other = ⊥
+
+-- the fault of words that spell no request
+abbrev pub fault_of_request : ParseError → CallFault
+fault_of_request parse_error.Bad = call_fault.BadRequest
+fault_of_request parse_error.NoMemory = call_fault.NoMemory
