@@ -1,6 +1,6 @@
 //! What a call sends.
 
-use crate::peers::{CREATE, HELLO};
+use crate::client_peers::{CREATE, HELLO};
 use s4_client::{CallFault, message};
 use s4_session::{Fault, Hello};
 use s4_types::{Bytes, Caller, ObjectId, Principal, Purse, PurseNo, Request, Serial};

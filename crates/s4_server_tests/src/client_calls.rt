@@ -1,6 +1,6 @@
 //! Calls, by what their peer says.
 
-use crate::peers::{CREATE, HELLO, MADE, Sink, Source, WELCOME, hears, says};
+use crate::client_peers::{CREATE, HELLO, MADE, Sink, Source, WELCOME, hears, says};
 use s4_client::{CallFault, call};
 use s4_session::Fault;
 use s4_types::{ObjectId, Principal, Purse, PurseNo, Refusal, Reply, Right, Serial};
