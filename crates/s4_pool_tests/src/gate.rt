@@ -1,6 +1,6 @@
 //! A gate holds a call in one cell until a call in another was answered.
 
-use crate::given::{Ask, closed, create, made, serve};
+use crate::given::{Ask, closed, made, two_of};
 use s4_cells::Cell;
 use s4_pool::{Front, Gate, Pass};
 use std::alloc::Global;
@@ -58,6 +58,9 @@ pub struct Guarded {
 
 /// Makes a first call in each cell, and then arms the gate.
 pub fn make_guarded<R: Wait>(rt: &R, alloc: Global) -> Result<Guarded, Fail> {
+    let in_cell_one = Ask::create(7, 5)?;
+    let in_cell_zero = Ask::create(8, 5)?;
+    let (one, zero) = (made(7, 1)?, made(8, 1)?);
     let marks = Marks {
         armed: AtomicU64::new(0),
         entered: AtomicU64::new(0),
@@ -68,14 +71,11 @@ pub fn make_guarded<R: Wait>(rt: &R, alloc: Global) -> Result<Guarded, Fail> {
     let gate = Holding {
         marks: Arc::try_clone(&marks)?,
     };
-    let (front, mut passes) = Front::open(alloc, 100, 2, 2, gate)?;
-    let mut b = passes.pop().ok_or("pass 1")?;
-    let mut a = passes.pop().ok_or("pass 0")?;
-    if serve(rt, &front, &mut a, 7, 5, create()?)? != made(7, 1)? {
-        return Err("no first call in cell 1".into());
-    }
-    if serve(rt, &front, &mut b, 8, 5, create()?)? != made(8, 1)? {
-        return Err("no first call in cell 0".into());
+    let (front, passes) = Front::open(alloc, 100, 2, 2, gate)?;
+    let (mut a, mut b) = two_of(passes)?;
+    let is_first = in_cell_one.serve(rt, &front, &mut a) == one;
+    if !is_first || in_cell_zero.serve(rt, &front, &mut b) != zero {
+        return Err("no first call in each cell".into());
     }
     marks.armed.store(1, Ordering::SeqCst);
     Ok(Guarded { front, marks, a, b })
@@ -104,9 +104,9 @@ fn second<R: Wait>(rt: &R, front: &Front<Holding>, marks: &Marks, pass: Pass, as
 
 #[test]
 fn held_in_one_cell(rt: HostRuntime) -> Result<(), Fail> {
+    let in_cell_one = Ask::create(7, 5)?;
+    let in_cell_zero = Ask::create(8, 5)?;
     let Guarded { front, marks, a, b } = make_guarded(&rt, rt.alloc())?;
-    let in_cell_one = Ask::new(7, 5, create()?)?;
-    let in_cell_zero = Ask::new(8, 5, create()?)?;
     let handle = &rt;
     let shared = &front;
     let told: &Marks = &marks;

@@ -1,6 +1,8 @@
 //! Callers, requests and fronts of the tests.
 
-use s4_pool::{Closed, Front, Gate, Pass};
+ghost use Rattle.std.specs.Prelude.{◌<◌, ◌≤◌};
+
+use s4_pool::{Closed, Front, Gate, OpenGate, Pass};
 use s4_types::{
     Bytes, Caller, Moment, ObjectId, Principal, Purse, PurseNo, Reply, Request, Serial,
 };
@@ -54,27 +56,38 @@ impl Ask {
         })
     }
 
+    /// A create in purse 0.
+    pub fn create(who: u32, tick: u64) -> Result<Ask, Fail> {
+        Ask::new(who, tick, create()?)
+    }
+
     pub fn serve<G: Gate, R: Wait>(&self, rt: &R, front: &Front<G>, pass: &mut Pass) -> Reply {
         front.serve(rt, pass, self.caller, self.clock, &self.request)
     }
 }
 
-/// Serves a request of a principal whose clock shows this tick.
-pub fn serve<G: Gate, R: Wait>(
-    rt: &R,
-    front: &Front<G>,
-    pass: &mut Pass,
-    who: u32,
-    tick: u64,
-    request: Request,
-) -> Result<Reply, Fail> {
-    Ok(Ask::new(who, tick, request)?.serve(rt, front, pass))
+/// The moment, the cell and the place of a pass's receipt.
+pub fn receipt(pass: &Pass, place: usize) -> Option<(u64, usize, u64)> {
+    let receipt = pass.receipts().get(place)?;
+    Some((receipt.moment.tick(), receipt.cell, receipt.place))
 }
 
-/// The moment, the cell and the place of a pass's receipt.
-pub fn receipt(pass: &Pass, place: usize) -> Result<(u64, usize, u64), Fail> {
-    let receipt = pass.receipts().get(place).ok_or("a receipt")?;
-    Ok((receipt.moment.tick(), receipt.cell, receipt.place))
+/// The first two passes.
+pub fn two_of(passes: Vec<Pass>) -> Result<(Pass, Pass), Fail> {
+    let mut passes = passes;
+    let b = passes.pop().ok_or("pass 1")?;
+    let a = passes.pop().ok_or("pass 0")?;
+    Ok((a, b))
+}
+
+/// A front with a window of a hundred ticks and two passes.
+pub fn open_two(alloc: Global, cells: usize) -> Result<(Front<OpenGate>, Pass, Pass), Fail>
+    requires some { 0 < cells }
+    requires few { cells ≤ 16 }
+{
+    let (front, passes) = Front::open(alloc, 100, cells, 2, OpenGate)?;
+    let (a, b) = two_of(passes)?;
+    Ok((front, a, b))
 }
 
 /// Closes a front that has to close, by two passes.

@@ -3,7 +3,7 @@
 ghost use Rattle.std.specs.Prelude.{◌≡◌, All};
 
 use crate::gate::{Guarded, Holding, Marks, make_guarded};
-use crate::given::{Ask, closed, create};
+use crate::given::{Ask, closed};
 use s4_jobs::{Job, Jobs, NoMemory, Numbered, Seat, work};
 use s4_pool::{Front, Pass};
 use std::alloc::Global;
@@ -91,13 +91,12 @@ fn put_jobs<R: Wait>(rt: &R, marks: &Marks, place: Place<'_>, held: Call, next: 
 
 #[test]
 fn held_by_one_worker(rt: HostRuntime) -> Result<(), Fail> {
-    let Guarded { front, marks, a, b } = make_guarded(&rt, rt.alloc())?;
     let held = Call {
-        ask: Ask::new(7, 5, create()?)?,
+        ask: Ask::create(7, 5)?,
         releases: false,
     };
     let next = Call {
-        ask: Ask::new(8, 5, create()?)?,
+        ask: Ask::create(8, 5)?,
         releases: true,
     };
     let (queue, seats) = Queue::open(rt.alloc(), 4, 3)?;
@@ -105,6 +104,7 @@ fn held_by_one_worker(rt: HostRuntime) -> Result<(), Fail> {
     let third = places.pop().ok_or("place 2")?;
     let second = places.pop().ok_or("place 1")?;
     let first = places.pop().ok_or("place 0")?;
+    let Guarded { front, marks, a, b } = make_guarded(&rt, rt.alloc())?;
     let handle = &rt;
     let shared = &front;
     let told: &Marks = &marks;

@@ -1,6 +1,6 @@
 //! What one thread wrote another reads.
 
-use crate::given::{Ask, closed, create, made, object, write_a};
+use crate::given::{Ask, closed, made, object, open_two, write_a};
 use s4_pool::{Front, OpenGate, Pass};
 use s4_types::{Bytes, Grant, Moment, Reply, Request};
 use std::alloc::{AllocError, Global};
@@ -37,9 +37,6 @@ fn read_a(alloc: Global) -> Result<Reply, Fail> {
 #[test]
 fn one_thread_reads_what_another_wrote(rt: HostRuntime) -> Result<(), Fail> {
     let alloc = rt.alloc();
-    let (front, mut passes) = Front::open(alloc, 100, 1, 2, OpenGate)?;
-    let b = passes.pop().ok_or("pass 1")?;
-    let a = passes.pop().ok_or("pass 0")?;
     let write = write_a(alloc, object(7, 1)?)?;
     let read = Request::Read {
         object: object(7, 1)?,
@@ -47,16 +44,19 @@ fn one_thread_reads_what_another_wrote(rt: HostRuntime) -> Result<(), Fail> {
         length: 100,
         at: None,
     };
-    let writes = [Ask::new(7, 5, create()?)?, Ask::new(7, 6, write)?];
+    let writes = [Ask::create(7, 5)?, Ask::new(7, 6, write)?];
     let reads = [Ask::new(7, 7, read)?];
+    let replies = [made(7, 1)?, Reply::Done];
+    let data = [read_a(alloc)?];
+    let (front, a, b) = open_two(alloc, 1)?;
     let shared = &front;
     let handle = &rt;
     let (first, ()) = thread::join(handle, || ask_all(handle, shared, alloc, a, &writes), || ());
     let ((), second) = thread::join(handle, || (), || ask_all(handle, shared, alloc, b, &reads));
     let (a, written) = first?;
     let (b, read) = second?;
-    assert_eq!(rt; written.as_slice(), [made(7, 1)?, Reply::Done].as_slice());
-    assert_eq!(rt; read.as_slice(), [read_a(alloc)?].as_slice());
+    assert_eq!(rt; written.as_slice(), replies.as_slice());
+    assert_eq!(rt; read.as_slice(), data.as_slice());
     assert_eq!(rt; closed(alloc, front, a, b)?.history.len(), 3);
     Ok(())
 }
