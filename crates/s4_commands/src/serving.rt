@@ -1,6 +1,6 @@
 //! A served drive (docs/OPERATIONS.md).
 
-ghost use Rattle.std.specs.Prelude.{OnOk};
+ghost use Rattle.std.specs.Prelude.{OnOk, string_bytes};
 ghost use Rattle.std.specs.Io.KnownBytes.{Appends};
 ghost use Rattle.s4_commands.specs.Serving.{TellsService, closed_line, listening_line};
 
@@ -34,7 +34,7 @@ pub fn serve_at<
         + AllocGlobal,
     W: Write,
 >(rt: &R, service: &Service, output: &mut W) -> Result<(), Fault>
-    ensures told { OnOk result (TellsService service.now (W.contents output.old) (W.contents output.new)) }
+    ensures told { OnOk result (TellsService (string_bytes service.now.address) (W.contents output.old) (W.contents output.new)) }
 {
     let logins = s4_run::open_logins(rt, service.logins.as_str())?;
     let listener = TcpListener::bind(rt, service.address.as_str());
@@ -53,7 +53,7 @@ pub fn serve_on<R: Net + Threads + Wait + Clock + Sync + AllocGlobal, C: Ticks, 
     logins: &Logins,
     output: &mut W,
 ) -> Result<(), Fault>
-    ensures told { OnOk result (TellsService service.now (W.contents output.old) (W.contents output.new)) }
+    ensures told { OnOk result (TellsService (string_bytes service.now.address) (W.contents output.old) (W.contents output.new)) }
 {
     let server = Server::open(rt, rt.alloc(), service.settings)?;
     tell_listening(output, service.address.as_str())?;
