@@ -1,0 +1,95 @@
+"""A small crate in which wrong bodies are planted, to see that each comes out as it should."""
+import tempfile
+from pathlib import Path
+
+from tools.crates import Repository
+from tools.trials import try_crates
+
+PLANTED = """\
+//! A small crate in which wrong bodies are planted, and a right one.
+#![tactic(auto)]
+
+ghost use Rattle.std.specs.Prelude.{◌≡◌, ◌+◌, ◌/◌};
+
+/// Half of a number.
+pub fn half(x: u8) -> u8
+    ensures { result ≡ x / 2 }
+{
+    x / 2
+}
+
+/// Half of a half.
+pub fn quarter(x: u8) -> u8
+    ensures { result ≡ x / 2 / 2 }
+{
+    half(half(x))
+}
+
+/// The sum of two halves.
+pub fn halves(x: u8, y: u8) -> u8
+    ensures { result ≡ x / 2 + y / 2 }
+{
+    half(x) + half(y)
+}
+
+/// A number with a name.
+#[derive(Drop)]
+pub struct Number(u8);
+
+impl Number {
+    /// What was given.
+    pub fn new(x: u8) -> u8
+        ensures { result ≡ x }
+    {
+        x
+    }
+}
+
+impl From<Number> for u8 {
+    fn from(it: Number) -> u8
+        ensures { result ≡ it.0 }
+    {
+        it.0
+    }
+}
+"""
+
+# Each edit that is planted, as old and new text, and how what is said of it begins.
+PLANTS = {
+    "wrong_in_a_callee": ("    x / 2\n", "    x / 3\n", "refused: fn planted::half: no proof"),
+    "wrong_in_a_caller": ("half(half(x))", "half(x)", "refused: fn planted::quarter: no proof"),
+    "right": ("half(x) + half(y)", "half(y) + half(x)", "NOT REFUSED"),
+    "wrong_in_a_method": ("        x\n", "        x / 2\n", "refused: fn planted::Number::new: no proof"),
+    "wrong_in_an_impl": ("        it.0\n", "        it.0 / 2\n", "refused: fn planted::U8FromNumber::from: no proof"),
+    "unreadable": ("half(half(x))", "half(half(z))", "BAD EDIT"),
+    "not_there": ("x / 7", "x / 8", "BAD EDIT"),
+}
+
+
+def planted(room):
+    """A repository of one small crate with edits in it."""
+    folder = room / "crates" / "planted"
+    for it in ("src", "wrong"):
+        (folder / it).mkdir(parents=True)
+    (folder / "src" / "lib.rt").write_text(PLANTED, encoding="utf-8")
+    (room / "crates.txt").write_text("planted:\n", encoding="utf-8")
+    (room / "HANDLES").write_text("Handles allowed: none.\n", encoding="utf-8")
+    for name, (old, new, _) in PLANTS.items():
+        text = f"file: src/lib.rt\nold: {old.rstrip()}\nnew: {new.rstrip()}\n"
+        (folder / "wrong" / f"{name}.edit").write_text(text, encoding="utf-8")
+    return Repository(room)
+
+
+def self_test():
+    """Tries what is planted. Returns whether each edit comes out as it should."""
+    with tempfile.TemporaryDirectory(prefix="wrong-bodies-") as room:
+        repository, said = planted(Path(room)), []
+        said += repository.edits("planted")[1]
+        try_crates(repository, ["planted"], 1, said.append)
+    faults = []
+    for name, (_, _, wanted) in PLANTS.items():
+        line = next((it for it in said if f"/{name}" in it), "nothing is said of it")
+        if f": {wanted}" not in line:
+            faults.append(f"wrong-bodies: of the planted edit {name} is said: {line}")
+    print("\n".join(faults) or f"wrong-bodies: {len(PLANTS)} planted edits come out as they should, one right body as not refused")
+    return not faults

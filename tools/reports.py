@@ -1,0 +1,67 @@
+"""What a check of a crate prints, and what that says of a function."""
+import os
+import re
+import subprocess
+import tempfile
+
+OF_FUNCTION = re.compile(r"fn (\S+?)(?:;|:) (no proof|not proved)(.*)")
+CALLS = re.compile(r"[:;] it (?:calls|waits)")
+OF_TEXT = re.compile(r"(?:note: )?(?:\./)?((?:src|specs|proofs)/[^\s:]+):\d+:\d+: (.*)")
+# A written proof that names what an edit took away, and what cites that proof.
+NAMES = re.compile(r"has no field|is not in scope|has no `|was not admitted")
+UNREAD = re.compile(r"is not in scope|has no field|is no name|operand is missing|expected the end|cannot continue")
+LIMITS = re.compile(r"antt ran out of (?:stack|the (?:steps|memory))|(?:outgrew the memory limit|stopped at the step limit) \(")
+
+
+class Report:
+    """What a check printed, and how it ended."""
+
+    def __init__(self, status, text):
+        self.status, self.lines = status, text.rstrip("\n").split("\n")
+        self.is_proved = status == 0
+        self.is_refused = status == 1 and any(it.startswith("logic=not-proved") for it in self.lines)
+        self.texts = [(it[1], it[2]) for it in map(OF_TEXT.match, self.lines) if it]
+
+    def against(self, function):
+        """What refuses a function by itself, if anything does."""
+        for line in self.lines:
+            found = OF_FUNCTION.match(line)
+            if not found or CALLS.match(found[3]):
+                continue
+            path = found[1]
+            if path == function.path or f"{path}::".startswith(inner(function.path)):
+                said = [text for file, text in self.texts if file.startswith(proofs_of(path)) and text.startswith("error")]
+                if said and all(NAMES.search(it) for it in said):
+                    return None
+                return f"fn {path}: {found[2]}{(': ' + said[0] if said else found[3])[:110]}"
+        return None
+
+    def against_any(self):
+        """What refuses the crate, where more is said than that a written proof names what went."""
+        told = [(file, text) for file, text in self.texts if text.startswith("error") or file.startswith("src/")]
+        first = next((it for it in told if not (it[0].startswith("proofs/") and NAMES.search(it[1]))), None)
+        return f"{first[0]}: {first[1][:110]}" if first else None
+
+    def first_complaint(self):
+        return next((it for it in self.lines if "error" in it), self.lines[-1])[:160]
+
+
+def inner(path):
+    """How the names of the closures of a function begin."""
+    names = path.split("::")
+    return "::".join([*names[:-1], "fn", names[-1], ""])
+
+
+def proofs_of(path):
+    """The folder of the written proof of a function."""
+    return f"proofs/{'/'.join(path.split('::')[1:])}/"
+
+
+def run_check(folder, verb="check"):
+    """Checks the crate in a folder. Returns the report, and the seconds of processor time that it took."""
+    with tempfile.TemporaryFile("w+", errors="replace") as out:
+        running = subprocess.Popen(["rt", verb, "--jobs", "1"], cwd=folder, stdin=subprocess.DEVNULL, stdout=out, stderr=subprocess.STDOUT)
+        _, status, used = os.wait4(running.pid, 0)
+        running.returncode = os.waitstatus_to_exitcode(status)
+        out.seek(0)
+        return Report(running.returncode, out.read()), used.ru_utime + used.ru_stime
