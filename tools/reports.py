@@ -4,7 +4,7 @@ import re
 import subprocess
 import tempfile
 
-OF_FUNCTION = re.compile(r"fn (\S+?)(?:;|:) (no proof|not proved)(.*)")
+OF_FUNCTION = re.compile(r"fn (\S+?)(?:;|:) (proved|no proof|not proved|could not tell)(.*)")
 CALLS = re.compile(r"[:;] it (?:calls|waits)")
 OF_TEXT = re.compile(r"(?:note: )?(?:\./)?((?:src|specs|proofs)/[^\s:]+):\d+:\d+: (.*)")
 # A written proof that names what an edit took away, and what cites that proof.
@@ -21,20 +21,24 @@ class Report:
         self.is_proved = status == 0
         self.is_refused = status == 1 and any(it.startswith("logic=not-proved") for it in self.lines)
         self.texts = [(it[1], it[2]) for it in map(OF_TEXT.match, self.lines) if it]
+        self.functions = {it[1]: (it[2], it[3]) for it in map(OF_FUNCTION.match, self.lines) if it}
 
     def against(self, function):
         """What refuses a function by itself, if anything does."""
-        for line in self.lines:
-            found = OF_FUNCTION.match(line)
-            if not found or CALLS.match(found[3]):
-                continue
-            path = found[1]
-            if path == function.path or f"{path}::".startswith(inner(function.path)):
+        whole = self.path_of(function)
+        for path, (verdict, rest) in self.functions.items():
+            is_inside = path == whole or path.startswith(inner(whole))
+            if is_inside and verdict in ("no proof", "not proved") and not CALLS.match(rest):
                 said = [text for file, text in self.texts if file.startswith(proofs_of(path)) and text.startswith("error")]
                 if said and all(NAMES.search(it) for it in said):
                     return None
-                return f"fn {path}: {found[2]}{(': ' + said[0] if said else found[3])[:110]}"
+                return f"fn {path}: {verdict}{(': ' + said[0] if said else rest)[:110]}"
         return None
+
+    def path_of(self, function):
+        """The path that the check has for a function. A method may stand in another module than its type, by which it is named."""
+        same = [it for it in self.functions if it.split("::")[-2:] == function.path.split("::")[-2:]]
+        return same[0] if is_method(function.path) and len(same) == 1 else function.path
 
     def against_any(self):
         """What refuses the crate, where more is said than that a written proof names what went."""
@@ -46,10 +50,16 @@ class Report:
         return next((it for it in self.lines if "error" in it), self.lines[-1])[:160]
 
 
+def is_method(path):
+    """Whether a function is one of a type."""
+    return path.split("::")[-2][:1].isupper()
+
+
 def inner(path):
     """How the names of the closures of a function begin."""
     names = path.split("::")
-    return "::".join([*names[:-1], "fn", names[-1], ""])
+    at = len(names) - 1 - is_method(path)
+    return "::".join([*names[:at], "fn", *names[at:], ""])
 
 
 def proofs_of(path):
