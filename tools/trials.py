@@ -130,10 +130,18 @@ class Trials:
             self.miss(edit, f"NOT TOLD: only a written proof that names what went stands against it: change a value and keep the names: {report.first_complaint()}")
 
 
-def try_crates(repository, names, jobs, say):
-    """Tries the edits of these crates, side by side, each crate in a copy of its own. Returns the trials."""
+def try_crates(repository, names, jobs, say, ended=lambda trials: None):
+    """Tries the edits of these crates, side by side, each crate in a copy of its own, and calls `ended` with the trials of each that is
+    done. Returns all trials."""
     needed = dict.fromkeys(below for it in names for below in [*repository.below(it), it])
     trials = {}
+
+    def run(done, it):
+        if done["first", it.crate]:
+            it.run()
+        if it.crate in names:
+            ended(it)
+
     with tempfile.TemporaryDirectory(prefix="wrong-bodies-") as room:
         lanes = Lanes(jobs)
         for name in needed:
@@ -143,6 +151,6 @@ def try_crates(repository, names, jobs, say):
             it = trials[name] = Trials(name, folder, edits, is_below, say)
             first = [("first", below) for below in repository.below(name)]
             lanes.add(("first", name), first, (0, -repository.height(name)), lambda done, it=it: it.begin())
-            lanes.add(("edits", name), [("first", name)], (1, -len(edits)), lambda done, it=it: it.run() if done["first", it.crate] else None)
+            lanes.add(("edits", name), [("first", name)], (1, -len(edits)), lambda done, it=it: run(done, it))
         lanes.run()
     return trials
