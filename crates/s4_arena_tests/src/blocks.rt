@@ -33,8 +33,8 @@ fn check_items(rt: &impl Abort, arena: &Arena<u64>, chain: Chain, count: usize)
     assert_eq!(rt; left, 0);
 }
 
-// Asks for room for 200 items beside so many. Where it is refused, all is as before, and it is asked
-// for again.
+// Asks for room for 200 items beside so many. Where it is refused, all is as before, and it is
+// asked for again.
 fn check_reserve(
     rt: &impl Abort,
     arena: &mut Arena<u64>,
@@ -59,30 +59,35 @@ fn check_reserve(
     Ok(())
 }
 
-#[test]
-fn an_empty_arena_takes_four_blocks(rt: HostRuntime) -> Result<(), Fail> {
-    let mut arena = Arena::new(rt.alloc());
+/// In an arena with so many items and so many blocks, room for 200 more makes so many blocks.
+const ROOMS: [(u64, u64, u64); 2] = [(0, 0, 4), (60, 1, 5)];
+
+fn check_room(
+    rt: &impl Abort,
+    arena: &mut Arena<u64>,
+    items: u64,
+    before: u64,
+    after: u64,
+) -> Result<(), Fail> {
     let chain = arena.open()?;
-    check_reserve(&rt, &mut arena, chain, 0, 0, 4)?;
+    add_items(arena, chain, items)?;
+    check_reserve(rt, arena, chain, before, items as usize, after)?;
     Ok(())
 }
 
-#[test]
-fn an_arena_with_60_items_takes_four_more(rt: HostRuntime) -> Result<(), Fail> {
-    let mut arena = Arena::new(rt.alloc());
+fn check_refused(rt: &impl Abort, arena: &mut Arena<u64>) -> Result<(), Fail> {
     let chain = arena.open()?;
-    add_items(&mut arena, chain, 60)?;
-    check_reserve(&rt, &mut arena, chain, 1, 60, 5)?;
-    Ok(())
-}
-
-#[test]
-fn more_room_than_there_is_memory_is_refused(rt: HostRuntime) -> Result<(), Fail> {
-    let mut arena = Arena::new(rt.alloc());
-    let chain = arena.open()?;
-    add_items(&mut arena, chain, 3)?;
+    add_items(arena, chain, 3)?;
     assert!(rt; arena.reserve(usize::MAX).is_err());
-    check_nodes(&rt, &arena, 1, 3);
-    check_items(&rt, &arena, chain, 3);
+    check_nodes(rt, arena, 1, 3);
+    check_items(rt, arena, chain, 3);
     Ok(())
+}
+
+#[test]
+fn room_takes_four_blocks_or_is_refused(rt: HostRuntime) -> Result<(), Fail> {
+    for (items, before, after) in ROOMS {
+        check_room(&rt, &mut Arena::new(rt.alloc()), items, before, after)?;
+    }
+    check_refused(&rt, &mut Arena::new(rt.alloc()))
 }

@@ -80,18 +80,20 @@ fn drop_back(rt: &impl Abort, arena: &mut Arena<u64>, chains: &[Chain])
     }
 }
 
+fn check_many(rt: &impl Abort, alloc: Global, arena: &mut Arena<u64>) -> Result<(), Fail> {
+    let chains = opened(alloc, arena, 65)?;
+    fill(arena, &chains)?;
+    check_nodes(rt, arena, 2, 65);
+    check_left(rt, arena, &chains, 0, 65);
+    drop_forth(rt, arena, &chains);
+    check_nodes(rt, arena, 2, 0);
+    fill(arena, &chains)?;
+    drop_back(rt, arena, &chains);
+    check_nodes(rt, arena, 2, 0);
+    Ok(())
+}
+
 #[test]
 fn many_chains_are_dropped_from_both_ends(rt: HostRuntime) -> Result<(), Fail> {
-    let alloc = rt.alloc();
-    let mut arena = Arena::new(alloc);
-    let chains = opened(alloc, &mut arena, 65)?;
-    fill(&mut arena, &chains)?;
-    check_nodes(&rt, &arena, 2, 65);
-    check_left(&rt, &arena, &chains, 0, 65);
-    drop_forth(&rt, &mut arena, &chains);
-    check_nodes(&rt, &arena, 2, 0);
-    fill(&mut arena, &chains)?;
-    drop_back(&rt, &mut arena, &chains);
-    check_nodes(&rt, &arena, 2, 0);
-    Ok(())
+    check_many(&rt, rt.alloc(), &mut Arena::new(rt.alloc()))
 }

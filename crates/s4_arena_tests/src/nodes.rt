@@ -28,18 +28,21 @@ fn rounds(arena: &mut Arena<u64>, chain: Chain, count: u64) -> Result<(), NoMemo
     Ok(())
 }
 
-// After the first reserve no round takes memory: so this passes whichever allocation is refused, from
-// the one after it on.
-#[test]
-fn rounds_need_one_block(rt: HostRuntime) -> Result<(), Fail> {
-    let mut arena = Arena::new(rt.alloc());
-    check_nodes(&rt, &arena, 0, 0);
+fn check_rounds(rt: &impl Abort, arena: &mut Arena<u64>) -> Result<(), Fail> {
+    check_nodes(rt, arena, 0, 0);
     let chain = arena.open()?;
-    check_nodes(&rt, &arena, 0, 0);
+    check_nodes(rt, arena, 0, 0);
     arena.reserve(1)?;
-    check_nodes(&rt, &arena, 1, 0);
-    assert!(rt; rounds(&mut arena, chain, 10000).is_ok());
-    check_nodes(&rt, &arena, 1, 0);
+    check_nodes(rt, arena, 1, 0);
+    assert!(rt; rounds(arena, chain, 10000).is_ok());
+    check_nodes(rt, arena, 1, 0);
     assert_eq!(rt; arena.len(chain), 0);
     Ok(())
+}
+
+// After the first reserve no round takes memory: so this passes whichever allocation is refused,
+// from the one after it on.
+#[test]
+fn rounds_need_one_block(rt: HostRuntime) -> Result<(), Fail> {
+    check_rounds(&rt, &mut Arena::new(rt.alloc()))
 }

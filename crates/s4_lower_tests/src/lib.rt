@@ -1,5 +1,5 @@
-//! Tests of the calls of the types, and of the crates that stand between them and the state, on small
-//! cases. What is proved stands in these crates; here stands what no clause says.
+//! Tests of the calls of the types, and of the crates that stand between them and the state, on
+//! small cases. What is proved stands in these crates; here stands what no clause says.
 #![tactic(auto)]
 
 #[cfg(test)]
@@ -7,7 +7,7 @@ mod acl;
 #[cfg(test)]
 mod audit;
 #[cfg(test)]
-mod audit_lines;
+mod audits;
 #[cfg(test)]
 mod judge;
 #[cfg(test)]
@@ -19,10 +19,12 @@ mod objects;
 #[cfg(test)]
 mod parts;
 #[cfg(test)]
-mod store;
+mod requests;
 #[cfg(test)]
 mod tracks;
 #[cfg(test)]
 mod types;
+#[cfg(test)]
+mod values;
 #[cfg(test)]
 mod window;

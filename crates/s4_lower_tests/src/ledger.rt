@@ -1,0 +1,168 @@
+//! Each public call of ledgers.
+
+use crate::values::purse;
+use s4_ledger::{DEFAULT_BUDGET, Ledger};
+use s4_types::{Moment, Purse};
+use std::process::Abort;
+use std::test::Fail;
+
+enum Step {
+    /// A charge that ends at a moment, of so much.
+    Charge(u64, u32),
+    /// One that is forgiven.
+    Forgive(u64, u32),
+    Advance(u64),
+    ReserveBudget,
+    SetBudget(u32),
+    /// The horizon is this.
+    Horizon(u64),
+    /// So much is spent.
+    Spent(u32),
+    /// So much is spent by the time of that horizon.
+    SpentAt(u64, u32),
+    /// The budget is this.
+    Budget(u32),
+    /// Whether there is room for so much.
+    Room(u32, bool),
+    /// Whether there is room for so much at that horizon.
+    RoomAt(u64, u32, bool),
+    /// Whether there is a charge that ends at that moment, of so much.
+    HasCharge(u64, u32, bool),
+}
+
+type Row = ((u32, u8), Step);
+
+/// Charges of purse 7.0 that end at 10, 20 and 30, and one of purse 3.1 that ends at 20, count
+/// until the horizon reaches their end.
+const COUNTED: [Row; 13] = [
+    ((7, 0), Step::Charge(10, 164)),
+    ((3, 1), Step::Charge(20, 80)),
+    ((7, 0), Step::Charge(30, 65)),
+    ((7, 0), Step::Charge(20, 64)),
+    ((7, 0), Step::Spent(293)),
+    ((3, 1), Step::Spent(80)),
+    ((7, 0), Step::SpentAt(9, 293)),
+    ((7, 0), Step::SpentAt(10, 129)),
+    ((3, 1), Step::SpentAt(20, 0)),
+    ((7, 0), Step::Advance(20)),
+    ((7, 0), Step::Horizon(20)),
+    ((7, 0), Step::Spent(65)),
+    ((3, 1), Step::Spent(0)),
+];
+
+/// Two equal charges of purse 7.0, and one of purse 7.1; and one more when those are forgiven.
+const FORGIVEN: [Row; 15] = [
+    ((7, 1), Step::Charge(5, 64)),
+    ((7, 0), Step::Charge(5, 64)),
+    ((7, 0), Step::Charge(5, 64)),
+    ((7, 0), Step::HasCharge(5, 64, true)),
+    ((7, 0), Step::HasCharge(5, 65, false)),
+    ((7, 0), Step::Forgive(5, 64)),
+    ((7, 0), Step::Spent(64)),
+    ((7, 1), Step::Spent(64)),
+    ((7, 0), Step::Forgive(5, 64)),
+    ((7, 0), Step::Spent(0)),
+    ((7, 0), Step::HasCharge(5, 64, false)),
+    ((7, 0), Step::Charge(6, 128)),
+    ((7, 0), Step::Advance(5)),
+    ((7, 0), Step::Forgive(5, 64)),
+    ((7, 0), Step::Spent(128)),
+];
+
+/// A budget may be met, and no more.
+const BUDGETED: [Row; 15] = [
+    ((7, 0), Step::ReserveBudget),
+    ((7, 0), Step::Budget(65536)),
+    ((7, 0), Step::SetBudget(129)),
+    ((7, 0), Step::Budget(129)),
+    ((7, 1), Step::Budget(65536)),
+    ((7, 0), Step::Room(129, true)),
+    ((7, 0), Step::Room(130, false)),
+    ((7, 0), Step::Charge(4, 65)),
+    ((7, 0), Step::Room(64, true)),
+    ((7, 0), Step::Room(65, false)),
+    ((7, 0), Step::RoomAt(3, 65, false)),
+    ((7, 0), Step::RoomAt(4, 129, true)),
+    ((7, 0), Step::SetBudget(64)),
+    ((7, 0), Step::Spent(65)),
+    ((7, 0), Step::Room(0, false)),
+];
+
+// The calls that require something, each behind the test that a caller has for it.
+
+fn charge(ledger: &mut Ledger, purse: &Purse, end: Moment, cost: u32) -> Result<bool, Fail> {
+    ledger.reserve(purse, end, cost)?;
+    if cost == 0 || !ledger.room(purse, cost) {
+        return Ok(false);
+    }
+    ledger.charge(purse, end, cost);
+    Ok(true)
+}
+
+fn forgive(ledger: &mut Ledger, purse: &Purse, end: Moment, cost: u32) -> bool {
+    if end > ledger.horizon() && !ledger.has_charge(purse, end, cost) {
+        return false;
+    }
+    ledger.forgive(purse, end, cost);
+    true
+}
+
+fn advance(ledger: &mut Ledger, horizon: Moment) -> bool {
+    if horizon < ledger.horizon() {
+        return false;
+    }
+    ledger.advance(horizon);
+    true
+}
+
+fn is_spent_at(ledger: &Ledger, purse: &Purse, horizon: Moment, wanted: u32) -> bool {
+    ledger.horizon() <= horizon && ledger.spent_at(purse, horizon) == wanted
+}
+
+fn is_room_at(ledger: &Ledger, purse: &Purse, at: Moment, cost: u32, wanted: bool) -> bool {
+    ledger.horizon() <= at && ledger.room_at(purse, at, cost) == wanted
+}
+
+/// Takes a step of a purse, and tells whether it could be taken and the answer is what is wanted.
+fn holds(ledger: &mut Ledger, purse: &Purse, step: &Step) -> Result<bool, Fail> {
+    Ok(match *step {
+        Step::Charge(end, cost) => charge(ledger, purse, Moment::new(end), cost)?,
+        Step::Forgive(end, cost) => forgive(ledger, purse, Moment::new(end), cost),
+        Step::Advance(horizon) => advance(ledger, Moment::new(horizon)),
+        Step::ReserveBudget => ledger.reserve_budget(purse).is_ok(),
+        Step::SetBudget(budget) => ledger.set_budget(purse, budget).is_ok(),
+        Step::Horizon(wanted) => ledger.horizon().tick() == wanted,
+        Step::Spent(wanted) => ledger.spent(purse) == wanted,
+        Step::SpentAt(horizon, wanted) => {
+            is_spent_at(ledger, purse, Moment::new(horizon), wanted)
+        }
+        Step::Budget(wanted) => ledger.budget(purse) == wanted,
+        Step::Room(cost, wanted) => ledger.room(purse, cost) == wanted,
+        Step::RoomAt(horizon, cost, wanted) => {
+            is_room_at(ledger, purse, Moment::new(horizon), cost, wanted)
+        }
+        Step::HasCharge(end, cost, wanted) => {
+            ledger.has_charge(purse, Moment::new(end), cost) == wanted
+        }
+    })
+}
+
+fn take(rt: &impl Abort, ledger: &mut Ledger, what: &str, rows: &[Row]) -> Result<(), Fail> {
+    for (index, (of, step)) in rows.iter().enumerate() {
+        assert!(rt; holds(ledger, &purse(*of)?, step)?, "{what}, step {index}");
+    }
+    Ok(())
+}
+
+#[test]
+fn charges_count_against_budgets_until_they_end(rt: HostRuntime) -> Result<(), Fail> {
+    assert_eq!(rt; DEFAULT_BUDGET, 65536);
+    for (what, rows) in [
+        ("counted", COUNTED.as_slice()),
+        ("forgiven", FORGIVEN.as_slice()),
+        ("budgeted", BUDGETED.as_slice()),
+    ] {
+        take(&rt, &mut Ledger::new(rt.alloc()), what, rows)?;
+    }
+    Ok(())
+}

@@ -1,0 +1,189 @@
+//! Each public call of numbers, sets of rights, ACLs and names, once and at its borders.
+
+use crate::values::{name, principal};
+use s4_types::{
+    Acl, AclEntry, Moment, Name, Principal, PurseNo, Refusal, Reply, Right, Rights, Serial,
+};
+use std::cmp::Ordering;
+use std::process::Abort;
+use std::test::Fail;
+
+/// What a number is taken as.
+enum Number {
+    Principal(u32),
+    PurseNo(u8),
+    Serial(u16),
+    Rights(u8),
+    Tick(u64),
+    /// The number that a right has.
+    Right(Right),
+    /// The number that a refusal has.
+    Refusal(Refusal),
+}
+
+/// Numbers, and what is told of them when they are taken.
+const NUMBERS: [(Number, Option<u64>); 25] = [
+    (Number::Principal(0), Some(0)),
+    (Number::Principal(4294967294), Some(4294967294)),
+    (Number::Principal(4294967295), None),
+    (Number::PurseNo(0), Some(0)),
+    (Number::PurseNo(15), Some(15)),
+    (Number::PurseNo(16), None),
+    (Number::PurseNo(255), None),
+    (Number::Serial(0), None),
+    (Number::Serial(1), Some(1)),
+    (Number::Serial(65535), Some(65535)),
+    (Number::Rights(0), Some(0)),
+    (Number::Rights(31), Some(31)),
+    (Number::Rights(32), None),
+    (Number::Rights(255), None),
+    (Number::Tick(5), Some(5)),
+    (Number::Tick(u64::MAX), Some(18446744073709551615)),
+    (Number::Right(Right::Read), Some(1)),
+    (Number::Right(Right::Write), Some(2)),
+    (Number::Right(Right::Delete), Some(4)),
+    (Number::Right(Right::Control), Some(8)),
+    (Number::Right(Right::Recover), Some(16)),
+    (Number::Right(Right::Admin), Some(32)),
+    (Number::Refusal(Refusal::Flushed), Some(6)),
+    (Number::Refusal(Refusal::NamesSpent), Some(13)),
+    (Number::Refusal(Refusal::BadRange), Some(15)),
+];
+
+fn told(number: &Number) -> Option<u64> {
+    match *number {
+        Number::Principal(number) => Some(u64::from(Principal::new(number)?.number())),
+        Number::PurseNo(number) => Some(u64::from(PurseNo::new(number)?.number())),
+        Number::Serial(number) => Some(u64::from(Serial::new(number)?.number())),
+        Number::Rights(number) => Some(u64::from(Rights::new(number)?.number())),
+        Number::Tick(tick) => Some(Moment::new(tick).tick()),
+        Number::Right(right) => Some(u64::from(right.number())),
+        Number::Refusal(refusal) => Some(u64::from(refusal.number())),
+    }
+}
+
+/// A right, whether it is one of all rights, and whether it is one of the rights 18.
+const RIGHTS: [(Right, bool, bool); 6] = [
+    (Right::Read, true, false),
+    (Right::Write, true, true),
+    (Right::Delete, true, false),
+    (Right::Control, true, false),
+    (Right::Recover, true, true),
+    (Right::Admin, false, false),
+];
+
+/// Facts of single values, each with what it says: of principal 1, principal 7 and the rights 31.
+fn facts(other: Principal, who: Principal, rights: Rights) -> [(&'static str, bool); 13] {
+    let (early, late) = (Moment::new(5), Moment::new(u64::MAX));
+    let administrator = Principal::administrator();
+    let entries = [AclEntry { who, rights }];
+    let acl = Acl::of_creator(who);
+    [
+        ("5 is early", early < late),
+        ("equal moments", early == Moment::new(5)),
+        ("number of the administrator", administrator.number() == 0),
+        ("the administrator is one", administrator.is_administrator()),
+        ("another principal isn't", !other.is_administrator()),
+        ("number of all rights", Rights::all().number() == 31),
+        ("rights 31", !rights.is_empty()),
+        ("no rights", Rights::none().is_empty()),
+        ("a creator's ACL", acl.entries() == entries.as_slice()),
+        ("its copy", acl.copy().entries() == entries.as_slice()),
+        ("an empty ACL", Acl::empty().entries().is_empty()),
+        ("number of done", Reply::Done.number() == 0),
+        ("done", !Reply::Done.is_refused()),
+    ]
+}
+
+fn check_facts(rt: &impl Abort, other: Principal, who: Principal, rights: Rights) {
+    for (what, holds) in facts(other, who, rights) {
+        assert!(rt; holds, "{what}");
+    }
+}
+
+fn check_rights(rt: &impl Abort, some: Rights) {
+    let all = Rights::all();
+    for (right, in_all, in_some) in RIGHTS {
+        let number = right.number();
+        assert!(rt;
+            all.has(right) == in_all && some.has(right) == in_some,
+            "right {number}"
+        );
+    }
+}
+
+fn check_numbers(rt: &impl Abort) {
+    for (index, (number, wanted)) in NUMBERS.iter().enumerate() {
+        assert_eq!(rt; told(number), *wanted, "number {index}");
+    }
+}
+
+#[test]
+fn numbers_and_rights_have_their_borders(rt: HostRuntime) -> Result<(), Fail> {
+    check_numbers(&rt);
+    check_rights(&rt, Rights::new(18).ok_or("rights")?);
+    let rights = Rights::new(31).ok_or("rights")?;
+    check_facts(&rt, principal(1)?, principal(7)?, rights);
+    Ok(())
+}
+
+/// Texts, and whether they are names.
+const NAMES: [(&str, bool); 19] = [
+    ("", false),
+    ("a", true),
+    ("abcdefghijklmnopqrstuvwxyz012345", true),
+    ("abcdefghijklmnopqrstuvwxyz0123456", false),
+    ("z", true),
+    ("0", true),
+    ("9", true),
+    ("-", true),
+    ("A", false),
+    ("Z", false),
+    ("_", false),
+    (".", false),
+    ("`", false),
+    ("{", false),
+    ("/", false),
+    (":", false),
+    ("home.", false),
+    ("home", true),
+    ("a-", true),
+];
+
+/// Two names, the lower one first.
+const NAMES_IN_ORDER: [(&str, &str); 7] = [
+    ("-", "0"),
+    ("0", "9"),
+    ("9", "a"),
+    ("a", "a-"),
+    ("a-", "a0"),
+    ("a0", "ab"),
+    ("ab", "b"),
+];
+
+/// Whether a name has these bytes, and its copy too.
+fn stays(kept: &Name, text: &[u8]) -> bool {
+    kept.as_slice() == text
+        && kept
+            .clone()
+            .is_ok_and(|copy| copy == *kept && copy.as_slice() == text)
+}
+
+fn is_before(low: &Name, high: &Name) -> bool {
+    let is_less = low < high && low != high && low.cmp(high) == Ordering::Less;
+    is_less && high.cmp(low) == Ordering::Greater && low.cmp(low) == Ordering::Equal
+}
+
+#[test]
+fn names_have_1_to_32_bytes_and_are_ordered_by_them(rt: HostRuntime) -> Result<(), Fail> {
+    for (text, is_name) in NAMES {
+        match Name::new(text.as_bytes()) {
+            Some(kept) => assert!(rt; is_name && stays(&kept, text.as_bytes()), "{text}"),
+            None => assert!(rt; !is_name, "{text}"),
+        }
+    }
+    for (low, high) in NAMES_IN_ORDER {
+        assert!(rt; is_before(&name(low)?, &name(high)?), "{low} before {high}");
+    }
+    Ok(())
+}
