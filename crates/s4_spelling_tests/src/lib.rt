@@ -2,12 +2,14 @@
 #![tactic(auto)]
 
 #[cfg(test)]
-mod arrivals;
+mod frames;
 #[cfg(test)]
-mod codec_replies;
+mod limits;
 #[cfg(test)]
-mod codec_requests;
+mod lines;
 #[cfg(test)]
-mod given;
+mod replies;
 #[cfg(test)]
-mod script;
+mod requests;
+#[cfg(test)]
+mod texts;

@@ -1,0 +1,286 @@
+//! What the lines of scripts and arrivals ask for, told with the names of all fields, and lines that
+//! ask for nothing.
+
+use s4_script::{ParseError, parse_arrival, parse_line, parse_window};
+use std::alloc::Global;
+use std::test::Fail;
+
+/// First lines of scripts, and the windows that they open the drive with.
+const FIRST_LINES: [(&str, u64); 2] = [
+    ("window 0", 0),
+    ("window 18446744073709551615", 18446744073709551615),
+];
+
+/// Lines after the first.
+const LINES: [(&str, &str); 7] = [
+    ("used", "Used"),
+    (
+        "sweep 18446744073709551615",
+        "Step(Sweep { n: 18446744073709551615 })",
+    ),
+    (
+        "5 7 create 15",
+        "Step(Request { moment: Moment { tick: 5 }, \
+         caller: Caller { who: Principal { number: 7 }, client: 0 }, \
+         request: Create { number: PurseNo { number: 15 } } })",
+    ),
+    (
+        "0 0 setbudget 7.15 4294967295",
+        "Step(Request { moment: Moment { tick: 0 }, \
+         caller: Caller { who: Principal { number: 0 }, client: 0 }, \
+         request: SetBudget { \
+         purse: Purse { creator: Principal { number: 7 }, number: PurseNo { number: 15 } }, \
+         budget: 4294967295 } })",
+    ),
+    (
+        "0 7 read 7.0.1 0 5",
+        "Step(Request { moment: Moment { tick: 0 }, \
+         caller: Caller { who: Principal { number: 7 }, client: 0 }, \
+         request: Read { object: ObjectId { \
+         purse: Purse { creator: Principal { number: 7 }, number: PurseNo { number: 0 } }, \
+         serial: Serial { number: 1 } }, offset: 0, length: 5, at: None } })",
+    ),
+    (
+        "0 0 flush 5 6",
+        "Step(Request { moment: Moment { tick: 0 }, \
+         caller: Caller { who: Principal { number: 0 }, client: 0 }, \
+         request: Flush { from: Moment { tick: 5 }, to: Moment { tick: 6 } } })",
+    ),
+    (
+        "0 0 flusho 7.0.1 5 6",
+        "Step(Request { moment: Moment { tick: 0 }, \
+         caller: Caller { who: Principal { number: 0 }, client: 0 }, \
+         request: FlushO { object: ObjectId { \
+         purse: Purse { creator: Principal { number: 7 }, number: PurseNo { number: 0 } }, \
+         serial: Serial { number: 1 } }, \
+         from: Moment { tick: 5 }, to: Moment { tick: 6 } } })",
+    ),
+];
+
+/// Lines of arrivals.
+const ARRIVALS: [(&str, &str); 3] = [
+    (
+        "18446744073709551615 4294967295 0A00fF",
+        "Arrive { moment: Moment { tick: 18446744073709551615 }, conn: 4294967295, \
+         piece: Bytes { bytes: [10, 0, 255] } }",
+    ),
+    (
+        "5 0 empty",
+        "Arrive { moment: Moment { tick: 5 }, conn: 0, piece: Bytes { bytes: [] } }",
+    ),
+    (
+        "sweep 18446744073709551615",
+        "Sweep { n: 18446744073709551615 }",
+    ),
+];
+
+/// Lines after the first that spell nothing.
+const BAD_LINES: [&str; 132] = [
+    "0",
+    "0 7",
+    "0 7 ",
+    " 0 7 create 0",
+    "0  7 create 0",
+    "0 7 create 0 ",
+    "0 7 create 0\r",
+    "18446744073709551616 7 create 0",
+    "0 4294967295 create 0",
+    "0 7 Create 0",
+    "0 7 create",
+    "0 7 create 0 0",
+    "0 7 create 00",
+    "0 7 create +1",
+    "0 7 create 16",
+    "0 7 delete",
+    "0 7 delete 7.0",
+    "0 7 delete 7.0.0",
+    "0 7 delete 7.0.65536",
+    "0 7 delete 7.16.1",
+    "0 7 delete 4294967295.0.1",
+    "0 7 delete 7.0.1.1",
+    "0 7 delete 7.0.1 at 0",
+    "0 7 read 7.0.1 0",
+    "0 7 read 7.0.1 0 4294967296",
+    "0 7 read 7.0.1 4294967296 1",
+    "0 7 read 7.0.1 0 1 0",
+    "0 7 read 7.0.1 0 1 at",
+    "0 7 read 7.0.1 0 1 At 0",
+    "0 7 read 7.0.1 0 1 at 18446744073709551616",
+    "0 7 read 7.0.1 0 1 at 0 0",
+    "0 7 read 7.0.1 0 at 0",
+    "0 7 write 7.0.1 0",
+    "0 7 write 7.0.1 0 ",
+    "0 7 write 7.0.1 0 abc",
+    "0 7 write 7.0.1 0 EMPTY",
+    "0 7 write 7.0.1 0 61 at 0",
+    "0 7 append 7.0.1",
+    "0 7 append 7.0.1 6g",
+    "0 7 append 7.0.1 0 61",
+    "0 7 truncate 7.0.1",
+    "0 7 truncate 7.0.1 4294967296",
+    "0 7 truncate 7.0.1 1 at 0",
+    "0 7 getattr",
+    "0 7 getattr 7.0.1 0",
+    "0 7 getattr 7.0.1 at",
+    "0 7 getattr 7.0.1 at -1",
+    "0 7 setattr 7.0.1",
+    "0 7 setattr 7.0.1 6",
+    "0 7 setattr 7.0.1 61 at 0",
+    "0 7 acl-user 7.0.1",
+    "0 7 acl-user 7.0.1 4294967295",
+    "0 7 acl-user 7.0.1 9 at",
+    "0 7 acl-index 7.0.1",
+    "0 7 acl-index 7.0.1 256",
+    "0 7 acl-index 7.0.1 0 0",
+    "0 7 setacl 7.0.1 9",
+    "0 7 setacl 7.0.1 9 32",
+    "0 7 setacl 7.0.1 4294967295 1",
+    "0 7 setacl 7.0.1 9 1 at 0",
+    "0 7 pcreate home",
+    "0 7 pcreate home 7.0",
+    "0 7 pcreate 7.0.1 home",
+    "0 7 pcreate  7.0.1",
+    "0 7 pcreate Home 7.0.1",
+    "0 7 pcreate my_home 7.0.1",
+    "0 7 pcreate abcdefghijklmnopqrstuvwxyz-012345 7.0.1",
+    "0 7 pcreate home 7.0.1 at 0",
+    "0 7 pdelete 7.0",
+    "0 7 pdelete 7.0 ",
+    "0 7 pdelete 7.0.1 home",
+    "0 7 pdelete 7.16 home",
+    "0 7 pdelete home 7.0",
+    "0 7 pdelete 7.0 home at 0",
+    "0 7 plist",
+    "0 7 plist 4294967295",
+    "0 7 plist 9 1 b",
+    "0 7 plist 9 after 1",
+    "0 7 plist 9 after b 1",
+    "0 7 plist 9 after 16 b",
+    "0 7 plist 9 after 1 B",
+    "0 7 plist 9 at",
+    "0 7 plist 9 at 3 after 1 b",
+    "0 7 plist 9 after 1 b at",
+    "0 7 plist 9 after 1 b at 3 0",
+    "0 7 pmount 7.0",
+    "0 7 pmount 7 home",
+    "0 7 pmount 7.0 home at",
+    "0 7 pmount 7.0 home 0",
+    "0 7 pmount 7.0 HOME",
+    "0 0 flush",
+    "0 0 flush 1",
+    "0 0 flush -1 1",
+    "0 0 flush 1 18446744073709551616",
+    "0 0 flush 1 2 3",
+    "0 0 flush 7.0.1 1 2",
+    "0 0 flush 1 at 2",
+    "0 0 flusho 7.0.1 1",
+    "0 0 flusho 7.0 1 2",
+    "0 0 flusho 7.0.0 1 2",
+    "0 0 flusho 1 2 7.0.1",
+    "0 0 flusho 7.0.1 1 2 3",
+    "0 0 setwindow",
+    "0 0 setwindow -1",
+    "0 0 setwindow 18446744073709551616",
+    "0 0 setwindow 7.0 1",
+    "0 0 setwindow 1 at 0",
+    "0 0 setbudget",
+    "0 0 setbudget 7.0",
+    "0 0 setbudget 7.0.1 1",
+    "0 0 setbudget 7.16 1",
+    "0 0 setbudget 4294967295.0 1",
+    "0 0 setbudget 7.0 -1",
+    "0 0 setbudget 7.0 4294967296",
+    "0 0 setbudget 1 7.0",
+    "0 0 setbudget 7.0 1 at 0",
+    "0 7 audit",
+    "0 7 audit 9",
+    "0 7 audit 4294967295 0",
+    "0 7 audit 9.0 0",
+    "0 7 audit 9 -1",
+    "0 7 audit 9 4294967296",
+    "0 7 audit 9 0 at 0",
+    "sweep",
+    "sweep -1",
+    "sweep 18446744073709551616",
+    "sweep 1 1",
+    "0 sweep 1",
+    "0 0 sweep 1",
+    "used 1",
+    "0 used",
+    "0 0 used",
+];
+
+/// Lines of arrivals that spell nothing.
+const BAD_ARRIVALS: [&str; 22] = [
+    "",
+    "5",
+    "5 1",
+    "5 1 ",
+    " 5 1 00",
+    "5  1 00",
+    "5 1 00 ",
+    "5 1 00\r",
+    "5 1 00 00",
+    "05 1 00",
+    "+5 1 00",
+    "18446744073709551616 1 00",
+    "5 01 00",
+    "5 4294967296 00",
+    "5 -1 00",
+    "5 1 0",
+    "5 1 0g",
+    "5 1 Empty",
+    "sweep",
+    "sweep 18446744073709551616",
+    "5 sweep 1",
+    "window 1",
+];
+
+/// The fields of what a line asks for.
+fn fields_of_line(alloc: Global, line: &str) -> Result<String, Fail> {
+    let line = parse_line(alloc, line.as_bytes())?;
+    Ok(format!(in alloc; "{line:?}")?)
+}
+
+/// The fields of what a line of arrivals tells.
+fn fields_of_arrival(alloc: Global, line: &str) -> Result<String, Fail> {
+    let line = parse_arrival(alloc, line.as_bytes())?;
+    Ok(format!(in alloc; "{line:?}")?)
+}
+
+#[test]
+fn lines_ask_for_these_fields(rt: HostRuntime) -> Result<(), Fail> {
+    let alloc = rt.alloc();
+    for (line, ticks) in FIRST_LINES {
+        assert!(rt;
+            parse_window(alloc, line.as_bytes()) == Ok(ticks),
+            "at {line}"
+        );
+    }
+    for (line, fields) in LINES {
+        assert!(rt;
+            fields_of_line(alloc, line)?.as_str() == fields,
+            "at {line}"
+        );
+    }
+    for (line, fields) in ARRIVALS {
+        assert!(rt;
+            fields_of_arrival(alloc, line)?.as_str() == fields,
+            "at {line}"
+        );
+    }
+    Ok(())
+}
+
+#[test]
+fn bad_lines_ask_for_nothing(rt: HostRuntime) {
+    let alloc = rt.alloc();
+    for line in BAD_LINES {
+        let parsed = parse_line(alloc, line.as_bytes());
+        assert!(rt; parsed == Err(ParseError::Bad), "at {line}");
+    }
+    for line in BAD_ARRIVALS {
+        let parsed = parse_arrival(alloc, line.as_bytes());
+        assert!(rt; parsed == Err(ParseError::Bad), "at {line}");
+    }
+}

@@ -1,0 +1,168 @@
+//! Bytes of replies, taken from the format's table and from worked examples, and their texts.
+
+use s4_codec::{ReadError, read_reply, write_reply};
+use s4_script::ReplyText;
+use s4_types::Reply;
+use std::alloc::Global;
+use std::process::Abort;
+use std::test::Fail;
+
+/// Bodies in hexadecimal digits, and the text of the reply that each spells.
+const BODIES: [(&str, &str); 44] = [
+    ("00", "done"),
+    ("010000000700000001", "made 7.0.1"),
+    ("0100000007000fffff", "made 7.15.65535"),
+    (
+        "0201000000000000000006000568656c6c6f",
+        "data 68656c6c6f by 0 since 6",
+    ),
+    ("0200000200ff", "data 00ff by admin"),
+    ("02000000", "data empty by admin"),
+    (
+        "02010fffffffffffffffff0001ab",
+        "data ab by 15 since 18446744073709551615",
+    ),
+    ("03000000", "attr empty by admin"),
+    ("0300000200ff", "attr 00ff by admin"),
+    (
+        "03010fffffffffffffffff0001ab",
+        "attr ab by 15 since 18446744073709551615",
+    ),
+    (
+        "04010f00000000000001020f000000091f",
+        "entry 15 9 31 by 15 since 258",
+    ),
+    ("04000ffffffffe1f", "entry 15 4294967294 31 by admin"),
+    ("05000000000700000001", "mounted 7.0.1 by admin"),
+    (
+        "05010100000000000000030000000900000002",
+        "mounted 9.0.2 by 1 since 3",
+    ),
+    ("060000", "names 0 end"),
+    (
+        "060104686f6d6500000007000000010101000000000000000301",
+        "names 1 more\n\
+         name home 7.0.1 by 1 since 3",
+    ),
+    (
+        "0601017800000009000000020101000000000000000301",
+        "names 1 more\n\
+         name x 9.0.2 by 1 since 3",
+    ),
+    (
+        "060203612d30000000090000000201010000000000000003017800000009000000020101000000000000\
+         000300",
+        "names 2 end\n\
+         name a-0 9.0.2 by 1 since 3\n\
+         name x 9.0.2 by 1 since 3",
+    ),
+    ("070000", "audit 0 end"),
+    (
+        "0702000000000000000800000007000000000300010000000000000008000000070000000012010000",
+        "audit 2 end\n\
+         record 8 7 0 3 range 1\n\
+         record 8 7 0 18 wide 0",
+    ),
+    (
+        "0702ffffffffffffffff00000000ffffffff120100ffffffffffffffff00000007ffffffff12000101",
+        "audit 2 more\n\
+         record 18446744073709551615 0 4294967295 18 wide 0\n\
+         record 18446744073709551615 7 4294967295 18 range 1",
+    ),
+    ("080101", "denied read"),
+    ("080102", "denied write"),
+    ("080104", "denied delete"),
+    ("080108", "denied control"),
+    ("080110", "denied recover"),
+    ("080120", "denied admin"),
+    ("0802", "no-object"),
+    ("0803", "no-partition"),
+    ("0804", "future"),
+    ("08050000000000000032", "too-old 50"),
+    ("0805ffffffffffffffff", "too-old 18446744073709551615"),
+    ("0806", "flushed"),
+    ("0807", "too-long"),
+    ("0808", "acl-full"),
+    ("0809", "no-entry"),
+    ("080a", "exists"),
+    ("080b", "parts-full"),
+    ("080c", "named"),
+    ("080d", "names-spent"),
+    ("080e00000040000000a4000000c8", "over-budget 64 164 200"),
+    (
+        "080e00000000000000d0ffffffff",
+        "over-budget 0 208 4294967295",
+    ),
+    ("080f", "bad-range"),
+    ("0810", "no-memory"),
+];
+
+/// Bodies of no reply, in hexadecimal digits.
+const BAD_BODIES: [&str; 22] = [
+    "",
+    // No kinds, and what a session alone says.
+    "09",
+    "1001",
+    "1101",
+    // A byte left over, and one too few.
+    "0000",
+    "0100000007000000",
+    // No grant, and no index of an entry.
+    "03020000",
+    "03011000000000000000060000",
+    // An entry without rights, and one with more than there are.
+    "0400000000000900",
+    "0400000000000920",
+    // More lines than a page has, fewer than their number says, and no flag.
+    "0641",
+    "060100",
+    "060002",
+    "0721",
+    // Lines of an audit with no code, no flag and no reply's code.
+    "07010000000000000008000000070000000000000000",
+    "07010000000000000008000000070000000015000000",
+    "07010000000000000008000000070000000003020000",
+    "07010000000000000008000000070000000003001000",
+    // No refusals, and no right.
+    "0800",
+    "0811",
+    "080103",
+    "080140",
+];
+
+/// That the reply is written as this body, and is told as this text.
+fn is_spelled(alloc: Global, reply: &Reply, body: &[u8], text: &str) -> Result<bool, Fail> {
+    Ok(
+        write_reply(alloc, reply)?.as_slice() == body
+            && ReplyText(reply).to_string(alloc)?.as_str() == text,
+    )
+}
+
+fn check_body(rt: &impl Abort, alloc: Global, body: &str, text: &str) -> Result<(), Fail> {
+    let body = hex::decode(alloc, body)?;
+    let reply = read_reply(alloc, &body)?;
+    assert!(rt;
+        is_spelled(alloc, &reply, &body, text)?,
+        "{text}: {reply:?}"
+    );
+    Ok(())
+}
+
+#[test]
+fn replies_are_spelled_as_these_bodies_and_texts(rt: HostRuntime) -> Result<(), Fail> {
+    for (body, text) in BODIES {
+        check_body(&rt, rt.alloc(), body, text)?;
+    }
+    Ok(())
+}
+
+#[test]
+fn bad_bodies_are_of_no_reply(rt: HostRuntime) -> Result<(), Fail> {
+    let alloc = rt.alloc();
+    for digits in BAD_BODIES {
+        let body = hex::decode(alloc, digits)?;
+        let read = read_reply(alloc, &body);
+        assert!(rt; read == Err(ReadError::Malformed), "{digits}");
+    }
+    Ok(())
+}
