@@ -23,7 +23,7 @@ const FRONTS: [(usize, &[u8], Front); 10] = [
 
 #[test]
 fn frames_at_their_borders(rt: HostRuntime) {
-    for (limit, bytes, front) in FRONTS {
-        assert!(rt; read_frame(limit, bytes) == front, "{limit} {bytes:?}");
+    for (limit, bytes, front) in &FRONTS {
+        assert!(rt; read_frame(*limit, bytes) == *front, "{limit} {bytes:?}");
     }
 }

@@ -99,7 +99,7 @@ fn is_too_big(alloc: Global, reply: &Reply) -> bool {
 fn largest_requests(rt: HostRuntime) -> Result<(), Fail> {
     let alloc = rt.alloc();
     let largest = write_of(alloc, 8177)?;
-    assert!(rt; length_of_request(alloc, &largest)? == Some(FRAME_LIMIT));
+    assert!(rt; length_of_request(alloc, &largest)? == Some(8192));
     for length in [8178, 65536] {
         let written = write_request(alloc, &write_of(alloc, length)?);
         assert!(rt; written == Err(WriteError::TooBig), "{length}");
@@ -110,6 +110,7 @@ fn largest_requests(rt: HostRuntime) -> Result<(), Fail> {
 #[test]
 fn largest_replies(rt: HostRuntime) -> Result<(), Fail> {
     let alloc = rt.alloc();
+    assert!(rt; FRAME_LIMIT == 8192);
     assert!(rt; length_of_reply(alloc, &data_of(alloc, 8188)?)? == Some(FRAME_LIMIT));
     assert!(rt; length_of_reply(alloc, &page_of(alloc, 64)?)?.is_some());
     assert!(rt; is_too_big(alloc, &data_of(alloc, 8189)?));

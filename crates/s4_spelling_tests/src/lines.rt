@@ -251,21 +251,21 @@ fn fields_of_arrival(alloc: Global, line: &str) -> Result<String, Fail> {
 #[test]
 fn lines_ask_for_these_fields(rt: HostRuntime) -> Result<(), Fail> {
     let alloc = rt.alloc();
-    for (line, ticks) in FIRST_LINES {
+    for (line, ticks) in &FIRST_LINES {
         assert!(rt;
-            parse_window(alloc, line.as_bytes()) == Ok(ticks),
+            parse_window(alloc, line.as_bytes()) == Ok(*ticks),
             "at {line}"
         );
     }
-    for (line, fields) in LINES {
+    for (line, fields) in &LINES {
         assert!(rt;
-            fields_of_line(alloc, line)?.as_str() == fields,
+            fields_of_line(alloc, line)?.as_str() == *fields,
             "at {line}"
         );
     }
-    for (line, fields) in ARRIVALS {
+    for (line, fields) in &ARRIVALS {
         assert!(rt;
-            fields_of_arrival(alloc, line)?.as_str() == fields,
+            fields_of_arrival(alloc, line)?.as_str() == *fields,
             "at {line}"
         );
     }
@@ -275,11 +275,11 @@ fn lines_ask_for_these_fields(rt: HostRuntime) -> Result<(), Fail> {
 #[test]
 fn bad_lines_ask_for_nothing(rt: HostRuntime) {
     let alloc = rt.alloc();
-    for line in BAD_LINES {
+    for line in &BAD_LINES {
         let parsed = parse_line(alloc, line.as_bytes());
         assert!(rt; parsed == Err(ParseError::Bad), "at {line}");
     }
-    for line in BAD_ARRIVALS {
+    for line in &BAD_ARRIVALS {
         let parsed = parse_arrival(alloc, line.as_bytes());
         assert!(rt; parsed == Err(ParseError::Bad), "at {line}");
     }

@@ -150,7 +150,7 @@ fn check_body(rt: &impl Abort, alloc: Global, body: &str, text: &str) -> Result<
 
 #[test]
 fn replies_are_spelled_as_these_bodies_and_texts(rt: HostRuntime) -> Result<(), Fail> {
-    for (body, text) in BODIES {
+    for (body, text) in &BODIES {
         check_body(&rt, rt.alloc(), body, text)?;
     }
     Ok(())
@@ -159,7 +159,7 @@ fn replies_are_spelled_as_these_bodies_and_texts(rt: HostRuntime) -> Result<(), 
 #[test]
 fn bad_bodies_are_of_no_reply(rt: HostRuntime) -> Result<(), Fail> {
     let alloc = rt.alloc();
-    for digits in BAD_BODIES {
+    for digits in &BAD_BODIES {
         let body = hex::decode(alloc, digits)?;
         let read = read_reply(alloc, &body);
         assert!(rt; read == Err(ReadError::Malformed), "{digits}");

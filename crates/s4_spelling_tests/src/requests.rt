@@ -89,7 +89,7 @@ fn check_body(rt: &impl Abort, alloc: Global, body: &str, line: &str) -> Result<
 
 #[test]
 fn requests_are_spelled_as_these_bodies(rt: HostRuntime) -> Result<(), Fail> {
-    for (body, line) in BODIES {
+    for (body, line) in &BODIES {
         check_body(&rt, rt.alloc(), body, line)?;
     }
     Ok(())
@@ -98,7 +98,7 @@ fn requests_are_spelled_as_these_bodies(rt: HostRuntime) -> Result<(), Fail> {
 #[test]
 fn bad_bodies_are_of_no_request(rt: HostRuntime) -> Result<(), Fail> {
     let alloc = rt.alloc();
-    for digits in BAD_BODIES {
+    for digits in &BAD_BODIES {
         let body = hex::decode(alloc, digits)?;
         let read = read_request(alloc, &body);
         assert!(rt; read == Err(ReadError::Malformed), "{digits}");
