@@ -5,6 +5,8 @@
 #[cfg(test)]
 mod desk;
 #[cfg(test)]
+mod failures;
+#[cfg(test)]
 mod memory;
 #[cfg(test)]
 mod peers;
@@ -16,5 +18,3 @@ mod stream;
 mod talks;
 #[cfg(test)]
 mod turns;
-#[cfg(test)]
-mod write_requests;

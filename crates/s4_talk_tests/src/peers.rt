@@ -12,6 +12,39 @@ pub struct Mishap {
     pub kind: ErrorKind,
 }
 
+impl Mishap {
+    pub fn at(call: u64, kind: ErrorKind) -> Mishap {
+        Mishap { call, kind }
+    }
+}
+
+/// How many bytes a reader gives at a time, or a writer takes, where it is in no way narrow.
+pub const WIDE: usize = 65536;
+
+/// A peer: what it says, how many bytes of that it gives at a time, how many it takes, and what
+/// happens to its reader and its writer.
+#[derive(Clone, Copy, Debug)]
+pub struct Peer<'a> {
+    pub said: &'a [u8],
+    pub gives: usize,
+    pub takes: usize,
+    pub at_read: Option<Mishap>,
+    pub at_write: Option<Mishap>,
+}
+
+impl<'a> Peer<'a> {
+    /// A peer that says these bytes, and is in no way narrow.
+    pub fn wide(said: &'a [u8]) -> Peer<'a> {
+        Peer {
+            said,
+            gives: WIDE,
+            takes: WIDE,
+            at_read: None,
+            at_write: None,
+        }
+    }
+}
+
 /// Gives at most so many bytes at a time.
 #[derive(Drop)]
 pub struct Source<'a> {

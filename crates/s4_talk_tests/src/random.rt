@@ -1,12 +1,11 @@
 //! Random streams: a talk is sent what the hall sends.
 
-use crate::desk::Desk;
-use crate::peers::{Sink, Source};
+use crate::peers::Peer;
 use crate::stream::{CREATE, HELLO, READ, WRITE, logins};
+use crate::talks::talk_with;
 use rand_core::utils::NextWord;
 use rand_pcg::Pcg32;
 use s4_session::Hall;
-use s4_talk::talk;
 use s4_types::Moment;
 use std::alloc::Global;
 use std::process::Abort;
@@ -80,28 +79,17 @@ fn sent_by_hall(alloc: Global, said: &[u8]) -> Result<Vec<u8>, Fail> {
     Ok(hall.arrive(1, Moment::new(5), said)?)
 }
 
-/// What a talk writes whose peer says these bytes, at most so many at a time, where all is asked at 5.
-fn sent_by_talk<H: Wait>(
-    rt: &H,
-    alloc: Global,
-    said: &[u8],
-    width: usize,
-) -> Result<Vec<u8>, Fail> {
-    let mut source = Source::new(said, width, None);
-    let mut sink = Sink::new(alloc, width, None);
-    let mut desk = Desk::open(alloc, 0);
-    let logins = logins(alloc)?;
-    talk(rt, alloc, &mut source, &mut sink, &logins, &mut desk);
-    Ok(sink.taken)
-}
-
-/// That both send the same for one stream, and how many bytes.
+/// How many bytes a talk sends for one stream, once it is seen that a hall sends the same. All is asked
+/// at 5.
 fn check_stream<R: Abort + Wait>(rt: &R, alloc: Global, dice: &mut Pcg32) -> Result<usize, Fail> {
     let said = random_stream(alloc, dice)?;
     let width = roll(dice, 64).wrapping_add(1);
-    let sent = sent_by_talk(rt, alloc, said.as_slice(), width)?;
-    let wanted = sent_by_hall(alloc, said.as_slice())?;
-    assert_eq!(rt; sent, wanted);
+    let mut peer = Peer::wide(&said);
+    peer.gives = width;
+    peer.takes = width;
+    let sent = talk_with(rt, alloc, peer, 0)?.written;
+    let wanted = sent_by_hall(alloc, &said)?;
+    assert!(rt; sent == wanted, "{said:?} {width}");
     Ok(sent.len())
 }
 

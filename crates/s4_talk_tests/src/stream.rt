@@ -11,6 +11,10 @@ pub const LOGINS: &[u8] =
 pub const HELLO: &[u8] =
     b"\x00\x00\x00\x1a\x00\x01\x00\x00\x00\x07\x00\x00\x00\x01\x00\x01\x02\x03\x04\x05\x06\x07\x08\x09\x0a\x0b\x0c\x0d\x0e\x0f";
 
+/// A Hello whose secret isn't that of 7.
+pub const BAD_HELLO: &[u8] =
+    b"\x00\x00\x00\x1a\x00\x01\x00\x00\x00\x07\x00\x00\x00\x01\x00\x01\x02\x03\x04\x05\x06\x07\x08\x09\x0a\x0b\x0c\x0d\x0e\x00";
+
 pub const CREATE: &[u8] = b"\x00\x00\x00\x02\x01\x00";
 
 /// It writes `hello`.
@@ -31,12 +35,18 @@ pub const DONE: &[u8] = b"\x00\x00\x00\x01\x00";
 pub const DATA: &[u8] =
     b"\x00\x00\x00\x12\x02\x01\x00\x00\x00\x00\x00\x00\x00\x00\x06\x00\x05hello";
 
+/// The refusal of a write behind which an object would have more data than it may have.
+pub const TOO_LONG: &[u8] = b"\x00\x00\x00\x02\x08\x07";
+
 /// The faults: a body that may not stand there, a login that is none, a length that no frame has.
 pub const MALFORMED: &[u8] = b"\x00\x00\x00\x02\x11\x01";
 
 pub const BAD_LOGIN: &[u8] = b"\x00\x00\x00\x02\x11\x02";
 
 pub const BAD_LENGTH: &[u8] = b"\x00\x00\x00\x02\x11\x03";
+
+/// Where the answers of the stream begin among the bytes that are sent.
+pub const REPLIES_START: [usize; 3] = [6, 19, 24];
 
 /// The frames of the stream, each with what is sent for it.
 pub const EXCHANGES: [(&[u8], &[u8]); 4] = [
@@ -67,16 +77,7 @@ pub fn stream(alloc: Global) -> Result<Vec<u8>, Fail> {
     joined(alloc, &[HELLO, CREATE, WRITE, READ])
 }
 
-/// What is sent for the stream's first bytes, so many of them: for each frame that is whole.
-pub fn sent_for_first(alloc: Global, count: usize) -> Result<Vec<u8>, Fail> {
-    let mut sent = Vec::new(alloc);
-    let mut left = count;
-    for (frame, reply) in EXCHANGES {
-        if left < frame.len() {
-            return Ok(sent);
-        }
-        left -= frame.len();
-        sent.extend_from_slice(reply)?;
-    }
-    Ok(sent)
+/// All that is sent for the stream.
+pub fn replies(alloc: Global) -> Result<Vec<u8>, Fail> {
+    joined(alloc, &[WELCOME, MADE, DONE, DATA])
 }

@@ -1,20 +1,55 @@
 //! Turns with a reader and a writer that don't wait.
 
 use crate::desk::Desk;
-use crate::peers::{Mishap, Sink, Source};
+use crate::peers::{Mishap, Sink, Source, WIDE};
 use crate::stream::{
     CREATE, DATA, DONE, HELLO, MADE, READ, WELCOME, WRITE, joined, logins, stream,
 };
+use s4_session::Logins;
 use s4_talk::{TalkEnd, Talking, TurnEnd};
+use std::alloc::Global;
 use std::io::ErrorKind;
 use std::test::Fail;
 
+/// A talk with a fresh drive, and what takes the bytes that are sent.
+#[derive(Drop)]
+struct Table {
+    talking: Talking,
+    desk: Desk,
+    sink: Sink,
+}
+
+impl Table {
+    fn open(alloc: Global, sink: Sink) -> Table {
+        Table {
+            talking: Talking::open(alloc),
+            desk: Desk::open(alloc, 1),
+            sink,
+        }
+    }
+
+    /// How a turn ends whose peer says these bytes.
+    fn turn(&mut self, logins: &Logins, source: &mut Source<'_>) -> TurnEnd {
+        self.talking
+            .turn(logins, source, &mut self.sink, &mut self.desk)
+    }
+
+    /// That these are the bytes that were sent by now.
+    fn has_sent(&self, pieces: &[&[u8]]) -> bool {
+        let mut left = self.sink.taken.as_slice();
+        for piece in pieces {
+            match left.strip_prefix(*piece) {
+                Some(rest) => left = rest,
+                None => return false,
+            }
+        }
+        left.is_empty()
+    }
+}
+
 /// The call of a reader or a writer that tells that it would wait.
 fn waits(call: u64) -> Option<Mishap> {
-    Some(Mishap {
-        call,
-        kind: ErrorKind::WouldBlock,
-    })
+    Some(Mishap::at(call, ErrorKind::WouldBlock))
 }
 
 #[test]
@@ -22,32 +57,19 @@ fn a_turn_goes_on_where_the_last_one_stopped(rt: HostRuntime) -> Result<(), Fail
     let alloc = rt.alloc();
     let logins = logins(alloc)?;
     let said = joined(alloc, &[HELLO, CREATE])?;
-    let mut desk = Desk::open(alloc, 1);
-    let mut talking = Talking::open(alloc);
-    let mut sink = Sink::new(alloc, 4, waits(1));
-    let mut source = Source::new(said.as_slice(), 36, waits(1));
-    assert_eq!(&rt;
-        talking.turn(&logins, &mut source, &mut sink, &mut desk),
-        TurnEnd::Stuck
-    );
-    assert_eq!(&rt; sink.taken.as_slice(), b"\x00\x00\x00\x02".as_slice());
-    assert_eq!(&rt; desk.carried_out(), 1);
-    assert_eq!(&rt;
-        talking.turn(&logins, &mut source, &mut sink, &mut desk),
-        TurnEnd::Waits
-    );
-    let sent = joined(alloc, &[WELCOME, MADE])?;
-    assert_eq!(&rt; sink.taken.as_slice(), sent.as_slice());
     let more = joined(alloc, &[WRITE, READ])?;
-    let mut source = Source::new(more.as_slice(), 1000, None);
-    assert_eq!(&rt;
-        talking.turn(&logins, &mut source, &mut sink, &mut desk),
-        TurnEnd::More
-    );
-    let sent = joined(alloc, &[WELCOME, MADE, DONE, DATA])?;
-    assert_eq!(&rt; sink.taken.as_slice(), sent.as_slice());
-    let end = talking.turn(&logins, &mut source, &mut sink, &mut desk);
-    assert_eq!(&rt; end, TurnEnd::Ended(TalkEnd::PeerClosed));
+    let mut table = Table::open(alloc, Sink::new(alloc, 4, waits(1)));
+    let mut source = Source::new(&said, 36, waits(1));
+    assert!(rt; table.turn(&logins, &mut source) == TurnEnd::Stuck);
+    assert!(rt; table.has_sent(&[b"\x00\x00\x00\x02"]));
+    assert!(rt; table.desk.carried_out() == 1);
+    assert!(rt; table.turn(&logins, &mut source) == TurnEnd::Waits);
+    assert!(rt; table.has_sent(&[WELCOME, MADE]));
+    let mut source = Source::new(&more, 1000, None);
+    assert!(rt; table.turn(&logins, &mut source) == TurnEnd::More);
+    assert!(rt; table.has_sent(&[WELCOME, MADE, DONE, DATA]));
+    let end = table.turn(&logins, &mut source);
+    assert!(rt; end == TurnEnd::Ended(TalkEnd::PeerClosed));
     Ok(())
 }
 
@@ -56,16 +78,10 @@ fn replies_to_one_read_are_one_write(rt: HostRuntime) -> Result<(), Fail> {
     let alloc = rt.alloc();
     let logins = logins(alloc)?;
     let all = stream(alloc)?;
-    let mut desk = Desk::open(alloc, 1);
-    let mut talking = Talking::open(alloc);
-    let mut sink = Sink::new(alloc, 65536, None);
-    let mut source = Source::new(all.as_slice(), 65536, None);
-    assert_eq!(&rt;
-        talking.turn(&logins, &mut source, &mut sink, &mut desk),
-        TurnEnd::More
-    );
-    assert_eq!(&rt; source.calls, 1);
-    assert_eq!(&rt; sink.calls, 1);
-    assert_eq!(&rt; sink.taken.len(), 46);
+    let mut table = Table::open(alloc, Sink::new(alloc, WIDE, None));
+    let mut source = Source::new(&all, WIDE, None);
+    assert!(rt; table.turn(&logins, &mut source) == TurnEnd::More);
+    assert!(rt; source.calls == 1 && table.sink.calls == 1);
+    assert!(rt; table.sink.taken.len() == 46);
     Ok(())
 }
