@@ -1,4 +1,5 @@
-//! Tests of what requests and replies are written as: as bytes, and as the lines of scripts and arrivals.
+//! Tests of what requests and replies are written as: as bytes, and as the lines of scripts and
+//! arrivals.
 #![tactic(auto)]
 
 #[cfg(test)]

@@ -1,5 +1,5 @@
-//! What the lines of scripts and arrivals ask for, told with the names of all fields, and lines that
-//! ask for nothing.
+//! What the lines of scripts and arrivals ask for, told with the names of all fields, and lines
+//! that ask for nothing.
 
 use s4_script::{ParseError, parse_arrival, parse_line, parse_window};
 use std::alloc::Global;

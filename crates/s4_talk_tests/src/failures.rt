@@ -10,8 +10,8 @@ use std::process::Abort;
 use std::sync::Wait;
 use std::test::Fail;
 
-/// What comes of the stream's first bytes, so many of them: each frame that is whole is answered, and
-/// all but the first one, the Hello, are carried out.
+/// What comes of the stream's first bytes, so many of them: each frame that is whole is answered,
+/// and all but the first one, the Hello, are carried out.
 fn outcome_of_first(alloc: Global, count: usize, end: TalkEnd) -> Result<Outcome, Fail> {
     let mut written = Vec::new(alloc);
     let mut answered: usize = 0;
@@ -75,8 +75,8 @@ fn each_read_may_fail(rt: HostRuntime) -> Result<(), Fail> {
 }
 
 /// What comes of the stream where only the replies' first bytes could be written, so many of them.
-/// Where each byte is read by itself, each reply is written before the next request is read; where all
-/// come at once, all requests are carried out before the first write.
+/// Where each byte is read by itself, each reply is written before the next request is read; where
+/// all come at once, all requests are carried out before the first write.
 fn outcome_of_writing(alloc: Global, count: usize, reads_bytes: bool) -> Result<Outcome, Fail> {
     let mut written = replies(alloc)?;
     written.truncate(count);

@@ -31,8 +31,8 @@ fn count_frames(written: &[u8]) -> (usize, usize) {
     (frames, wanting)
 }
 
-/// That all requests were answered, but behind want of memory that ended the talk; and that what was
-/// carried out is what was answered, but for the last request there.
+/// That all requests were answered, but behind want of memory that ended the talk; and that what
+/// was carried out is what was answered, but for the last request there.
 fn is_as_answered(outcome: &Outcome) -> bool {
     let (frames, wanting) = count_frames(&outcome.written);
     let told = frames.saturating_sub(1).saturating_sub(wanting);

@@ -49,8 +49,8 @@ fn add_frame(stream: &mut Vec<u8>, dice: &mut Pcg32) -> Result<(), Fail> {
     Ok(())
 }
 
-/// A stream: mostly with a Hello before all else, then frames of requests, some of them at random, and
-/// here and there bytes that are no frame.
+/// A stream: mostly with a Hello before all else, then frames of requests, some of them at random,
+/// and here and there bytes that are no frame.
 fn random_stream(alloc: Global, dice: &mut Pcg32) -> Result<Vec<u8>, Fail> {
     let mut stream = Vec::new(alloc);
     if roll(dice, 16) > 0 {
@@ -79,8 +79,8 @@ fn sent_by_hall(alloc: Global, said: &[u8]) -> Result<Vec<u8>, Fail> {
     Ok(hall.arrive(1, Moment::new(5), said)?)
 }
 
-/// How many bytes a talk sends for one stream, once it is seen that a hall sends the same. All is asked
-/// at 5.
+/// How many bytes a talk sends for one stream, once it is seen that a hall sends the same. All is
+/// asked at 5.
 fn check_stream<R: Abort + Wait>(rt: &R, alloc: Global, dice: &mut Pcg32) -> Result<usize, Fail> {
     let said = random_stream(alloc, dice)?;
     let width = roll(dice, 64).wrapping_add(1);
