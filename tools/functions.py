@@ -13,6 +13,7 @@ class Function:
     """A function of a crate: its path as the check prints it, and its rows in its file."""
 
     path: str
+    file: str
     first: int
     last: int
 
@@ -90,7 +91,7 @@ def functions_of(crate, file, text):
             owners.append((name, end_of(lines, row, (impl or trait)[1])))
         elif function:
             names = [crate, *module_of(file), *[it[0] for it in owners], function[2]]
-            found.append(Function("::".join(names), row, end_of(lines, row, function[1])))
+            found.append(Function("::".join(names), file, row, end_of(lines, row, function[1])))
     return found
 
 

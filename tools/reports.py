@@ -6,7 +6,7 @@ import tempfile
 
 OF_FUNCTION = re.compile(r"fn (\S+?)(?:;|:) (proved|no proof|not proved|could not tell)(.*)")
 CALLS = re.compile(r"[:;] it (?:calls|waits)")
-OF_TEXT = re.compile(r"(?:note: )?(?:\./)?((?:src|specs|proofs)/[^\s:]+):\d+:\d+: (.*)")
+OF_TEXT = re.compile(r"(?:note: )?(?:\./)?((?:src|specs|proofs)/[^\s:]+):(\d+):\d+: (.*)")
 # A written proof that names what an edit took away, and what cites that proof.
 NAMES = re.compile(r"has no field|is not in scope|has no `|was not admitted")
 UNREAD = re.compile(r"is not in scope|has no field|is no name|operand is missing|expected the end|cannot continue")
@@ -20,7 +20,7 @@ class Report:
         self.status, self.lines = status, text.rstrip("\n").split("\n")
         self.is_proved = status == 0
         self.is_refused = status == 1 and any(it.startswith("logic=not-proved") for it in self.lines)
-        self.texts = [(it[1], it[2]) for it in map(OF_TEXT.match, self.lines) if it]
+        self.texts = [(it[1], int(it[2]), it[3]) for it in map(OF_TEXT.match, self.lines) if it]
         self.functions = {it[1]: (it[2], it[3]) for it in map(OF_FUNCTION.match, self.lines) if it}
 
     def against(self, function):
@@ -29,11 +29,17 @@ class Report:
         for path, (verdict, rest) in self.functions.items():
             is_inside = path == whole or path.startswith(inner(whole))
             if is_inside and verdict in ("no proof", "not proved") and not CALLS.match(rest):
-                said = [text for file, text in self.texts if file.startswith(proofs_of(path)) and text.startswith("error")]
+                said = [text for file, _, text in self.texts if file.startswith(proofs_of(path)) and text.startswith("error")]
                 if said and all(NAMES.search(it) for it in said):
-                    return None
+                    said = self.open_goals(function)
+                    if not said:
+                        return None
                 return f"fn {path}: {verdict}{(': ' + said[0] if said else rest)[:110]}"
         return None
+
+    def open_goals(self, function):
+        """What is said to be not proved at the rows of a function."""
+        return [text for file, row, text in self.texts if file == function.file and function.first < row <= function.last + 1]
 
     def path_of(self, function):
         """The path that the check has for a function. A method may stand in another module than its type, by which it is named."""
@@ -42,7 +48,7 @@ class Report:
 
     def against_any(self):
         """What refuses the crate, where more is said than that a written proof names what went."""
-        told = [(file, text) for file, text in self.texts if text.startswith("error") or file.startswith("src/")]
+        told = [(file, text) for file, _, text in self.texts if text.startswith("error") or file.startswith("src/")]
         first = next((it for it in told if not (it[0].startswith("proofs/") and NAMES.search(it[1]))), None)
         return f"{first[0]}: {first[1][:110]}" if first else None
 

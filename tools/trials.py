@@ -117,7 +117,7 @@ class Trials:
     def judge_alone(self, edit, report):
         """Says what the check of one edit alone comes to."""
         files = {it.file for it in edit.changes}
-        unread = next((text for file, text in report.texts if file in files and text.startswith("error: ") and UNREAD.search(text)), None)
+        unread = next((text for file, _, text in report.texts if file in files and text.startswith("error: ") and UNREAD.search(text)), None)
         if report.is_proved:
             self.miss(edit, "NOT REFUSED: the crate is still proved with this edit")
         elif any(LIMITS.search(it) for it in report.lines) and not report.is_refused:
