@@ -12,8 +12,8 @@ pub const SECRET: [u8; 16] = [0, 1, 2, 3, 4, 5, 6, 7, 8, 9, 10, 11, 12, 13, 14, 
 
 pub const OTHER_SECRET: [u8; 16] = [0, 1, 2, 3, 4, 5, 6, 7, 8, 9, 10, 11, 12, 13, 14, 14];
 
-/// The call at that address of principal 7 as client 1, who says this secret, for what the words of the
-/// line spell.
+/// The call at that address of principal 7 as client 1, who says this secret, for what the words of
+/// the line spell.
 pub fn call_for(
     alloc: Global,
     address: &str,

@@ -1,194 +1,117 @@
-//! Calls, by what their peer says.
+//! Calls over peers that are narrow, and over ones that fail.
 
-use crate::client_peers::{CREATE, HELLO, MADE, Sink, Source, WELCOME, hears, says};
+use crate::answers::{Answer, LOST, is_answer};
+use crate::client_peers::{Failure, Sink, Source};
+use crate::frames::{ANSWER, CALL, joined};
 use s4_client::{CallFault, call};
-use s4_session::Fault;
-use s4_types::{ObjectId, Principal, Purse, PurseNo, Refusal, Reply, Right, Serial};
 use std::alloc::Global;
 use std::io::ErrorKind;
 use std::process::Abort;
 use std::test::Fail;
 
-/// The pieces, one behind the other.
-fn joined(alloc: Global, pieces: &[&[u8]]) -> Result<Vec<u8>, Fail> {
-    let mut all = Vec::new(alloc);
-    for piece in pieces {
-        all.extend_from_slice(piece)?;
-    }
-    Ok(all)
+/// What a peer says, how many bytes it says and hears at a time, and where that fails.
+#[derive(Clone, Copy, Debug)]
+struct Peer<'a> {
+    says: &'a [u8],
+    width: usize,
+    reading: Failure,
+    writing: Failure,
 }
 
-/// What a call is answered whose peer says these bytes.
-fn answer(alloc: Global, said: &[u8]) -> Result<Reply, CallFault> {
-    call(alloc, &mut says(said), &mut hears(alloc), CREATE)
-}
-
-fn made() -> Result<Reply, Fail> {
-    Ok(Reply::Made(ObjectId {
-        purse: Purse {
-            creator: Principal::new(7).ok_or("a principal")?,
-            number: PurseNo::new(0).ok_or("a purse number")?,
-        },
-        serial: Serial::new(1).ok_or("a serial")?,
-    }))
+/// That a call is answered so by a peer, who takes these bytes of it.
+fn check<R: Abort>(
+    rt: &R,
+    alloc: Global,
+    peer: Peer,
+    wanted: &Answer,
+    taken: &[u8],
+) -> Result<(), Fail> {
+    let mut reader = Source {
+        bytes: peer.says,
+        width: peer.width,
+        calls: 0,
+        fails: peer.reading,
+    };
+    let mut writer = Sink {
+        taken: Vec::new(alloc),
+        width: peer.width,
+        calls: 0,
+        fails: peer.writing,
+    };
+    let answer = call(alloc, &mut reader, &mut writer, CALL);
+    let is_as_wanted = is_answer(&answer, wanted) && writer.taken.as_slice() == taken;
+    assert!(rt; is_as_wanted, "{peer:?}: {answer:?}");
+    Ok(())
 }
 
 /// The message goes out in one write. What is said behind the reply isn't heard.
 #[test]
 fn a_call_is_answered(rt: HostRuntime) -> Result<(), Fail> {
     let alloc = rt.alloc();
-    let message = joined(alloc, &[HELLO, CREATE])?;
-    let said = joined(alloc, &[WELCOME, MADE, b"\x00"])?;
-    let mut reader = says(said.as_slice());
-    let mut writer = hears(alloc);
-    let reply = call(alloc, &mut reader, &mut writer, message.as_slice());
-    assert_eq!(rt; reply, Ok(made()?));
-    assert_eq!(rt; reader.bytes, b"\x00".as_slice());
-    assert_eq!(rt; writer.taken.as_slice(), message.as_slice());
+    let said = joined(alloc, &[ANSWER, b"\x00"])?;
+    let mut reader = Source {
+        bytes: said.as_slice(),
+        width: 65536,
+        calls: 0,
+        fails: None,
+    };
+    let mut writer = Sink {
+        taken: Vec::new(alloc),
+        width: 65536,
+        calls: 0,
+        fails: None,
+    };
+    let answer = call(alloc, &mut reader, &mut writer, CALL);
+    assert!(rt; is_answer(&answer, &Answer::Made), "{answer:?}");
+    assert!(rt; reader.bytes == b"\x00".as_slice());
+    assert!(rt; writer.taken.as_slice() == CALL);
     assert_eq!(rt; writer.calls, 1);
     Ok(())
 }
 
-/// That a call is answered by a peer that says and hears so many bytes at a time, and is interrupted once.
-fn check_narrow<R: Abort>(rt: &R, alloc: Global, width: usize) -> Result<(), Fail> {
-    let message = joined(alloc, &[HELLO, CREATE])?;
-    let said = joined(alloc, &[WELCOME, MADE])?;
-    let interrupted = Some((1, ErrorKind::Interrupted));
-    let mut reader = Source {
-        bytes: said.as_slice(),
-        width,
-        calls: 0,
-        fails: interrupted,
-    };
-    let mut writer = Sink {
-        taken: Vec::new(alloc),
-        width,
-        calls: 0,
-        fails: interrupted,
-    };
-    let reply = call(alloc, &mut reader, &mut writer, message.as_slice());
-    assert_eq!(rt; reply, Ok(made()?));
-    assert_eq!(rt; writer.taken.as_slice(), message.as_slice());
-    Ok(())
-}
-
+/// Peers that are interrupted once; ones that say no more, or whose reader fails, at each byte of
+/// the answer; ones whose writer fails at each byte of the call.
 #[test]
-fn narrow_peers_change_nothing(rt: HostRuntime) -> Result<(), Fail> {
+fn narrow_peers_change_nothing_and_broken_ones_are_lost(rt: HostRuntime) -> Result<(), Fail> {
+    let alloc = rt.alloc();
+    let whole = Peer {
+        says: ANSWER,
+        width: 1,
+        reading: None,
+        writing: None,
+    };
     for width in [1, 2, 3, 4, 5, 7, 16, 35] {
-        check_narrow(&rt, rt.alloc(), width)?;
-    }
-    Ok(())
-}
-
-#[test]
-fn a_refusal_is_a_reply(rt: HostRuntime) -> Result<(), Fail> {
-    let alloc = rt.alloc();
-    let said = joined(alloc, &[WELCOME, b"\x00\x00\x00\x03\x08\x01\x01"])?;
-    let denied = Reply::Refused(Refusal::Denied(Right::Read));
-    assert_eq!(rt; answer(alloc, said.as_slice()), Ok(denied));
-    Ok(())
-}
-
-/// In the place of the Welcome, and in that of the reply.
-#[test]
-fn a_fault_of_the_session_is_told(rt: HostRuntime) -> Result<(), Fail> {
-    let alloc = rt.alloc();
-    for (fault, frame) in [
-        (Fault::Malformed, b"\x00\x00\x00\x02\x11\x01".as_slice()),
-        (Fault::BadLogin, b"\x00\x00\x00\x02\x11\x02"),
-        (Fault::FrameLength, b"\x00\x00\x00\x02\x11\x03"),
-    ] {
-        let told = Err(CallFault::Session(fault));
-        assert_eq!(rt; answer(alloc, frame), told);
-        let said = joined(alloc, &[WELCOME, frame])?;
-        let told = Err(CallFault::Session(fault));
-        assert_eq!(rt; answer(alloc, said.as_slice()), told);
-    }
-    Ok(())
-}
-
-/// Where a peer says no more, and where its reader fails there.
-#[test]
-fn a_peer_that_ends_anywhere_is_lost(rt: HostRuntime) -> Result<(), Fail> {
-    let alloc = rt.alloc();
-    let said = joined(alloc, &[WELCOME, MADE])?;
-    for count in 0..said.len() {
-        let told = answer(alloc, &said[..count]);
-        assert_eq!(rt; told, Err(CallFault::ConnectionLost), "{count}");
-        let mut reader = Source {
-            bytes: said.as_slice(),
-            width: 1,
-            calls: 0,
-            fails: Some((count as u64, ErrorKind::ConnectionReset)),
+        let interrupted = Some((1, ErrorKind::Interrupted));
+        let peer = Peer {
+            says: ANSWER,
+            width,
+            reading: interrupted,
+            writing: interrupted,
         };
-        let told = call(alloc, &mut reader, &mut hears(alloc), CREATE);
-        assert_eq!(rt; told, Err(CallFault::ConnectionLost), "{count}");
+        check(&rt, alloc, peer, &Answer::Made, CALL)?;
+    }
+    for count in 0..ANSWER.len() {
+        let mut peer = whole;
+        peer.reading = Some((count as u64, ErrorKind::ConnectionReset));
+        check(&rt, alloc, peer, &LOST, CALL)?;
+        let mut peer = whole;
+        peer.says = &ANSWER[..count];
+        peer.width = 65536;
+        check(&rt, alloc, peer, &LOST, CALL)?;
+    }
+    for count in 0..CALL.len() {
+        let mut peer = whole;
+        peer.writing = Some((count as u64, ErrorKind::BrokenPipe));
+        check(&rt, alloc, peer, &LOST, &CALL[..count])?;
     }
     Ok(())
 }
 
 #[test]
-fn a_message_that_is_not_taken_is_lost(rt: HostRuntime) -> Result<(), Fail> {
-    let alloc = rt.alloc();
-    let message = joined(alloc, &[HELLO, CREATE])?;
-    let said = joined(alloc, &[WELCOME, MADE])?;
-    for count in 0..message.len() {
-        let mut writer = Sink {
-            taken: Vec::new(alloc),
-            width: 1,
-            calls: 0,
-            fails: Some((count as u64, ErrorKind::BrokenPipe)),
-        };
-        let told = call(
-            alloc,
-            &mut says(said.as_slice()),
-            &mut writer,
-            message.as_slice(),
-        );
-        assert_eq!(rt; told, Err(CallFault::ConnectionLost), "{count}");
-        assert_eq!(rt; writer.taken.as_slice(), &message[..count]);
-    }
+fn a_call_that_has_no_room_is_lost(rt: HostRuntime) -> Result<(), Fail> {
     let mut room = [0; 8];
-    let told = call(
-        alloc,
-        &mut says(said.as_slice()),
-        &mut room.as_mut_slice(),
-        message.as_slice(),
-    );
-    assert_eq!(rt; told, Err(CallFault::ConnectionLost));
-    Ok(())
-}
-
-/// Another kind or version in the place of the Welcome; lengths that no frame has; bodies that are no reply.
-#[test]
-fn what_spells_nothing_is_lost(rt: HostRuntime) -> Result<(), Fail> {
-    let alloc = rt.alloc();
-    for frame in [
-        MADE,
-        b"\x00\x00\x00\x02\x10\x02",
-        b"\x00\x00\x00\x03\x10\x01\x00",
-        b"\x00\x00\x00\x02\x11\x00",
-        b"\x00\x00\x00\x02\x11\x04",
-        b"\x00\x00\x00\x03\x11\x01\x00",
-        b"\x00\x00\x00\x00",
-        b"\x00\x00\x20\x01",
-        b"\xff\xff\xff\xff",
-    ] {
-        let said = joined(alloc, &[frame, WELCOME, MADE])?;
-        let told = answer(alloc, said.as_slice());
-        assert_eq!(rt; told, Err(CallFault::ConnectionLost), "{frame:?}");
-    }
-    for frame in [
-        WELCOME,
-        CREATE,
-        b"\x00\x00\x00\x02\x00\x00",
-        b"\x00\x00\x00\x01\x09",
-        b"\x00\x00\x00\x00",
-        b"\x00\x00\x20\x01",
-    ] {
-        let said = joined(alloc, &[WELCOME, frame, MADE])?;
-        let told = answer(alloc, said.as_slice());
-        assert_eq!(rt; told, Err(CallFault::ConnectionLost), "{frame:?}");
-    }
+    let mut answer = ANSWER;
+    let told = call(rt.alloc(), &mut answer, &mut room.as_mut_slice(), CALL);
+    assert!(rt; told == Err(CallFault::ConnectionLost));
     Ok(())
 }

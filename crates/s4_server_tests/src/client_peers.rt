@@ -1,28 +1,18 @@
 //! Peers in memory: narrow ones, and ones that fail.
 
-use std::alloc::Global;
 use std::io;
 use std::io::{Error, ErrorKind, Read, Write};
 
-/// The frame of the Hello of principal 7 as client 1.
-pub const HELLO: &[u8] =
-    b"\x00\x00\x00\x1a\x00\x01\x00\x00\x00\x07\x00\x00\x00\x01\x00\x01\x02\x03\x04\x05\x06\x07\x08\x09\x0a\x0b\x0c\x0d\x0e\x0f";
+/// The call of this number fails so, from 0 on.
+pub type Failure = Option<(u64, ErrorKind)>;
 
-/// The frame of a Create in purse 0.
-pub const CREATE: &[u8] = b"\x00\x00\x00\x02\x01\x00";
-
-pub const WELCOME: &[u8] = b"\x00\x00\x00\x02\x10\x01";
-
-/// The frame of the reply to the first Create: the object 7.0.1.
-pub const MADE: &[u8] = b"\x00\x00\x00\x09\x01\x00\x00\x00\x07\x00\x00\x00\x01";
-
-/// Gives at most so many bytes at a time; the call of that number fails, from 0 on.
+/// Gives at most so many bytes at a time; one of its calls may fail.
 #[derive(Drop)]
 pub struct Source<'a> {
     pub bytes: &'a [u8],
     pub width: usize,
     pub calls: u64,
-    pub fails: Option<(u64, ErrorKind)>,
+    pub fails: Failure,
 }
 
 impl Read for Source<'_> {
@@ -39,13 +29,13 @@ impl Read for Source<'_> {
     }
 }
 
-/// Takes at most so many bytes at a time; the call of that number fails, from 0 on.
+/// Takes at most so many bytes at a time; one of its calls may fail.
 #[derive(Drop)]
 pub struct Sink {
     pub taken: Vec<u8>,
     pub width: usize,
     pub calls: u64,
-    pub fails: Option<(u64, ErrorKind)>,
+    pub fails: Failure,
 }
 
 impl Write for Sink {
@@ -64,25 +54,5 @@ impl Write for Sink {
 
     fn flush(&mut self) -> io::Result<()> {
         Ok(())
-    }
-}
-
-/// A peer that says these bytes.
-pub fn says(bytes: &[u8]) -> Source<'_> {
-    Source {
-        bytes,
-        width: 65536,
-        calls: 0,
-        fails: None,
-    }
-}
-
-/// A peer that hears.
-pub fn hears(alloc: Global) -> Sink {
-    Sink {
-        taken: Vec::new(alloc),
-        width: 65536,
-        calls: 0,
-        fails: None,
     }
 }

@@ -1,8 +1,10 @@
-//! Tests of calls of a served drive, over bytes that are known and over TCP, of the commands that call
-//! and serve one, and of the server, on ports of this machine. What is proved stands in `s4_client`,
-//! `s4_commands` and `s4_server`.
+//! Tests of calls of a served drive, over bytes that are known and over TCP, of what the commands
+//! of `s4d` read and write, and of the server, on a port of this machine. What is proved stands in
+//! `s4_client`, `s4_commands` and `s4_server`.
 #![tactic(auto)]
 
+#[cfg(test)]
+mod answers;
 #[cfg(test)]
 mod asking;
 #[cfg(test)]
@@ -12,14 +14,12 @@ mod client_messages;
 #[cfg(test)]
 mod client_peers;
 #[cfg(test)]
-mod commands_calls;
+mod commands;
 #[cfg(test)]
-mod commands_served;
+mod faults;
 #[cfg(test)]
 mod frames;
 #[cfg(test)]
-mod peers;
+mod scenes;
 #[cfg(test)]
-mod serving;
-#[cfg(test)]
-mod silent;
+mod served;

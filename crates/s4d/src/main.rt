@@ -5,14 +5,6 @@ ghost use Rattle.std.specs.Prelude.{◌≡◌, IsOk, IfErr};
 ghost use Rattle.std.specs.Process.{exit_status as code_of};
 ghost use Rattle.s4_commands.specs.Faults.{exit_status};
 
-#[cfg(test)]
-mod calling_tests;
-mod command_line;
-#[cfg(test)]
-mod serving_tests;
-#[cfg(test)]
-mod tests;
-
 use s4_commands::{Command, Fault, FaultText, obey};
 use s4_run::RunFault;
 use std::io;
@@ -25,7 +17,7 @@ use std::thread::Threads;
 use std::time::Clock;
 
 fn main(rt: HostRuntime) -> ExitCode {
-    let outcome = command_line::given(&rt).and_then(|command| answer(&rt, &command));
+    let outcome = s4_command_line::given(&rt).and_then(|command| answer(&rt, &command));
     ended(&rt, &outcome)
 }
 
@@ -55,6 +47,8 @@ fn answer<
         + Print
         + AllocGlobal,
 >(rt: &R, command: &Command) -> Result<(), Fault> {
-    let mut output = BufWriter::new(rt.alloc(), io::writer(rt)).map_err(RunFault::writing)?;
-    obey(rt, command, rt.reader(), &mut output)
+    match BufWriter::new(rt.alloc(), io::writer(rt)) {
+        Ok(mut output) => obey(rt, command, rt.reader(), &mut output),
+        Err(error) => Err(Fault::Run(RunFault::writing(error))),
+    }
 }

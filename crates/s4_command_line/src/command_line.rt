@@ -1,4 +1,4 @@
-//! The command line.
+//! The command that a command line spells, or the fault of one that spells none.
 
 ghost use Rattle.std.specs.Prelude.{◌≡◌, ◌≢◌, ◌≤◌, ◌⊎◌, IfOk, Err, codes};
 ghost use Rattle.clap.specs.Matches.{found_of};
@@ -9,10 +9,14 @@ ghost use Rattle.s4_session.specs.LoginText.{principal_in};
 ghost use Rattle.s4_commands.specs.Faults.{IsFaultOf};
 ghost use Rattle.s4_commands.specs.declared.fault.Fault.TheVariants as fault;
 ghost use Rattle.s4_run.specs.declared.fault.RunFault.TheVariants as run_fault;
-ghost use Rattle.s4d.specs.Words.{IsCallOf, IsForTenant, IsHelloOf, client_in, fault_of_request, word_of};
+ghost use Rattle.s4_command_line.specs.Words.{IsCallOf, IsForTenant, IsHelloOf, client_in, fault_of_request, word_of};
 
+use crate::parser::{
+    ADDRESS, CELLS, CLIENT, CONNECTIONS, IDLE, LOGINS, OPEN, SECRET, WHO, WINDOW, WORD, WORKERS,
+    parser,
+};
 use clap::error::ErrorKind;
-use clap::{Arg, ArgMatches, Command as Parser, Error};
+use clap::{ArgMatches, Error};
 use s4_client::CallFault;
 use s4_commands::{Call, Command, Fault, Service};
 use s4_run::RunFault;
@@ -20,84 +24,9 @@ use s4_script::{ParseError, parse_number, parse_principal, parse_request};
 use s4_server::Settings;
 use s4_session::{Hello, principal_in, secret_in};
 use s4_types::{Caller, Principal, Request};
-use std::alloc::{AllocError, Global};
+use std::alloc::Global;
 use std::rt::Env;
 use std::{env, io};
-
-/// The version of the program. A build is told no commit, so it names none.
-const VERSION: &str = "0.1.0";
-
-/// What the help ends with.
-const PAGES: &str = "\
-Example: s4d run < examples/intrusion.script
-docs/TUTORIAL.md tells that example step by step; docs/SCRIPTS.md says what each line asks and is answered.";
-
-/// How `run` is called.
-const RUN_USAGE: &str = "s4d run < SCRIPT (the script goes to standard input)";
-
-/// What the help of `run` ends with.
-const RUN_PAGES: &str = "\
-The script is read to its end before its first line is run.
-
-Example: s4d run < examples/first.script
-docs/SCRIPTS.md says what each line asks and is answered.";
-
-/// How `hall` is called.
-const HALL_USAGE: &str = "s4d hall <LOGINS> < ARRIVALS (the arrivals go to standard input)";
-
-/// What the help of `hall` ends with.
-const HALL_PAGES: &str = "\
-Example: s4d hall examples/first.logins < examples/first.arrivals
-docs/SCRIPTS.md has the lines of both files under \"Arrivals\"; docs/PROTOCOL.md has the bytes.";
-
-/// How `strike` is called.
-const STRIKE_USAGE: &str = "s4d strike <WHO> < SCRIPT (the script goes to standard input)";
-
-/// What the help of `strike` ends with.
-const STRIKE_PAGES: &str = "\
-The principal is replied the same by the whole script and by what is written.
-
-Example: s4d strike 8 < examples/intrusion.script | s4d run
-docs/TUTORIAL.md tells that example; docs/SCRIPTS.md says which lines stay.";
-
-/// What the help of `serve` ends with.
-const SERVE_PAGES: &str = "\
-Example: s4d serve 127.0.0.1:4710 examples/first.logins
-docs/OPERATIONS.md says what it writes, what it holds in memory, and what ends it.";
-
-/// What the help of `call` ends with.
-const CALL_PAGES: &str = "\
-Example: s4d call 127.0.0.1:4710 7 1 000102030405060708090a0b0c0d0e0f read 7.0.1 0 100 at 9
-docs/SCRIPTS.md has the words and the replies; \"Calls\" there says what else is told.";
-
-/// The argument that is the path of a file of logins.
-const LOGINS: &str = "LOGINS";
-
-/// The argument that is the number of a principal.
-const WHO: &str = "WHO";
-
-/// The arguments of a call beside its principal: the address, the client, the secret, and the words
-/// of the request.
-const ADDRESS: &str = "ADDRESS";
-
-const CLIENT: &str = "CLIENT";
-
-const SECRET: &str = "SECRET";
-
-const WORD: &str = "WORD";
-
-/// The flags of a server.
-const WINDOW: &str = "window";
-
-const CELLS: &str = "cells";
-
-const WORKERS: &str = "workers";
-
-const CONNECTIONS: &str = "connections";
-
-const IDLE: &str = "idle";
-
-const OPEN: &str = "open";
 
 /// The command that the program's arguments spell.
 pub fn given<R: Env + AllocGlobal>(rt: &R) -> Result<Command, Fault> {
@@ -115,130 +44,6 @@ pub fn parse(alloc: Global, words: &[String]) -> Result<Command, Fault> {
         Ok(matches) => chosen(alloc, &matches),
         Err(error) => told(alloc, &error),
     }
-}
-
-fn parser<'a>(alloc: Global) -> Result<Parser<'a>, AllocError> {
-    Parser::new(alloc, "s4d")
-        .about("A drive that keeps what was written, and answers each principal by its rights")
-        .version(VERSION)
-        .after_help(PAGES)
-        .subcommand_required(true)
-        .subcommand(run_parser(alloc))?
-        .subcommand(hall_parser(alloc)?)?
-        .subcommand(strike_parser(alloc)?)?
-        .subcommand(serve_parser(alloc)?)?
-        .subcommand(call_parser(alloc)?)
-}
-
-fn run_parser<'a>(alloc: Global) -> Parser<'a> {
-    Parser::new(alloc, "run")
-        .about("Runs a script from standard input, and writes the replies")
-        .override_usage(RUN_USAGE)
-        .after_help(RUN_PAGES)
-}
-
-fn hall_parser<'a>(alloc: Global) -> Result<Parser<'a>, AllocError> {
-    let logins = Arg::new(alloc, LOGINS)
-        .help("A file of the principals that may log in, each with its secret")
-        .required(true);
-    Parser::new(alloc, "hall")
-        .about("Runs arrivals from standard input, and writes what each connection is sent")
-        .override_usage(HALL_USAGE)
-        .after_help(HALL_PAGES)
-        .arg(logins)
-}
-
-fn strike_parser<'a>(alloc: Global) -> Result<Parser<'a>, AllocError> {
-    let who = Arg::new(alloc, WHO)
-        .help("The principal, a number from 1 to 4294967294")
-        .required(true);
-    Parser::new(alloc, "strike")
-        .about("Writes a script from standard input without what a principal's strangers ask")
-        .override_usage(STRIKE_USAGE)
-        .after_help(STRIKE_PAGES)
-        .arg(who)
-}
-
-fn serve_parser<'a>(alloc: Global) -> Result<Parser<'a>, AllocError> {
-    Parser::new(alloc, "serve")
-        .about("Serves a drive over TCP, and writes where it listens")
-        .after_help(SERVE_PAGES)
-        .arg(wanted(alloc, ADDRESS, "Where it listens, a host and a port"))?
-        .arg(wanted(
-            alloc,
-            LOGINS,
-            "A file of the principals that may log in, each with its secret",
-        ))?
-        .arg(flag(
-            alloc,
-            WINDOW,
-            "The detection window at the start, in milliseconds",
-            "86400000",
-        ))?
-        .arg(flag(alloc, CELLS, "How many cells there are, from 1 to 16", "4"))?
-        .arg(flag(
-            alloc,
-            WORKERS,
-            "How many threads serve connections, from 1 to 8",
-            "4",
-        ))?
-        .arg(flag(
-            alloc,
-            CONNECTIONS,
-            "After how many connections it ends, or 0 for never",
-            "0",
-        ))?
-        .arg(flag(
-            alloc,
-            IDLE,
-            "How many milliseconds a peer may be silent, or 0 for ever",
-            "60000",
-        ))?
-        .arg(flag(alloc, OPEN, "How many connections may be open", "1024"))
-}
-
-fn flag<'a>(alloc: Global, name: &'a str, help: &'a str, standard: &'a str) -> Arg<'a> {
-    Arg::new(alloc, name)
-        .long(name)
-        .value_name("N")
-        .help(help)
-        .default_value(standard)
-}
-
-fn call_parser<'a>(alloc: Global) -> Result<Parser<'a>, AllocError> {
-    let word = wanted(
-        alloc,
-        WORD,
-        "The request, as in a line of a script from its verb on",
-    );
-    Parser::new(alloc, "call")
-        .about("Asks a served drive once, and writes the reply")
-        .after_help(CALL_PAGES)
-        .arg(wanted(
-            alloc,
-            ADDRESS,
-            "Where the drive is served, a host and a port",
-        ))?
-        .arg(wanted(
-            alloc,
-            WHO,
-            "The principal that asks, a number from 0 to 4294967294",
-        ))?
-        .arg(wanted(
-            alloc,
-            CLIENT,
-            "The client that is recorded, a number from 0 to 4294967295",
-        ))?
-        .arg(wanted(
-            alloc,
-            SECRET,
-            "The principal's secret, 32 hexadecimal digits",
-        ))?
-        .arg(word.num_args(1..))
-}
-
-fn wanted<'a>(alloc: Global, name: &'a str, help: &'a str) -> Arg<'a> {
-    Arg::new(alloc, name).help(help).required(true)
 }
 
 fn chosen(alloc: Global, matches: &ArgMatches) -> Result<Command, Fault> {

@@ -1,0 +1,233 @@
+//! What a command line may have: commands, arguments, flags, and the texts of the help.
+
+use clap::{Arg, Command as Parser};
+use std::alloc::{AllocError, Global};
+
+/// The version of the program. A build is told no commit, so it names none.
+const VERSION: &str = "0.1.0";
+
+/// What the help ends with.
+const PAGES: &str = "\
+Example: s4d run < examples/intrusion.script
+docs/TUTORIAL.md tells that example step by step; docs/SCRIPTS.md says what each line asks and is answered.";
+
+/// How `run` is called.
+const RUN_USAGE: &str = "s4d run < SCRIPT (the script goes to standard input)";
+
+/// What the help of `run` ends with.
+const RUN_PAGES: &str = "\
+The script is read to its end before its first line is run.
+
+Example: s4d run < examples/first.script
+docs/SCRIPTS.md says what each line asks and is answered.";
+
+/// How `hall` is called.
+const HALL_USAGE: &str = "s4d hall <LOGINS> < ARRIVALS (the arrivals go to standard input)";
+
+/// What the help of `hall` ends with.
+const HALL_PAGES: &str = "\
+Example: s4d hall examples/first.logins < examples/first.arrivals
+docs/SCRIPTS.md has the lines of both files under \"Arrivals\"; docs/PROTOCOL.md has the bytes.";
+
+/// How `strike` is called.
+const STRIKE_USAGE: &str = "s4d strike <WHO> < SCRIPT (the script goes to standard input)";
+
+/// What the help of `strike` ends with.
+const STRIKE_PAGES: &str = "\
+The principal is replied the same by the whole script and by what is written.
+
+Example: s4d strike 8 < examples/intrusion.script | s4d run
+docs/TUTORIAL.md tells that example; docs/SCRIPTS.md says which lines stay.";
+
+/// What the help of `serve` ends with.
+const SERVE_PAGES: &str = "\
+Example: s4d serve 127.0.0.1:4710 examples/first.logins
+docs/OPERATIONS.md says what it writes, what it holds in memory, and what ends it.";
+
+/// What the help of `call` ends with.
+const CALL_PAGES: &str = "\
+Example: s4d call 127.0.0.1:4710 7 1 000102030405060708090a0b0c0d0e0f read 7.0.1 0 100 at 9
+docs/SCRIPTS.md has the words and the replies; \"Calls\" there says what else is told.";
+
+/// The argument that is the path of a file of logins.
+pub const LOGINS: &str = "LOGINS";
+
+/// The argument that is the number of a principal.
+pub const WHO: &str = "WHO";
+
+/// The arguments of a call beside its principal: the address, the client, the secret, and the words
+/// of the request.
+pub const ADDRESS: &str = "ADDRESS";
+
+pub const CLIENT: &str = "CLIENT";
+
+pub const SECRET: &str = "SECRET";
+
+pub const WORD: &str = "WORD";
+
+/// The flags of a server.
+pub const WINDOW: &str = "window";
+
+pub const CELLS: &str = "cells";
+
+pub const WORKERS: &str = "workers";
+
+pub const CONNECTIONS: &str = "connections";
+
+pub const IDLE: &str = "idle";
+
+pub const OPEN: &str = "open";
+
+/// What parses a command line.
+pub fn parser<'a>(alloc: Global) -> Result<Parser<'a>, AllocError> {
+    let parser = Parser::new(alloc, "s4d")
+        .about("A drive that keeps what was written, and answers each principal by its rights")
+        .version(VERSION)
+        .after_help(PAGES)
+        .subcommand_required(true);
+    let parser = with(parser, Ok(run_parser(alloc)))?;
+    let parser = with(parser, hall_parser(alloc))?;
+    let parser = with(parser, strike_parser(alloc))?;
+    let parser = with(parser, serve_parser(alloc))?;
+    with(parser, call_parser(alloc))
+}
+
+/// Adds a command.
+fn with<'a>(
+    parser: Parser<'a>,
+    command: Result<Parser<'a>, AllocError>,
+) -> Result<Parser<'a>, AllocError> {
+    parser.subcommand(command?)
+}
+
+fn run_parser<'a>(alloc: Global) -> Parser<'a> {
+    Parser::new(alloc, "run")
+        .about("Runs a script from standard input, and writes the replies")
+        .override_usage(RUN_USAGE)
+        .after_help(RUN_PAGES)
+}
+
+fn hall_parser<'a>(alloc: Global) -> Result<Parser<'a>, AllocError> {
+    let logins = Arg::new(alloc, LOGINS)
+        .help("A file of the principals that may log in, each with its secret")
+        .required(true);
+    Parser::new(alloc, "hall")
+        .about("Runs arrivals from standard input, and writes what each connection is sent")
+        .override_usage(HALL_USAGE)
+        .after_help(HALL_PAGES)
+        .arg(logins)
+}
+
+fn strike_parser<'a>(alloc: Global) -> Result<Parser<'a>, AllocError> {
+    let who = Arg::new(alloc, WHO)
+        .help("The principal, a number from 1 to 4294967294")
+        .required(true);
+    Parser::new(alloc, "strike")
+        .about("Writes a script from standard input without what a principal's strangers ask")
+        .override_usage(STRIKE_USAGE)
+        .after_help(STRIKE_PAGES)
+        .arg(who)
+}
+
+fn serve_parser<'a>(alloc: Global) -> Result<Parser<'a>, AllocError> {
+    let parser = Parser::new(alloc, "serve")
+        .about("Serves a drive over TCP, and writes where it listens")
+        .after_help(SERVE_PAGES)
+        .arg(wanted(alloc, ADDRESS, "Where it listens, a host and a port"))?
+        .arg(wanted(
+            alloc,
+            LOGINS,
+            "A file of the principals that may log in, each with its secret",
+        ))?;
+    let parser = with_flags_of_drives(alloc, parser)?;
+    with_flags_of_peers(alloc, parser)
+}
+
+/// Adds the flags that say how a drive is set up.
+fn with_flags_of_drives<'a>(alloc: Global, parser: Parser<'a>) -> Result<Parser<'a>, AllocError> {
+    let window = flag(
+        alloc,
+        WINDOW,
+        "The detection window at the start, in milliseconds",
+        "86400000",
+    );
+    let cells = flag(alloc, CELLS, "How many cells there are, from 1 to 16", "4");
+    let workers = flag(
+        alloc,
+        WORKERS,
+        "How many threads serve connections, from 1 to 8",
+        "4",
+    );
+    parser.arg(window)?.arg(cells)?.arg(workers)
+}
+
+/// Adds the flags that say which connections are served.
+fn with_flags_of_peers<'a>(alloc: Global, parser: Parser<'a>) -> Result<Parser<'a>, AllocError> {
+    let connections = flag(
+        alloc,
+        CONNECTIONS,
+        "After how many connections it ends, or 0 for never",
+        "0",
+    );
+    let idle = flag(
+        alloc,
+        IDLE,
+        "How many milliseconds a peer may be silent, or 0 for ever",
+        "60000",
+    );
+    let open = flag(alloc, OPEN, "How many connections may be open", "1024");
+    parser.arg(connections)?.arg(idle)?.arg(open)
+}
+
+/// A flag with a number, which is this one where it isn't given.
+fn flag<'a>(alloc: Global, name: &'a str, help: &'a str, standard: &'a str) -> Arg<'a> {
+    Arg::new(alloc, name)
+        .long(name)
+        .value_name("N")
+        .help(help)
+        .default_value(standard)
+}
+
+fn call_parser<'a>(alloc: Global) -> Result<Parser<'a>, AllocError> {
+    let address = wanted(
+        alloc,
+        ADDRESS,
+        "Where the drive is served, a host and a port",
+    );
+    let parser = Parser::new(alloc, "call")
+        .about("Asks a served drive once, and writes the reply")
+        .after_help(CALL_PAGES)
+        .arg(address)?;
+    let parser = with_caller(alloc, parser)?;
+    let word = wanted(
+        alloc,
+        WORD,
+        "The request, as in a line of a script from its verb on",
+    );
+    parser.arg(word.num_args(1..))
+}
+
+/// Adds the arguments that say who calls.
+fn with_caller<'a>(alloc: Global, parser: Parser<'a>) -> Result<Parser<'a>, AllocError> {
+    let who = wanted(
+        alloc,
+        WHO,
+        "The principal that asks, a number from 0 to 4294967294",
+    );
+    let client = wanted(
+        alloc,
+        CLIENT,
+        "The client that is recorded, a number from 0 to 4294967295",
+    );
+    let secret = wanted(
+        alloc,
+        SECRET,
+        "The principal's secret, 32 hexadecimal digits",
+    );
+    parser.arg(who)?.arg(client)?.arg(secret)
+}
+
+/// An argument that has to be given.
+fn wanted<'a>(alloc: Global, name: &'a str, help: &'a str) -> Arg<'a> {
+    Arg::new(alloc, name).help(help).required(true)
+}

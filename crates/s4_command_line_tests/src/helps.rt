@@ -1,0 +1,109 @@
+//! The texts of the help.
+
+pub const HELP: &str = "\
+A drive that keeps what was written, and answers each principal by its rights
+
+Usage: s4d <COMMAND>
+
+Commands:
+  run     Runs a script from standard input, and writes the replies
+  hall    Runs arrivals from standard input, and writes what each connection is sent
+  strike  Writes a script from standard input without what a principal's strangers ask
+  serve   Serves a drive over TCP, and writes where it listens
+  call    Asks a served drive once, and writes the reply
+  help    Print this message or the help of the given subcommand(s)
+
+Options:
+  -h, --help     Print help
+  -V, --version  Print version
+
+Example: s4d run < examples/intrusion.script
+docs/TUTORIAL.md tells that example step by step; docs/SCRIPTS.md says what each line asks and is answered.
+";
+
+pub const RUN_HELP: &str = "\
+Runs a script from standard input, and writes the replies
+
+Usage: s4d run < SCRIPT (the script goes to standard input)
+
+Options:
+  -h, --help  Print help
+
+The script is read to its end before its first line is run.
+
+Example: s4d run < examples/first.script
+docs/SCRIPTS.md says what each line asks and is answered.
+";
+
+pub const HALL_HELP: &str = "\
+Runs arrivals from standard input, and writes what each connection is sent
+
+Usage: s4d hall <LOGINS> < ARRIVALS (the arrivals go to standard input)
+
+Arguments:
+  <LOGINS>  A file of the principals that may log in, each with its secret
+
+Options:
+  -h, --help  Print help
+
+Example: s4d hall examples/first.logins < examples/first.arrivals
+docs/SCRIPTS.md has the lines of both files under \"Arrivals\"; docs/PROTOCOL.md has the bytes.
+";
+
+pub const STRIKE_HELP: &str = "\
+Writes a script from standard input without what a principal's strangers ask
+
+Usage: s4d strike <WHO> < SCRIPT (the script goes to standard input)
+
+Arguments:
+  <WHO>  The principal, a number from 1 to 4294967294
+
+Options:
+  -h, --help  Print help
+
+The principal is replied the same by the whole script and by what is written.
+
+Example: s4d strike 8 < examples/intrusion.script | s4d run
+docs/TUTORIAL.md tells that example; docs/SCRIPTS.md says which lines stay.
+";
+
+pub const SERVE_HELP: &str = "\
+Serves a drive over TCP, and writes where it listens
+
+Usage: s4d serve [OPTIONS] <ADDRESS> <LOGINS>
+
+Arguments:
+  <ADDRESS>  Where it listens, a host and a port
+  <LOGINS>   A file of the principals that may log in, each with its secret
+
+Options:
+      --window <N>       The detection window at the start, in milliseconds [default: 86400000]
+      --cells <N>        How many cells there are, from 1 to 16 [default: 4]
+      --workers <N>      How many threads serve connections, from 1 to 8 [default: 4]
+      --connections <N>  After how many connections it ends, or 0 for never [default: 0]
+      --idle <N>         How many milliseconds a peer may be silent, or 0 for ever [default: 60000]
+      --open <N>         How many connections may be open [default: 1024]
+  -h, --help             Print help
+
+Example: s4d serve 127.0.0.1:4710 examples/first.logins
+docs/OPERATIONS.md says what it writes, what it holds in memory, and what ends it.
+";
+
+pub const CALL_HELP: &str = "\
+Asks a served drive once, and writes the reply
+
+Usage: s4d call <ADDRESS> <WHO> <CLIENT> <SECRET> <WORD>...
+
+Arguments:
+  <ADDRESS>  Where the drive is served, a host and a port
+  <WHO>      The principal that asks, a number from 0 to 4294967294
+  <CLIENT>   The client that is recorded, a number from 0 to 4294967295
+  <SECRET>   The principal's secret, 32 hexadecimal digits
+  <WORD>...  The request, as in a line of a script from its verb on
+
+Options:
+  -h, --help  Print help
+
+Example: s4d call 127.0.0.1:4710 7 1 000102030405060708090a0b0c0d0e0f read 7.0.1 0 100 at 9
+docs/SCRIPTS.md has the words and the replies; \"Calls\" there says what else is told.
+";

@@ -1,0 +1,197 @@
+//! A command line, and what it is.
+
+use s4_client::CallFault;
+use s4_command_line::given;
+use s4_commands::{Call, Command, Fault, FaultText, Service};
+use s4_server::Settings;
+use s4_session::Hello;
+use s4_types::{Bytes, Caller, Moment, ObjectId, Principal, Purse, PurseNo, Request, Serial};
+use std::alloc::Global;
+use std::env::FillError;
+use std::process::Abort;
+use std::rt::Env;
+use std::str;
+use std::test::Fail;
+
+/// What a fault of a command line begins with, and what most of them end with.
+const BEFORE: &str = "s4d: error: ";
+
+const AFTER: &str = "\n\nFor more information, try '--help'.";
+
+/// The settings of a server where no flag is given.
+const STANDARD: Settings = Settings {
+    window: 86400000,
+    cells: 4,
+    workers: 4,
+    connections: 0,
+    idle: 60000,
+    open: 1024,
+};
+
+/// The greatest settings, but for the least number of open connections.
+const GREATEST: Settings = Settings {
+    window: u64::MAX,
+    cells: 16,
+    workers: 8,
+    connections: u32::MAX,
+    idle: u64::MAX,
+    open: 1,
+};
+
+/// The words of a command line, with a `|` between each two, and what they are.
+pub struct Row(pub &'static [u8], pub Wanted);
+
+/// What the words of a command line are.
+pub enum Wanted {
+    /// They ask for this text.
+    Show(&'static str),
+    Run,
+    Hall(&'static str),
+    Strike(u32),
+    /// They ask for a server at 127.0.0.1:4710 of the logins in first.logins, without flags.
+    StandardServer,
+    /// The same with the greatest settings, but for the least number of open connections.
+    GreatestServer,
+    /// They ask for a call at `nowhere` as this principal and client, with the secret of bytes 0
+    /// to 15.
+    Call(u32, u32, Asked),
+    /// They ask for a call of words that are no request.
+    NoRequest,
+    /// They are told as this error, behind which the help is named.
+    Refused(&'static str),
+    /// They are told as this error alone.
+    RefusedAlone(&'static str),
+}
+
+/// What is asked in a call.
+pub enum Asked {
+    /// A Create in the purse of this number.
+    Create(u8),
+    /// A Write of these bytes at the begin of 7.0.1.
+    Write(&'static [u8]),
+    /// A Read of the first 100 bytes of 7.0.1 at 9.
+    Read,
+}
+
+/// The words of a command line, with a `|` between each two.
+#[derive(Drop)]
+struct Words<'a>(&'a [u8]);
+
+impl Env for Words<'_> {
+    fn arg(&self, i: usize, buf: &mut [u8]) -> Result<usize, FillError> {
+        let mut words = self.0.split(|byte| *byte == b'|');
+        let word = words.nth(i).ok_or(FillError::NotPresent)?;
+        if word.len() > buf.len() {
+            return Err(FillError::TooLong);
+        }
+        buf[..word.len()].copy_from_slice(word);
+        Ok(word.len())
+    }
+
+    fn var(&self, _name: &str, _buf: &mut [u8]) -> Result<usize, FillError> {
+        Err(FillError::NotPresent)
+    }
+
+    fn var_at(&self, _i: usize, _buf: &mut [u8]) -> Result<usize, FillError> {
+        Err(FillError::NotPresent)
+    }
+}
+
+/// That the words of a row are what is wanted of it.
+pub fn check<R: Abort>(rt: &R, alloc: Global, row: &Row) -> Result<(), Fail> {
+    let Row(words, wanted) = row;
+    let outcome = spelled(alloc, words);
+    let is_as_wanted = is_wanted(alloc, &outcome, wanted)?;
+    assert!(rt; is_as_wanted, "{:?}: {outcome:?}", str::from_utf8(words));
+    Ok(())
+}
+
+/// The command that these words spell.
+pub fn spelled(alloc: Global, words: &[u8]) -> Result<Command, Fault> {
+    given(&(Words(words), alloc))
+}
+
+fn is_wanted(
+    alloc: Global,
+    outcome: &Result<Command, Fault>,
+    wanted: &Wanted,
+) -> Result<bool, Fail> {
+    match outcome {
+        Ok(command) => is_command(alloc, command, wanted),
+        Err(fault) => is_fault(alloc, fault, wanted),
+    }
+}
+
+fn is_command(alloc: Global, command: &Command, wanted: &Wanted) -> Result<bool, Fail> {
+    match (command, wanted) {
+        (Command::Run, Wanted::Run) => Ok(true),
+        (Command::Show(text), Wanted::Show(wanted)) => Ok(text.as_str() == *wanted),
+        (Command::Hall(path), Wanted::Hall(wanted)) => Ok(path.as_str() == *wanted),
+        (Command::Strike(who), Wanted::Strike(wanted)) => Ok(who.number() == *wanted),
+        (Command::Serve(service), Wanted::StandardServer) => Ok(is_service(service, &STANDARD)),
+        (Command::Serve(service), Wanted::GreatestServer) => Ok(is_service(service, &GREATEST)),
+        (Command::Call(call), Wanted::Call(who, client, asked)) => {
+            Ok(*call == call_of(alloc, *who, *client, asked)?)
+        }
+        _ => Ok(false),
+    }
+}
+
+fn is_service(service: &Service, settings: &Settings) -> bool {
+    service.settings == *settings
+        && service.address.as_str() == "127.0.0.1:4710"
+        && service.logins.as_str() == "first.logins"
+}
+
+fn is_fault(alloc: Global, fault: &Fault, wanted: &Wanted) -> Result<bool, Fail> {
+    if let Wanted::NoRequest = wanted {
+        return Ok(*fault == Fault::Call(CallFault::BadRequest));
+    }
+    let line = FaultText(fault).to_string(alloc)?;
+    let text = line.as_str().strip_prefix(BEFORE);
+    let is_text = match wanted {
+        Wanted::Refused(wanted) => text.and_then(|text| text.strip_suffix(AFTER)) == Some(*wanted),
+        Wanted::RefusedAlone(wanted) => text == Some(*wanted),
+        _ => false,
+    };
+    Ok(is_text && fault.status() == 2)
+}
+
+/// The call of that principal and client for what is asked.
+fn call_of(alloc: Global, who: u32, client: u32, asked: &Asked) -> Result<Call, Fail> {
+    let who = Principal::new(who).ok_or("a principal")?;
+    let caller = Caller { who, client };
+    let secret = [0, 1, 2, 3, 4, 5, 6, 7, 8, 9, 10, 11, 12, 13, 14, 15];
+    let request = request_of(alloc, asked)?;
+    Ok(Call::new(alloc, "nowhere", Hello { caller, secret }, request)?)
+}
+
+fn request_of(alloc: Global, asked: &Asked) -> Result<Request, Fail> {
+    match asked {
+        Asked::Create(number) => Ok(Request::Create {
+            number: PurseNo::new(*number).ok_or("a purse number")?,
+        }),
+        Asked::Write(bytes) => Ok(Request::Write {
+            object: object()?,
+            offset: 0,
+            bytes: Bytes::new(bytes.to_vec(alloc)?),
+        }),
+        Asked::Read => Ok(Request::Read {
+            object: object()?,
+            offset: 0,
+            length: 100,
+            at: Some(Moment::new(9)),
+        }),
+    }
+}
+
+/// The object 7.0.1.
+fn object() -> Result<ObjectId, Fail> {
+    Ok(ObjectId {
+        purse: Purse {
+            creator: Principal::new(7).ok_or("a principal")?,
+            number: PurseNo::new(0).ok_or("a purse number")?,
+        },
+        serial: Serial::new(1).ok_or("a serial")?,
+    })
+}

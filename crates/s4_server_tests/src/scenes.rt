@@ -1,0 +1,200 @@
+//! What peers do who connect to a served drive.
+
+use crate::asking::call_for;
+use crate::frames::{CALL, CREATE, HELLO, joined};
+use s4_commands::{Command, FaultText, obey};
+use std::alloc::Global;
+use std::io::{Error, ErrorKind, Read, Write};
+use std::net::{Net, Shutdown, TcpListener, TcpStream};
+use std::rt::Files;
+use std::sync::Wait;
+use std::thread::Threads;
+use std::time::{Clock, Duration};
+use std::{io, thread};
+
+/// Where the tests serve.
+pub const ADDRESS: &str = "127.0.0.1:47104";
+
+/// How often it is tried to have the port, which another run may have, and how long it waits in
+/// between, in milliseconds.
+pub const TRIES: u32 = 200;
+
+pub const PAUSE: u64 = 100;
+
+/// How many peers are silent beside one that asks.
+pub const SILENT: u32 = 300;
+
+/// How often a peer asks that hears nothing.
+const ASKED: u32 = 20000;
+
+/// The frame of a Write of 4000 bytes to 7.0.1, up to its data.
+const LONG_WRITE: &[u8] =
+    b"\x00\x00\x0f\xaf\x04\x00\x00\x00\x07\x00\x00\x00\x01\x00\x00\x00\x00\x0f\xa0";
+
+/// It reads them.
+const LONG_READ: &[u8] =
+    b"\x00\x00\x00\x12\x03\x00\x00\x00\x07\x00\x00\x00\x01\x00\x00\x00\x00\x00\x00\x0f\xa0\x00";
+
+/// What peers do.
+pub enum Scene {
+    /// One after the other, each says these frames and then no more.
+    Say(&'static [&'static [&'static [u8]]]),
+    /// One after the other, each calls with this secret for what the words of the line spell.
+    Call(&'static [([u8; 16], &'static str)]),
+    /// One asks for a Create while others are silent.
+    AmongSilent,
+    /// One asks for more than the system keeps for a peer, and reads none of it; another one asks
+    /// for a Create meanwhile.
+    WithoutHearing,
+    /// One is silent.
+    Silent,
+    /// One may be open, and asks for a Create; a second one comes; a third one comes until it is
+    /// served.
+    AboveTheBound,
+}
+
+/// What the peers are sent in their order, and a connection that is still open.
+#[derive(Drop)]
+pub struct Heard {
+    pub sent: Vec<Vec<u8>>,
+    pub open: Option<TcpStream>,
+}
+
+/// Has the peers of a scene do what they do.
+pub fn play<
+    R: Files
+        + Net<Listener = TcpListener, Stream = TcpStream>
+        + Threads
+        + Wait
+        + Clock
+        + Sync
+        + AllocGlobal,
+>(rt: &R, scene: &Scene) -> io::Result<Heard> {
+    let alloc = rt.alloc();
+    let mut sent = Vec::new(alloc);
+    let mut open = None;
+    match scene {
+        Scene::Say(peers) => {
+            for frames in *peers {
+                let said = joined(alloc, frames)?;
+                sent.push(tell(rt, alloc, said.as_slice())?)?;
+            }
+        }
+        Scene::Call(calls) => {
+            for (secret, asked) in *calls {
+                sent.push(call(rt, *secret, asked)?)?;
+            }
+        }
+        Scene::AmongSilent => sent.push(ask_among(rt, alloc)?)?,
+        Scene::WithoutHearing => {
+            open = Some(ask_without_hearing(rt, alloc)?);
+            sent.push(tell(rt, alloc, CALL)?)?;
+        }
+        Scene::Silent => sent.push(hear_only(rt, alloc)?)?,
+        Scene::AboveTheBound => sent.push(meet_the_bound(rt, alloc)?)?,
+    }
+    Ok(Heard { sent, open })
+}
+
+/// What a peer is sent that says this and then no more.
+fn tell<R: Net<Listener = TcpListener, Stream = TcpStream>>(
+    rt: &R,
+    alloc: Global,
+    said: &[u8],
+) -> io::Result<Vec<u8>> {
+    let mut stream = connect(rt)?;
+    stream.write_all(said)?;
+    stream.shutdown(Shutdown::Write)?;
+    let mut sent = Vec::new(alloc);
+    stream.read_to_end(&mut sent)?;
+    Ok(sent)
+}
+
+/// A peer that says nothing yet.
+fn connect<R: Net<Listener = TcpListener, Stream = TcpStream>>(rt: &R) -> io::Result<TcpStream> {
+    TcpStream::connect(rt, ADDRESS)
+}
+
+/// What principal 7 is told as client 1 who asks for what the words of this line spell: the text of
+/// the reply, or the line of the fault.
+fn call<
+    R: Files
+        + Net<Listener = TcpListener, Stream = TcpStream>
+        + Threads
+        + Wait
+        + Clock
+        + Sync
+        + AllocGlobal,
+>(rt: &R, secret: [u8; 16], asked: &str) -> io::Result<Vec<u8>> {
+    let alloc = rt.alloc();
+    let call = call_for(alloc, ADDRESS, secret, asked);
+    let command = Command::Call(call.map_err(|_| Error::from(ErrorKind::InvalidInput))?);
+    let mut told = Vec::new(alloc);
+    if let Err(fault) = obey(rt, &command, b"".as_slice(), &mut told) {
+        told.extend_from_slice(FaultText(&fault).to_string(alloc)?.as_bytes())?;
+    }
+    Ok(told)
+}
+
+/// What a peer is sent that asks for a Create while so many others are silent.
+fn ask_among<R: Net<Listener = TcpListener, Stream = TcpStream>>(
+    rt: &R,
+    alloc: Global,
+) -> io::Result<Vec<u8>> {
+    let mut silent = Vec::new(alloc);
+    for _ in 0..SILENT {
+        silent.push(connect(rt)?)?;
+    }
+    tell(rt, alloc, CALL)
+}
+
+/// The connection of a peer that asks for more than the system keeps for it, and reads none of it.
+fn ask_without_hearing<R: Net<Listener = TcpListener, Stream = TcpStream>>(
+    rt: &R,
+    alloc: Global,
+) -> io::Result<TcpStream> {
+    let written = Vec::from_elem(alloc, b'a', 4000)?;
+    let mut deaf = connect(rt)?;
+    for piece in [HELLO, CREATE, LONG_WRITE, written.as_slice()] {
+        deaf.write_all(piece)?;
+    }
+    for _ in 0..ASKED {
+        deaf.write_all(LONG_READ)?;
+    }
+    Ok(deaf)
+}
+
+/// What a silent peer is sent until its connection ends.
+fn hear_only<R: Net<Listener = TcpListener, Stream = TcpStream>>(
+    rt: &R,
+    alloc: Global,
+) -> io::Result<Vec<u8>> {
+    let mut stream = connect(rt)?;
+    let mut sent = Vec::new(alloc);
+    stream.read_to_end(&mut sent)?;
+    Ok(sent)
+}
+
+/// What two peers are sent where one may be open: the second one, and then the first behind its
+/// Welcome. A third one comes until it is served.
+fn meet_the_bound<R: Net<Listener = TcpListener, Stream = TcpStream> + Clock>(
+    rt: &R,
+    alloc: Global,
+) -> io::Result<Vec<u8>> {
+    let mut first = connect(rt)?;
+    first.write_all(CALL)?;
+    let mut welcome = [0; 6];
+    first.read_exact(&mut welcome)?;
+    let mut sent = Vec::new(alloc);
+    // A connection that is closed at once may end by a reset.
+    let _ = connect(rt)?.read_to_end(&mut sent);
+    first.shutdown(Shutdown::Write)?;
+    first.read_to_end(&mut sent)?;
+    for _ in 0..TRIES {
+        if tell(rt, alloc, HELLO).is_ok_and(|sent| !sent.is_empty()) {
+            return Ok(sent);
+        }
+        thread::sleep(rt, Duration::from_millis(PAUSE));
+    }
+    Err(Error::from(ErrorKind::TimedOut))
+}

@@ -1,0 +1,283 @@
+//! A served drive and its peers, over TCP.
+
+use crate::asking::{OTHER_SECRET, SECRET};
+use crate::frames::{
+    BAD_LENGTH, BAD_LOGIN, CREATE, CUT_WRITE, DATA, DONE, HELLO, MADE, READ, WELCOME, WRITE,
+    WRONG_HELLO,
+};
+use crate::scenes::{ADDRESS, Heard, PAUSE, SILENT, Scene, TRIES, play};
+use s4_commands::{Fault, Service, serve_on};
+use s4_script::parse_number;
+use s4_server::{Settings, Stopwatch, Ticks};
+use s4_session::Logins;
+use s4_types::Moment;
+use std::alloc::Global;
+use std::net::{Net, TcpListener, TcpStream};
+use std::sync::Wait;
+use std::test::Fail;
+use std::thread::Threads;
+use std::time::{Clock, Duration};
+use std::{str, thread};
+
+/// The secret of principal 7.
+const LOGINS: &[u8] = b"7 000102030405060708090a0b0c0d0e0f\n";
+
+/// A drive with a window of 100 that is served, and what comes of it.
+struct Row {
+    name: &'static str,
+    cells: usize,
+    workers: u64,
+    connections: u32,
+    idle: u64,
+    open: u32,
+    scene: Scene,
+    /// What the peers are sent, in their order.
+    sent: Sent,
+    /// The least and the greatest number of records at the end.
+    records: (u64, u64),
+}
+
+enum Sent {
+    /// Each is sent these pieces.
+    Pieces(&'static [&'static [&'static [u8]]]),
+    /// There is one, which is sent so many bytes.
+    Count(usize),
+}
+
+const ROWS: &[Row] = &[
+    Row {
+        name: "three connections are served in turn",
+        cells: 2,
+        workers: 1,
+        connections: 3,
+        idle: 0,
+        open: 1024,
+        scene: Scene::Say(&[&[HELLO, CREATE], &[HELLO, WRITE], &[HELLO, READ]]),
+        sent: Sent::Pieces(&[&[WELCOME, MADE], &[WELCOME, DONE], &[WELCOME, DATA]]),
+        records: (3, 3),
+    },
+    Row {
+        name: "broken streams end their own connections alone",
+        cells: 2,
+        workers: 2,
+        connections: 4,
+        idle: 0,
+        open: 1024,
+        scene: Scene::Say(&[
+            &[HELLO, CREATE, CUT_WRITE],
+            &[b"\x00\x00\x00\x00"],
+            &[WRONG_HELLO],
+            &[HELLO, WRITE, READ],
+        ]),
+        sent: Sent::Pieces(&[
+            &[WELCOME, MADE],
+            &[BAD_LENGTH],
+            &[BAD_LOGIN],
+            &[WELCOME, DONE, DATA],
+        ]),
+        records: (3, 3),
+    },
+    Row {
+        name: "a server is called",
+        cells: 1,
+        workers: 1,
+        connections: 3,
+        idle: 0,
+        open: 16,
+        scene: Scene::Call(&[
+            (SECRET, "create 0"),
+            (SECRET, "write 7.0.1 0 68656c6c6f"),
+            (SECRET, "read 7.0.1 0 100"),
+        ]),
+        sent: Sent::Pieces(&[
+            &[b"made 7.0.1\n"],
+            &[b"done\n"],
+            &[b"data 68656c6c6f by 0 since 5\n"],
+        ]),
+        records: (3, 3),
+    },
+    Row {
+        name: "a wrong secret is a fault of the session",
+        cells: 1,
+        workers: 1,
+        connections: 1,
+        idle: 0,
+        open: 16,
+        scene: Scene::Call(&[(OTHER_SECRET, "create 0")]),
+        sent: Sent::Pieces(&[&[b"s4d: session fault 2"]]),
+        records: (0, 0),
+    },
+    Row {
+        name: "one worker answers among 300 silent peers",
+        cells: 2,
+        workers: 1,
+        connections: SILENT + 1,
+        idle: 0,
+        open: 1024,
+        scene: Scene::AmongSilent,
+        sent: Sent::Pieces(&[&[WELCOME, MADE]]),
+        records: (1, 1),
+    },
+    Row {
+        name: "four workers answer among 300 silent peers",
+        cells: 2,
+        workers: 4,
+        connections: SILENT + 1,
+        idle: 0,
+        open: 1024,
+        scene: Scene::AmongSilent,
+        sent: Sent::Pieces(&[&[WELCOME, MADE]]),
+        records: (1, 1),
+    },
+    Row {
+        name: "a peer that never reads holds no worker and is closed",
+        cells: 2,
+        workers: 1,
+        connections: 2,
+        idle: 500,
+        open: 1024,
+        scene: Scene::WithoutHearing,
+        sent: Sent::Count(WELCOME.len() + MADE.len()),
+        records: (4, 20002),
+    },
+    Row {
+        name: "a silent peer is closed once it is idle",
+        cells: 2,
+        workers: 1,
+        connections: 1,
+        idle: 200,
+        open: 1024,
+        scene: Scene::Silent,
+        sent: Sent::Count(0),
+        records: (0, 0),
+    },
+    Row {
+        name: "a connection above the bound is closed at once",
+        cells: 2,
+        workers: 1,
+        connections: 2,
+        idle: 0,
+        open: 1,
+        scene: Scene::AboveTheBound,
+        sent: Sent::Pieces(&[&[MADE]]),
+        records: (1, 1),
+    },
+];
+
+/// A clock of the system for servers that close who is idle, and for others one that tells 5.
+#[derive(Drop)]
+enum Watch<'a, R> {
+    Five,
+    Runs(Stopwatch<'a, R>),
+}
+
+impl<R: Clock + Sync> Ticks for Watch<'_, R> {
+    fn moment(&self) -> Moment {
+        match self {
+            Watch::Five => Moment::new(5),
+            Watch::Runs(watch) => watch.moment(),
+        }
+    }
+}
+
+fn service_of(alloc: Global, row: &Row) -> Result<Service, Fail> {
+    let (cells, workers) = (row.cells, row.workers);
+    if cells == 0 || cells > 16 || workers == 0 || workers > 8 {
+        return Err(Fail::from("settings"));
+    }
+    Ok(Service {
+        address: String::from_str(alloc, ADDRESS)?,
+        logins: String::new(alloc),
+        settings: Settings {
+            window: 100,
+            cells,
+            workers,
+            connections: row.connections,
+            idle: row.idle,
+            open: row.open,
+        },
+    })
+}
+
+/// Has the port.
+fn listen<R: Net<Listener = TcpListener, Stream = TcpStream> + Clock>(
+    rt: &R,
+) -> Result<TcpListener, Fail> {
+    for _ in 0..TRIES {
+        if let Ok(listener) = TcpListener::bind(rt, ADDRESS) {
+            return Ok(listener);
+        }
+        thread::sleep(rt, Duration::from_millis(PAUSE));
+    }
+    Err(Fail::from("a port that can be had"))
+}
+
+/// What the server writes.
+fn serve<R: Net + Threads + Wait + Clock + Sync + AllocGlobal>(
+    rt: &R,
+    service: &Service,
+    listener: &TcpListener,
+    logins: &Logins,
+) -> Result<Vec<u8>, Fault> {
+    let clock = match service.settings.idle {
+        0 => Watch::Five,
+        _ => Watch::Runs(Stopwatch::start(rt)),
+    };
+    let mut output = Vec::new(rt.alloc());
+    serve_on(rt, service, &clock, listener, logins, &mut output)?;
+    Ok(output)
+}
+
+/// Whether the peers were sent that.
+fn is_sent(heard: &Heard, wanted: &Sent) -> bool {
+    let sent = heard.sent.as_slice();
+    match wanted {
+        Sent::Pieces(peers) => {
+            sent.len() == peers.len()
+                && sent
+                    .iter()
+                    .zip(peers.iter())
+                    .all(|(sent, pieces)| is_joined(sent, pieces))
+        }
+        Sent::Count(count) => matches!(sent, [only] if only.len() == *count),
+    }
+}
+
+/// Whether the bytes are these pieces, one behind the other.
+fn is_joined(bytes: &[u8], pieces: &[&[u8]]) -> bool {
+    let mut rest = Some(bytes);
+    for piece in pieces {
+        rest = rest.and_then(|rest| rest.strip_prefix(*piece));
+    }
+    rest.is_some_and(|rest| rest.is_empty())
+}
+
+/// How many records a server tells at its end.
+fn records_of(served: &[u8]) -> Option<u64> {
+    let told = str::from_utf8(served).ok()?;
+    let number = told.strip_prefix("listening 127.0.0.1:47104\nclosed ")?;
+    parse_number(number.strip_suffix("\n")?).ok()
+}
+
+#[test]
+fn each_server_and_its_peers_do_what_is_wanted(rt: HostRuntime) -> Result<(), Fail> {
+    let alloc = rt.alloc();
+    let logins = Logins::read(alloc, LOGINS).map_err(|_| Fail::from("a table of logins"))?;
+    for row in ROWS {
+        let service = service_of(alloc, row)?;
+        let listener = listen(&rt)?;
+        let (served, heard) = thread::join(
+            &rt,
+            || serve(&rt, &service, &listener, &logins),
+            || play(&rt, &row.scene),
+        );
+        let heard = heard.map_err(|_| Fail::from(row.name))?;
+        assert!(rt; is_sent(&heard, &row.sent), "{}", row.name);
+        let served = served.map_err(|_| Fail::from(row.name))?;
+        let records = records_of(served.as_slice());
+        let (least, most) = row.records;
+        let is_as_wanted = records.is_some_and(|records| least <= records && records <= most);
+        assert!(rt; is_as_wanted, "{}: {records:?}", row.name);
+    }
+    Ok(())
+}
