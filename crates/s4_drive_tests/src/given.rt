@@ -4,25 +4,17 @@ use s4_types::{Bytes, Caller, ObjectId, Principal, Purse, PurseNo, Serial};
 use std::alloc::Global;
 use std::test::Fail;
 
-pub fn principal(number: u32) -> Result<Principal, Fail> {
-    Ok(Principal::new(number).ok_or("a principal")?)
-}
-
 pub fn caller(who: u32) -> Result<Caller, Fail> {
-    let who = principal(who)?;
+    let who = Principal::new(who).ok_or("a principal")?;
     Ok(Caller { who, client: 3 })
-}
-
-pub fn purse(creator: u32, number: u8) -> Result<Purse, Fail> {
-    Ok(Purse {
-        creator: principal(creator)?,
-        number: PurseNo::new(number).ok_or("a purse")?,
-    })
 }
 
 pub fn object(creator: u32, number: u8, serial: u16) -> Result<ObjectId, Fail> {
     Ok(ObjectId {
-        purse: purse(creator, number)?,
+        purse: Purse {
+            creator: Principal::new(creator).ok_or("a principal")?,
+            number: PurseNo::new(number).ok_or("a purse")?,
+        },
         serial: Serial::new(serial).ok_or("a serial")?,
     })
 }

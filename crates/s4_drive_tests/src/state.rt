@@ -3,7 +3,7 @@
 ghost use Rattle.s4_state.specs.Log.{fresh_log};
 ghost use Rattle.std.specs.Prelude.{◌≡◌, []};
 
-use crate::given::{caller, object, purse};
+use crate::given::{caller, object};
 use s4_state::State;
 use s4_store::{PlainStore, Store};
 use s4_types::{Moment, Name, Refusal, Right, Version};
@@ -11,7 +11,7 @@ use std::alloc::Global;
 use std::process::Abort;
 use std::test::Fail;
 
-// It was never made.
+/// It was never made.
 fn check_object<S: Store<Version>>(rt: &impl Abort, state: &State<S>) -> Result<(), Fail> {
     let object = object(7, 0, 1)?;
     assert_eq!(rt; state.next_object(&object.purse), Some(object));
@@ -21,7 +21,7 @@ fn check_object<S: Store<Version>>(rt: &impl Abort, state: &State<S>) -> Result<
     Ok(())
 }
 
-// It has empty values.
+/// It has empty values.
 fn check_values<S: Store<Version>>(rt: &impl Abort, state: &State<S>) -> Result<(), Fail>
     requires { state.now ≡ fresh_log 100 }
 {
@@ -34,11 +34,11 @@ fn check_values<S: Store<Version>>(rt: &impl Abort, state: &State<S>) -> Result<
     Ok(())
 }
 
-// No name is bound.
+/// No name is bound.
 fn check_names<S: Store<Version>>(rt: &impl Abort, state: &State<S>) -> Result<(), Fail>
     requires { state.now ≡ fresh_log 100 }
 {
-    let purse = purse(7, 0)?;
+    let purse = object(7, 0, 1)?.purse;
     let name = Name::new(b"home").ok_or("a name")?;
     let at = Some(Moment::new(3));
     assert_eq!(rt; state.bound(&purse, &name, at), None);
@@ -49,7 +49,7 @@ fn check_names<S: Store<Version>>(rt: &impl Abort, state: &State<S>) -> Result<(
     Ok(())
 }
 
-// Nothing was asked.
+/// Nothing was asked.
 fn check_records<S: Store<Version>>(rt: &impl Abort, state: &State<S>) -> Result<(), Fail> {
     assert!(rt; state.history().is_empty());
     let caller = caller(7)?;

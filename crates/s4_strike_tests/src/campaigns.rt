@@ -1,18 +1,17 @@
-//! Campaigns of principal 9 against principal 7, which owns what is attacked. Replies, and which lines stay,
-//! are written by hand from docs/MODEL.md.
+//! Campaigns of principal 9 against principal 7, which owns what is attacked. Replies, and which
+//! lines stay, are written by hand from docs/MODEL.md.
 
-use s4_script::{Line, parse_line};
+use s4_script::{Line, parse_line, parse_window};
 use s4_types::{Principal, Step};
 use std::alloc::Global;
 use std::test::Fail;
 
-/// A line of a campaign: what is asked, what is told, and for which of the two principals the line stays
-/// once its strangers are struck out.
+/// A line of a campaign: what is asked, what is told, and for which of the two principals the
+/// line stays once its strangers are struck out.
 #[derive(Clone, Copy)]
 pub struct Asked(pub &'static str, pub &'static str, pub &'static [u32]);
 
 pub struct Campaign {
-    pub name: &'static str,
     pub window: &'static str,
     pub lines: &'static [Asked],
 }
@@ -32,7 +31,6 @@ pub const CAMPAIGNS: [Campaign; 4] = [
 
 /// 9 spends the budget of a purse that was shared with it. The purse 7.1 isn't near 9.
 const FILLING_A_BUDGET: Campaign = Campaign {
-    name: "campaign_filling_a_budget",
     window: "window 50",
     lines: &[
         Asked("0 0 setbudget 7.0 200", "done", BOTH),
@@ -50,7 +48,6 @@ const FILLING_A_BUDGET: Campaign = Campaign {
 
 /// 9 looks for what 7 never shared. It names itself, which makes nothing near.
 const PROBING_NAMES: Campaign = Campaign {
-    name: "campaign_probing_names",
     window: "window 100",
     lines: &[
         Asked("1 9 read 7.0.1 0 1", "denied read", FOR_9),
@@ -72,7 +69,6 @@ const PROBING_NAMES: Campaign = Campaign {
 
 /// 9 reads what it could read then.
 const PROBING_MOMENTS: Campaign = Campaign {
-    name: "campaign_probing_moments",
     window: "window 20",
     lines: &[
         Asked("1 7 create 0", "made 7.0.1", BOTH),
@@ -91,7 +87,6 @@ const PROBING_MOMENTS: Campaign = Campaign {
 
 /// 9 takes 7's own object away from it.
 const DELETES_AND_GRANTS: Campaign = Campaign {
-    name: "campaign_deletes_and_grants",
     window: "window 100",
     lines: &[
         Asked("1 7 create 0", "made 7.0.1", BOTH),
@@ -110,11 +105,12 @@ const DELETES_AND_GRANTS: Campaign = Campaign {
 /// The sweeps that are put at each place.
 pub const SWEEPS: [&str; 3] = ["sweep 0", "sweep 1", "sweep 1000000"];
 
-/// The lines that stay once the strangers of this principal are struck out.
-pub fn kept(alloc: Global, lines: &[Asked], who: u32) -> Result<Vec<Asked>, Fail> {
+/// The lines that stay once the strangers of this principal are struck out, or all lines where
+/// nobody's are.
+pub fn kept(alloc: Global, lines: &[Asked], who: Option<u32>) -> Result<Vec<Asked>, Fail> {
     let mut kept = Vec::new(alloc);
     for line in lines {
-        if line.2.contains(&who) {
+        if who.map_or(true, |who| line.2.contains(&who)) {
             kept.push(*line)?;
         }
     }
@@ -131,25 +127,31 @@ pub fn script(alloc: Global, window: &str, lines: &[Asked]) -> Result<String, Fa
     Ok(script)
 }
 
-/// The same, with one line more before the one of that place, or at the end.
-pub fn script_with(
-    alloc: Global,
-    window: &str,
-    lines: &[Asked],
-    (more, place): (&str, usize),
-) -> Result<String, Fail> {
-    let mut script = String::new(alloc);
-    writeln!(script, "{window}")?;
-    for (index, line) in lines.iter().enumerate() {
-        if index == place {
-            writeln!(script, "{more}")?;
+/// The same script with one of these lines more, for each of them and for each place behind its
+/// first line.
+pub fn scripts_with(alloc: Global, script: &str, more: &[&str]) -> Result<Vec<String>, Fail> {
+    let mut scripts = Vec::new(alloc);
+    for line in more {
+        for place in 1..=script.lines().count() {
+            scripts.push(script_with(alloc, script, line, place)?)?;
         }
-        writeln!(script, "{}", line.0)?;
     }
-    if place >= lines.len() {
-        writeln!(script, "{more}")?;
+    Ok(scripts)
+}
+
+/// A script with this line more behind so many others.
+fn script_with(alloc: Global, script: &str, more: &str, place: usize) -> Result<String, Fail> {
+    let mut text = String::new(alloc);
+    for (index, line) in script.lines().enumerate() {
+        if index == place {
+            writeln!(text, "{more}")?;
+        }
+        writeln!(text, "{line}")?;
     }
-    Ok(script)
+    if place >= script.lines().count() {
+        writeln!(text, "{more}")?;
+    }
+    Ok(text)
 }
 
 /// What is told of these lines.
@@ -175,4 +177,10 @@ pub fn steps_of(alloc: Global, script: &str) -> Result<Vec<Step>, Fail> {
         }
     }
     Ok(steps)
+}
+
+/// The window that a script opens its drive with.
+pub fn window_of(alloc: Global, script: &str) -> Result<u64, Fail> {
+    let first = script.lines().next().ok_or("a first line")?;
+    Ok(parse_window(alloc, first.as_bytes())?)
 }

@@ -1,14 +1,13 @@
-//! Campaigns as frames, each principal on a connection of its number: whole, and struck for the one and for
-//! the other principal, with a sweep at each place. Each connection is sent the replies to the lines of its
-//! principal.
+//! Scripts as frames, each principal on a connection of its number. Each connection is sent the
+//! replies to the lines of its principal.
 
 ghost use Rattle.std.specs.Prelude.{◌↔◌, IsTrue};
 ghost use Rattle.s4_session.specs.Arrivals.{NeverDown};
 
-use crate::campaigns::{Asked, CAMPAIGNS, Campaign, SWEEPS, kept, script_with, steps_of, told};
+use crate::campaigns::{Asked, steps_of, told, window_of};
 use s4_codec::{FRAME_LIMIT, Front, read_frame, read_reply, write_request};
 use s4_run::read_logins;
-use s4_script::{ReplyText, parse_window};
+use s4_script::ReplyText;
 use s4_session::{Hall, HallStep};
 use s4_types::{Bytes, Moment, Step};
 use std::alloc::Global;
@@ -98,12 +97,11 @@ fn never_down(steps: &[HallStep]) -> bool
 
 /// What is sent on each connection.
 fn sent<A: Abort>(rt: &A, alloc: Global, script: &str) -> Result<Vec<(u32, Vec<u8>)>, Fail> {
-    let first = script.lines().next().ok_or("a first line")?;
-    let window = parse_window(alloc, first.as_bytes())?;
     let mut logins = LOGINS.as_bytes();
     let steps = arrivals(alloc, script)?;
     assert!(rt; never_down(&steps));
-    let mut hall = Hall::open(alloc, window, read_logins(alloc, &mut logins)?);
+    let logins = read_logins(alloc, &mut logins)?;
+    let mut hall = Hall::open(alloc, window_of(alloc, script)?, logins);
     Ok(hall.run(&steps)?)
 }
 
@@ -137,57 +135,19 @@ fn asked_by(alloc: Global, lines: &[Asked], who: u32) -> Result<Vec<Asked>, Fail
     Ok(own)
 }
 
-/// That each connection is sent the replies that stand beside the lines of its principal, whatever sweep
-/// stands where.
-fn check_lines<A: Abort>(
+/// That each connection is sent the replies that stand beside the lines of its principal.
+pub fn check_frames<A: Abort>(
     rt: &A,
     alloc: Global,
-    campaign: &Campaign,
+    script: &str,
     lines: &[Asked],
 ) -> Result<(), Fail> {
-    for sweep in SWEEPS {
-        for place in 0..lines.len().saturating_add(1) {
-            let text = script_with(alloc, campaign.window, lines, (sweep, place))?;
-            let sent = sent(rt, alloc, text.as_str())?;
-            assert_eq!(rt; sent.len(), PRINCIPALS.len());
-            for (conn, bytes) in &sent {
-                let wanted = told(alloc, &asked_by(alloc, lines, *conn)?)?;
-                let replies = replies_in(alloc, bytes)?;
-                assert_eq!(rt;
-                    replies.as_str(),
-                    wanted.as_str(),
-                    "{}: {text}",
-                    campaign.name
-                );
-            }
-        }
-    }
-    Ok(())
-}
-
-#[test]
-fn whole_campaigns_as_frames(rt: HostRuntime) -> Result<(), Fail> {
-    let alloc = rt.alloc();
-    for campaign in &CAMPAIGNS {
-        check_lines(&rt, alloc, campaign, campaign.lines)?;
-    }
-    Ok(())
-}
-
-#[test]
-fn campaigns_struck_for_the_owner_as_frames(rt: HostRuntime) -> Result<(), Fail> {
-    let alloc = rt.alloc();
-    for campaign in &CAMPAIGNS {
-        check_lines(&rt, alloc, campaign, &kept(alloc, campaign.lines, 7)?)?;
-    }
-    Ok(())
-}
-
-#[test]
-fn campaigns_struck_for_the_intruder_as_frames(rt: HostRuntime) -> Result<(), Fail> {
-    let alloc = rt.alloc();
-    for campaign in &CAMPAIGNS {
-        check_lines(&rt, alloc, campaign, &kept(alloc, campaign.lines, 9)?)?;
+    let sent = sent(rt, alloc, script)?;
+    assert_eq!(rt; sent.len(), PRINCIPALS.len());
+    for (conn, bytes) in &sent {
+        let wanted = told(alloc, &asked_by(alloc, lines, *conn)?)?;
+        let replies = replies_in(alloc, bytes)?;
+        assert_eq!(rt; replies, wanted, "to {conn}: {script}");
     }
     Ok(())
 }

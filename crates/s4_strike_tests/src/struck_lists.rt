@@ -1,14 +1,14 @@
 //! Lists of steps without a principal's strangers.
 
-use crate::campaigns::{Asked, CAMPAIGNS, SWEEPS, kept, principal, script, script_with, steps_of};
+use crate::campaigns::{Asked, CAMPAIGNS, SWEEPS, kept, principal, script, scripts_with, steps_of};
 use s4_drive::strike;
 use std::alloc::Global;
 use std::process::Abort;
 use std::test::Fail;
 
-/// What makes a purse near 9, and what doesn't: the purse 7.0 is near from the first line on, by a request
-/// that comes late; 7.1 by one that is refused, 7.2 by one for no rights; 7.3 isn't, where 9 itself asks, and
-/// where another is named. What is told doesn't matter.
+/// What makes a purse near 9, and what doesn't: the purse 7.0 is near from the first line on, by
+/// a request that comes late; 7.1 by one that is refused, 7.2 by one for no rights; 7.3 isn't,
+/// where 9 itself asks, and where another is named. What is told doesn't matter.
 const NEAR: [Asked; 27] = [
     Asked("1 7 create 0", "", STAYS),
     Asked("1 7 create 1", "", STAYS),
@@ -45,42 +45,34 @@ const GOES: &[u32] = &[];
 
 /// That these are the lines that stay for the principal, whatever sweep stands where.
 fn check_struck<A: Abort>(rt: &A, alloc: Global, lines: &[Asked], who: u32) -> Result<(), Fail> {
-    let stay = kept(alloc, lines, who)?;
-    let wanted = script(alloc, "window 0", &stay)?;
-    let wanted = steps_of(alloc, wanted.as_str())?;
-    for sweep in SWEEPS {
-        for place in 0..lines.len().saturating_add(1) {
-            let text = script_with(alloc, "window 0", lines, (sweep, place))?;
-            let steps = steps_of(alloc, text.as_str())?;
-            let struck = strike(alloc, principal(who)?, &steps)?;
-            assert_eq!(rt; struck, wanted, "{who}: {text}");
-        }
+    let stay = script(alloc, "window 0", &kept(alloc, lines, Some(who))?)?;
+    let wanted = steps_of(alloc, &stay)?;
+    let whole = script(alloc, "window 0", lines)?;
+    for text in &scripts_with(alloc, &whole, &SWEEPS)? {
+        let struck = strike(alloc, principal(who)?, &steps_of(alloc, text)?)?;
+        assert_eq!(rt; struck, wanted, "{who}: {text}");
     }
     Ok(())
 }
 
+/// What is near is told by all steps.
 #[test]
-fn campaigns_are_struck(rt: HostRuntime) -> Result<(), Fail> {
+fn lists_are_struck(rt: HostRuntime) -> Result<(), Fail> {
     let alloc = rt.alloc();
     for campaign in &CAMPAIGNS {
         check_struck(&rt, alloc, campaign.lines, 7)?;
         check_struck(&rt, alloc, campaign.lines, 9)?;
     }
-    Ok(())
+    check_struck(&rt, alloc, &NEAR, 9)
 }
 
-#[test]
-fn what_is_near_is_told_by_all_steps(rt: HostRuntime) -> Result<(), Fail> {
-    check_struck(&rt, rt.alloc(), &NEAR, 9)
-}
-
-/// Of the administrator the same is struck as of anyone, and of one who isn't there all but what is asked
-/// of all purses.
+/// Of the administrator the same is struck as of anyone, and of one who isn't there all but what
+/// is asked of all purses.
 #[test]
 fn other_principals(rt: HostRuntime) -> Result<(), Fail> {
     let alloc = rt.alloc();
-    let text =
-        "window 0\n1 7 create 0\n2 0 setbudget 7.0 1\n3 7 setacl 7.0.1 8 1\n4 0 setwindow 9\n5 0 read 7.0.1 0 1\n";
+    let text = "window 0\n1 7 create 0\n2 0 setbudget 7.0 1\n3 7 setacl 7.0.1 8 1\n\
+                4 0 setwindow 9\n5 0 read 7.0.1 0 1\n";
     let steps = steps_of(alloc, text)?;
     let cases = [
         (

@@ -1,0 +1,98 @@
+//! Scripts: what the program writes for one, which runs it over the arena, and what a drive over
+//! the plain store tells that is given its steps all at once.
+
+use crate::telling::is_run_same;
+use crate::texts::{Shelf, Texts, utf8};
+use s4_drive::{Drive, never_down};
+use s4_run::{RunFault, run_script};
+use s4_script::{Line, ReplyText, UsedText, parse_line, parse_window};
+use s4_store::PlainStore;
+use s4_types::{Step, Version};
+use std::alloc::Global;
+use std::io;
+
+pub fn is_expected(shelf: &Shelf, name: &str) -> io::Result<bool> {
+    check(shelf.rt, name, &shelf.texts(name, "script")?)
+}
+
+/// Whether all is as expected for a script, in both ways where it has no fault.
+pub fn check(rt: &HostRuntime, name: &str, texts: &Texts) -> io::Result<bool> {
+    let mut output = Vec::new(rt.alloc());
+    let outcome = run_script(rt.alloc(), texts.input.as_slice(), &mut output);
+    let is_same = is_run_same(rt, name, texts, &output, outcome)?;
+    if texts.fault.is_empty() {
+        Ok(check_at_once(rt, name, texts)? && is_same)
+    } else {
+        Ok(is_same)
+    }
+}
+
+fn check_at_once(rt: &HostRuntime, name: &str, texts: &Texts) -> io::Result<bool> {
+    let name = format!(in rt.alloc(); "{name} at once")?;
+    let mut told = String::new(rt.alloc());
+    let outcome = tell_at_once(rt.alloc(), utf8(&texts.input)?, &mut told);
+    is_run_same(rt, name.as_str(), texts, told.as_bytes(), outcome)
+}
+
+/// Tells what a fresh drive over the plain store tells of a script.
+fn tell_at_once(alloc: Global, script: &str, told: &mut String) -> Result<(), RunFault> {
+    let Some(first) = script.lines().next() else {
+        return Ok(());
+    };
+    let window = parse_window(alloc, first.as_bytes());
+    let window = window.map_err(|why| RunFault::parsing(why, 1))?;
+    let lines = lines_of(alloc, script)?;
+    let mut drive = Drive::new(alloc, PlainStore::new(alloc), window);
+    tell_lines(alloc, &mut drive, lines, told)
+}
+
+/// What the lines of a script after its first ask for.
+fn lines_of(alloc: Global, script: &str) -> Result<Vec<Line>, RunFault> {
+    let mut lines = Vec::new(alloc);
+    for (index, text) in script.lines().enumerate().skip(1) {
+        let line = parse_line(alloc, text.as_bytes());
+        lines.push(line.map_err(|why| RunFault::parsing(why, index.saturating_add(1)))?)?;
+    }
+    Ok(lines)
+}
+
+/// Gives a drive the steps up to each `used` and those up to the end, each time all at once.
+fn tell_lines(
+    alloc: Global,
+    drive: &mut Drive<PlainStore<Version>>,
+    lines: Vec<Line>,
+    told: &mut String,
+) -> Result<(), RunFault> {
+    let mut steps = Vec::new(alloc);
+    for line in lines {
+        match line {
+            Line::Step(step) => steps.push(step)?,
+            Line::Used => {
+                tell_steps(drive, &steps, told)?;
+                steps.clear();
+                writeln!(told, "{}", UsedText(drive.used()))?;
+            }
+        }
+    }
+    tell_steps(drive, &steps, told)
+}
+
+/// Gives a drive these steps all at once. Each request leaves a record.
+fn tell_steps(
+    drive: &mut Drive<PlainStore<Version>>,
+    steps: &[Step],
+    told: &mut String,
+) -> Result<(), RunFault> {
+    if !never_down(drive.last(), steps) {
+        return Err(RunFault::MomentGoesBack(0));
+    }
+    let before = drive.history().len();
+    let replies = drive.run(steps)?;
+    if drive.history().len() != before.saturating_add(replies.len()) {
+        writeln!(told, "a request left no record")?;
+    }
+    for reply in &replies {
+        writeln!(told, "{}", ReplyText(reply))?;
+    }
+    Ok(())
+}
