@@ -91,6 +91,13 @@ fn is_told(outcome: &Result<(), Fault>, text: &[u8], wanted: &Answer) -> bool {
     }
 }
 
+/// That a call is answered so by what the peer says.
+fn check_answer<R: Abort>(rt: &R, alloc: Global, said: &[u8], wanted: &Answer) -> Result<(), Fail> {
+    let answer = call(alloc, &mut &said[..], &mut Vec::new(alloc), CREATE);
+    assert!(rt; is_answer(&answer, wanted), "{said:?}: {answer:?}");
+    Ok(())
+}
+
 /// That the program tells so what the peer says, and sends nothing but the call.
 fn check_told<R: Abort>(
     rt: &R,
@@ -117,8 +124,7 @@ fn a_call_is_answered_by_what_its_peer_says(rt: HostRuntime) -> Result<(), Fail>
     let asked = call_for(alloc, "nowhere", SECRET, "create 0")?;
     for Row(frames, wanted) in ROWS {
         let said = joined(alloc, frames)?;
-        let answer = call(alloc, &mut said.as_slice(), &mut Vec::new(alloc), CREATE);
-        assert!(rt; is_answer(&answer, wanted), "{said:?}: {answer:?}");
+        check_answer(&rt, alloc, said.as_slice(), wanted)?;
         check_told(&rt, alloc, &asked, said.as_slice(), wanted)?;
     }
     Ok(())

@@ -8,8 +8,13 @@ use s4_run::RunFault;
 use s4_server::Settings;
 use s4_types::Principal;
 use std::alloc::Global;
+use std::io::Write;
+use std::net::{Net, TcpListener, TcpStream};
 use std::rt::Files;
+use std::sync::Wait;
 use std::test::Fail;
+use std::thread::Threads;
+use std::time::Clock;
 use std::{fs, process};
 
 /// The first script, and what is written for it.
@@ -124,6 +129,20 @@ fn is_outcome(
     }
 }
 
+/// Obeys the command.
+pub fn obeyed<
+    S: Files
+        + Net<Listener = TcpListener, Stream = TcpStream>
+        + Threads
+        + Wait
+        + Clock
+        + Sync
+        + AllocGlobal,
+    W: Write,
+>(system: &S, command: &Command, input: &str, output: &mut W) -> Result<(), Fault> {
+    obey(system, command, input.as_bytes(), output)
+}
+
 #[test]
 fn each_command_reads_and_writes_what_is_wanted(rt: HostRuntime) -> Result<(), Fail> {
     let alloc = rt.alloc();
@@ -132,7 +151,7 @@ fn each_command_reads_and_writes_what_is_wanted(rt: HostRuntime) -> Result<(), F
     for Row(asked, input, wanted) in ROWS {
         let command = command_of(&rt, alloc, asked, path.as_str())?;
         let mut output = Vec::new(alloc);
-        let told = obey(&rt, &command, input.as_bytes(), &mut output);
+        let told = obeyed(&rt, &command, input, &mut output);
         if let Asked::Hall = asked {
             fs::remove_file(&rt, path.as_str())?;
         }
@@ -148,7 +167,7 @@ fn what_has_no_room_cannot_be_written(rt: HostRuntime) -> Result<(), Fail> {
     let alloc = rt.alloc();
     let mut room = [0; 4];
     let version = Command::Show(String::from_str(alloc, "s4d 0.1.0\n")?);
-    let told = obey(&rt, &version, b"".as_slice(), &mut room.as_mut_slice());
+    let told = obeyed(&rt, &version, "", &mut room.as_mut_slice());
     assert_eq!(rt; told, Err(Fault::Run(RunFault::CannotWrite)));
     let call = call_for(alloc, "nowhere", SECRET, "create 0")?;
     let mut answer = ANSWER;

@@ -4,28 +4,39 @@ use s4_client::CallFault;
 use s4_commands::{Fault, FaultText};
 use s4_run::RunFault;
 use s4_session::Fault as SessionFault;
+use std::alloc::Global;
+use std::process::Abort;
 use std::test::Fail;
+
+/// That the line of a fault ends in this text, and the program with status 1.
+fn check_line<R: Abort>(rt: &R, alloc: Global, fault: &Fault, text: &str) -> Result<(), Fail> {
+    let line = FaultText(fault).to_string(alloc)?;
+    let is_line = line.as_str().strip_prefix("s4d: ") == Some(text);
+    assert!(rt; is_line && fault.status() == 1, "{fault:?}: {line}");
+    Ok(())
+}
+
+/// That the fault of a call has this text, and its line too.
+fn check_call<R: Abort>(rt: &R, alloc: Global, fault: CallFault, text: &str) -> Result<(), Fail> {
+    let told = fault.to_string(alloc)?;
+    assert!(rt; told.as_str() == text, "{fault:?}: {told}");
+    check_line(rt, alloc, &Fault::Call(fault), text)
+}
 
 #[test]
 fn each_fault_has_its_line_and_status(rt: HostRuntime) -> Result<(), Fail> {
-    let alloc = rt.alloc();
-    for (fault, wanted) in [
-        (RunFault::BadLine(12), "s4d: line 12: bad line"),
-        (RunFault::MomentGoesBack(2), "s4d: line 2: moment goes back"),
-        (RunFault::LoginsLine(3), "s4d: logins line 3"),
-        (RunFault::CannotReadLogins, "s4d: cannot read logins"),
-        (RunFault::CannotRead, "s4d: cannot read"),
-        (RunFault::CannotWrite, "s4d: cannot write"),
-        (RunFault::NoMemory, "s4d: no memory"),
+    for (fault, text) in [
+        (RunFault::BadLine(12), "line 12: bad line"),
+        (RunFault::MomentGoesBack(2), "line 2: moment goes back"),
+        (RunFault::LoginsLine(3), "logins line 3"),
+        (RunFault::CannotReadLogins, "cannot read logins"),
+        (RunFault::CannotRead, "cannot read"),
+        (RunFault::CannotWrite, "cannot write"),
+        (RunFault::NoMemory, "no memory"),
     ] {
-        let fault = Fault::Run(fault);
-        let line = FaultText(&fault).to_string(alloc)?;
-        assert!(rt;
-            line.as_str() == wanted && fault.status() == 1,
-            "{wanted}: {line}"
-        );
+        check_line(&rt, rt.alloc(), &Fault::Run(fault), text)?;
     }
-    for (fault, wanted) in [
+    for (fault, text) in [
         (CallFault::BadRequest, "bad request"),
         (CallFault::CannotConnect, "cannot connect"),
         (CallFault::ConnectionLost, "connection lost"),
@@ -43,15 +54,7 @@ fn each_fault_has_its_line_and_status(rt: HostRuntime) -> Result<(), Fail> {
         ),
         (CallFault::NoMemory, "no memory"),
     ] {
-        let text = fault.to_string(alloc)?;
-        let fault = Fault::Call(fault);
-        let line = FaultText(&fault).to_string(alloc)?;
-        let is_line = line.as_str().strip_prefix("s4d: ") == Some(wanted);
-        assert!(rt;
-            text.as_str() == wanted && is_line,
-            "{wanted}: {text}, {line}"
-        );
-        assert_eq!(rt; fault.status(), 1);
+        check_call(&rt, rt.alloc(), fault, text)?;
     }
     Ok(())
 }

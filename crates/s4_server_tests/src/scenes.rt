@@ -1,8 +1,9 @@
 //! What peers do who connect to a served drive.
 
 use crate::asking::call_for;
+use crate::commands::obeyed;
 use crate::frames::{CALL, CREATE, HELLO, joined};
-use s4_commands::{Command, FaultText, obey};
+use s4_commands::{Command, FaultText};
 use std::alloc::Global;
 use std::io::{Error, ErrorKind, Read, Write};
 use std::net::{Net, Shutdown, TcpListener, TcpStream};
@@ -71,29 +72,51 @@ pub fn play<
         + AllocGlobal,
 >(rt: &R, scene: &Scene) -> io::Result<Heard> {
     let alloc = rt.alloc();
-    let mut sent = Vec::new(alloc);
-    let mut open = None;
     match scene {
-        Scene::Say(peers) => {
-            for frames in *peers {
-                let said = joined(alloc, frames)?;
-                sent.push(tell(rt, alloc, said.as_slice())?)?;
-            }
-        }
-        Scene::Call(calls) => {
-            for (secret, asked) in *calls {
-                sent.push(call(rt, *secret, asked)?)?;
-            }
-        }
-        Scene::AmongSilent => sent.push(ask_among(rt, alloc)?)?,
-        Scene::WithoutHearing => {
-            open = Some(ask_without_hearing(rt, alloc)?);
-            sent.push(tell(rt, alloc, CALL)?)?;
-        }
-        Scene::Silent => sent.push(hear_only(rt, alloc)?)?,
-        Scene::AboveTheBound => sent.push(meet_the_bound(rt, alloc)?)?,
+        Scene::Say(peers) => say_all(rt, alloc, peers),
+        Scene::Call(calls) => call_all(rt, calls),
+        Scene::AmongSilent => one(alloc, ask_among(rt, alloc)),
+        Scene::WithoutHearing => ask_without_hearing(rt, alloc),
+        Scene::Silent => one(alloc, hear_only(rt, alloc)),
+        Scene::AboveTheBound => one(alloc, meet_the_bound(rt, alloc)),
     }
-    Ok(Heard { sent, open })
+}
+
+/// What one peer is sent.
+fn one(alloc: Global, sent: io::Result<Vec<u8>>) -> io::Result<Heard> {
+    let sent = Vec::from_array(alloc, [sent?])?;
+    Ok(Heard { sent, open: None })
+}
+
+/// What peers are sent who say these frames and then no more, one after the other.
+fn say_all<R: Net<Listener = TcpListener, Stream = TcpStream>>(
+    rt: &R,
+    alloc: Global,
+    peers: &[&[&[u8]]],
+) -> io::Result<Heard> {
+    let mut sent = Vec::new(alloc);
+    for frames in peers {
+        let said = joined(alloc, frames)?;
+        sent.push(tell(rt, alloc, said.as_slice())?)?;
+    }
+    Ok(Heard { sent, open: None })
+}
+
+/// What peers are told who call one after the other.
+fn call_all<
+    R: Files
+        + Net<Listener = TcpListener, Stream = TcpStream>
+        + Threads
+        + Wait
+        + Clock
+        + Sync
+        + AllocGlobal,
+>(rt: &R, calls: &[([u8; 16], &str)]) -> io::Result<Heard> {
+    let mut sent = Vec::new(rt.alloc());
+    for (secret, asked) in calls {
+        sent.push(call(rt, *secret, asked)?)?;
+    }
+    Ok(Heard { sent, open: None })
 }
 
 /// What a peer is sent that says this and then no more.
@@ -130,7 +153,7 @@ fn call<
     let call = call_for(alloc, ADDRESS, secret, asked);
     let command = Command::Call(call.map_err(|_| Error::from(ErrorKind::InvalidInput))?);
     let mut told = Vec::new(alloc);
-    if let Err(fault) = obey(rt, &command, b"".as_slice(), &mut told) {
+    if let Err(fault) = obeyed(rt, &command, "", &mut told) {
         told.extend_from_slice(FaultText(&fault).to_string(alloc)?.as_bytes())?;
     }
     Ok(told)
@@ -149,7 +172,7 @@ fn ask_among<R: Net<Listener = TcpListener, Stream = TcpStream>>(
 }
 
 /// The connection of a peer that asks for more than the system keeps for it, and reads none of it.
-fn ask_without_hearing<R: Net<Listener = TcpListener, Stream = TcpStream>>(
+fn deaf<R: Net<Listener = TcpListener, Stream = TcpStream>>(
     rt: &R,
     alloc: Global,
 ) -> io::Result<TcpStream> {
@@ -162,6 +185,16 @@ fn ask_without_hearing<R: Net<Listener = TcpListener, Stream = TcpStream>>(
         deaf.write_all(LONG_READ)?;
     }
     Ok(deaf)
+}
+
+/// The connection of such a peer, and what another one is sent meanwhile.
+fn ask_without_hearing<R: Net<Listener = TcpListener, Stream = TcpStream>>(
+    rt: &R,
+    alloc: Global,
+) -> io::Result<Heard> {
+    let open = Some(deaf(rt, alloc)?);
+    let sent = Vec::from_array(alloc, [tell(rt, alloc, CALL)?])?;
+    Ok(Heard { sent, open })
 }
 
 /// What a silent peer is sent until its connection ends.

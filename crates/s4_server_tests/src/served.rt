@@ -13,6 +13,7 @@ use s4_session::Logins;
 use s4_types::Moment;
 use std::alloc::Global;
 use std::net::{Net, TcpListener, TcpStream};
+use std::rt::Files;
 use std::sync::Wait;
 use std::test::Fail;
 use std::thread::Threads;
@@ -202,14 +203,14 @@ fn service_of(alloc: Global, row: &Row) -> Result<Service, Fail> {
 /// Has the port.
 fn listen<R: Net<Listener = TcpListener, Stream = TcpStream> + Clock>(
     rt: &R,
-) -> Result<TcpListener, Fail> {
+) -> Option<TcpListener> {
     for _ in 0..TRIES {
         if let Ok(listener) = TcpListener::bind(rt, ADDRESS) {
-            return Ok(listener);
+            return Some(listener);
         }
         thread::sleep(rt, Duration::from_millis(PAUSE));
     }
-    Err(Fail::from("a port that can be had"))
+    None
 }
 
 /// What the server writes.
@@ -245,11 +246,14 @@ fn is_sent(heard: &Heard, wanted: &Sent) -> bool {
 
 /// Whether the bytes are these pieces, one behind the other.
 fn is_joined(bytes: &[u8], pieces: &[&[u8]]) -> bool {
-    let mut rest = Some(bytes);
+    let mut rest = bytes;
     for piece in pieces {
-        rest = rest.and_then(|rest| rest.strip_prefix(*piece));
+        match rest.strip_prefix(*piece) {
+            Some(behind) => rest = behind,
+            None => return false,
+        }
     }
-    rest.is_some_and(|rest| rest.is_empty())
+    rest.is_empty()
 }
 
 /// How many records a server tells at its end.
@@ -259,25 +263,57 @@ fn records_of(served: &[u8]) -> Option<u64> {
     parse_number(number.strip_suffix("\n")?).ok()
 }
 
+/// What a server writes, and what its peers are sent.
+#[derive(Drop)]
+struct Told {
+    served: Vec<u8>,
+    heard: Heard,
+}
+
+/// Serves, and has the peers do beside what they do in the scene.
+fn serve_beside<
+    R: Files
+        + Net<Listener = TcpListener, Stream = TcpStream>
+        + Threads
+        + Wait
+        + Clock
+        + Sync
+        + AllocGlobal,
+>(rt: &R, service: &Service, logins: &Logins, scene: &Scene) -> Result<Told, &'static str> {
+    let listener = listen(rt).ok_or("the port can't be had")?;
+    let (served, heard) = thread::join(
+        rt,
+        || serve(rt, service, &listener, logins),
+        || play(rt, scene),
+    );
+    Ok(Told {
+        served: served.map_err(|_| "the server ends by a fault")?,
+        heard: heard.map_err(|_| "the peers aren't served")?,
+    })
+}
+
+/// Whether a server and its peers were told what is wanted.
+fn is_told(told: &Told, row: &Row) -> bool {
+    let (least, most) = row.records;
+    match records_of(told.served.as_slice()) {
+        Some(records) => { least <= records && records <= most && is_sent(&told.heard, &row.sent) }
+        None => false,
+    }
+}
+
 #[test]
 fn each_server_and_its_peers_do_what_is_wanted(rt: HostRuntime) -> Result<(), Fail> {
     let alloc = rt.alloc();
     let logins = Logins::read(alloc, LOGINS).map_err(|_| Fail::from("a table of logins"))?;
     for row in ROWS {
         let service = service_of(alloc, row)?;
-        let listener = listen(&rt)?;
-        let (served, heard) = thread::join(
-            &rt,
-            || serve(&rt, &service, &listener, &logins),
-            || play(&rt, &row.scene),
-        );
-        let heard = heard.map_err(|_| Fail::from(row.name))?;
-        assert!(rt; is_sent(&heard, &row.sent), "{}", row.name);
-        let served = served.map_err(|_| Fail::from(row.name))?;
-        let records = records_of(served.as_slice());
-        let (least, most) = row.records;
-        let is_as_wanted = records.is_some_and(|records| least <= records && records <= most);
-        assert!(rt; is_as_wanted, "{}: {records:?}", row.name);
+        match serve_beside(&rt, &service, &logins, &row.scene) {
+            Ok(told) => {
+                let served = str::from_utf8(&told.served);
+                assert!(rt; is_told(&told, row), "{}: {served:?}", row.name);
+            }
+            Err(why) => assert!(rt; false, "{}: {why}", row.name),
+        }
     }
     Ok(())
 }
