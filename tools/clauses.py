@@ -54,14 +54,14 @@ def owner_at(lines, row):
 
 
 def contracts_of(text):
-    """The contracts of a file: a name (of a function, alone and with its type, or of a type), the clauses' names, and their text."""
+    """The contracts of a file, by the names of functions, alone and with their types, and of types: the clauses' names, and their text."""
     lines, owner, names, is_open = text.split("\n"), "", [], False
     found = defaultdict(lambda: (set(), []))
     for row, line in enumerate(lines):
         owner = owner_at(lines, row) or owner
         function, clause, invariant = FUNCTION.match(line), CLAUSE.match(line), INVARIANT.match(line)
         if function:
-            names = [function[2]] + ([f"{owner}::{function[2]}"] if function[1] else [])
+            names = [function[2]] + ([f"{owner}::{function[2]}", owner] if function[1] else [])
             for it in names:
                 found[it]
         if invariant:
@@ -80,7 +80,7 @@ class Clauses:
     """Of each crate, which names of clauses its functions, traits and types have."""
 
     def __init__(self, root):
-        self.root, self.of_crate, self.kept = root, {}, {}
+        self.root, self.of_crate = root, {}
 
     def definitions(self, name):
         made = Definitions()
