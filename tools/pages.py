@@ -22,6 +22,7 @@ ITALIC = re.compile(r"(?<![\w*])\*([a-z_]+)\*(?![\w*])")
 CRATE = re.compile(r"(?:`|\bcrates/)(s4\w+)")
 NAME = re.compile(r"[A-Za-z_][\w:]*")
 FILE_NAME = re.compile(rf"[\w./*-]*\w\.(?:{'|'.join(ENDINGS)})")
+SHOWN = re.compile(r"^```(?:script|replies)\n(.*?)^```", re.M | re.S)
 # A comment's beginning, where a sentence goes on in the next line.
 WRAPPED = re.compile(r"\n[ \t]*(?://[/!]?|--|#)?[ \t]*")
 
@@ -110,10 +111,13 @@ class Checkout:
             return f"no such section: {page}#{anchor}"
         return None
 
-    def file_fault(self, name):
-        """Why there is no such file, or nothing. Words in capitals and stars stand for any names."""
+    def file_fault(self, name, crates):
+        """Why there is no such file, or nothing. Words in capitals and stars stand for any names, and a path from a crate's folder on is one
+        of these crates."""
         self.count += 1
         wanted = re.sub(r"^\./", "", name).rstrip("/.")
+        if crates and wanted.startswith(("src/", "specs/", "proofs/")):
+            return None if any(f"crates/{it}/{wanted}" in self.files for it in crates) else f"no such file in {', '.join(crates)}: {name}"
         if wanted.partition("/")[0] in MADE or wanted in self.tails:
             return None
         pattern = re.compile(re.sub(r"(?:(?<=/)|^)[A-Z]+(?=\\\.|/|$)|\\\*", r"[^/]+", re.escape(wanted)))
@@ -150,12 +154,13 @@ def links(checkout, page, block):
 
 def files(checkout, block):
     """The names of files in a block's code that are none's."""
+    crates = list(dict.fromkeys(CRATE.findall(block.heading) + CRATE.findall(block.text)))
     spans = [(0, block.text)] if block.is_fenced else [(it.start(), it[1]) for it in SPAN.finditer(block.text)]
     for start, text in spans:
         for word in re.findall(r"[^\s,;()<>'\"]+", text):
             is_path = word.startswith(TOPS) or (not block.is_fenced and FILE_NAME.fullmatch(word) and word[0] not in ".*/")
             if (is_path or re.match(r"\./[a-z]", word)) and not word.startswith("docs/"):
-                yield start, checkout.file_fault(word)
+                yield start, checkout.file_fault(word, crates)
 
 
 def clauses(checkout, block):
@@ -164,6 +169,15 @@ def clauses(checkout, block):
     names = {name for span in SPAN.findall(block.text) for name in NAME.findall(span)}
     for it in ITALIC.finditer(block.text):
         yield it.start(), checkout.clause_fault(it[1], list(crates), names)
+
+
+def faults_of_examples(checkout):
+    """The scripts and replies of README that aren't files of examples/, which the gate runs."""
+    kept = {checkout.text(it) for it in checkout.files if it.startswith("examples/")}
+    for it in SHOWN.finditer(checkout.pages["README.md"]):
+        checkout.count += 1
+        if it[1] not in kept:
+            yield Finding("README.md", 1 + checkout.pages["README.md"].count("\n", 0, it.start()), "this block is no file of examples/")
 
 
 def faults_of_page(checkout, page):
@@ -203,4 +217,4 @@ def wrong_references(checkout):
     """All wrong references of a checkout, in the order of their places."""
     found = {it for page in checkout.pages for it in faults_of_page(checkout, page)}
     found |= {it for file in checkout.files if is_code(file) for it in faults_of_code(checkout, file)}
-    return sorted(found)
+    return sorted(found | set(faults_of_examples(checkout)))

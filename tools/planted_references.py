@@ -11,6 +11,7 @@ PUT = [
     ("README.md", '[the model](docs/MODEL.md), "No such section"', 'no such section: docs/MODEL.md, "No such section"'),
     ("README.md", "[the model](docs/MODEL.md#no-such-section)", "no such section: docs/MODEL.md#no-such-section"),
     ("README.md", "`crates/s4_acl/src/nowhere.rt`", "no such file: crates/s4_acl/src/nowhere.rt"),
+    ("docs/MODEL.md", "`s4_acl`: `src/drive.rt`", "no such file in s4_acl: src/drive.rt"),
     ("docs/MODEL.md", "`Nowhere.antt`", "no such file: Nowhere.antt"),
     ("docs/MODEL.md", "`./nowhere`", "no such file: ./nowhere"),
     ("README.md", "`s4_acl`: `entry_of` (*nowhere*)", "nowhere is no clause of s4_acl"),
@@ -24,6 +25,7 @@ PUT = [
 RENAMED = [
     ("crates/s4_drive/src/drive.rt", "ensures steps {", "ensures stepped {", "README.md", "steps is no clause of s4_drive"),
     ("crates/s4_session/specs/Sent.antt", "  pub isolated :", "  pub separate :", "docs/PROVED.md", "isolated is no clause of s4_session"),
+    ("examples/undone.script", "window 1000", "window 1001", "README.md", "this block is no file of examples/"),
     ("docs/MODEL.md", "## Isolation", "## Separation", "crates/s4_session/src/hall.rt", 'no such section: docs/MODEL.md, "Isolation"'),
 ]
 
