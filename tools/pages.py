@@ -22,7 +22,9 @@ ITALIC = re.compile(r"(?<![\w*])\*([a-z_]+)\*(?![\w*])")
 CRATE = re.compile(r"(?:`|\bcrates/)(s4\w+)")
 NAME = re.compile(r"[A-Za-z_][\w:]*")
 FILE_NAME = re.compile(rf"[\w./*-]*\w\.(?:{'|'.join(ENDINGS)})")
+# What is shown of examples: a block of README that is a script or its replies, and a block behind a line with a file's name.
 SHOWN = re.compile(r"^```(?:script|replies)\n(.*?)^```", re.M | re.S)
+SHOWN_BY_NAME = re.compile(r"^`(examples/[\w.]+)`[^\n]*:\n\n```\w*\n(.*?)^```", re.M | re.S)
 # A comment's beginning, where a sentence goes on in the next line.
 WRAPPED = re.compile(r"\n[ \t]*(?://[/!]?|--|#)?[ \t]*")
 
@@ -171,13 +173,14 @@ def clauses(checkout, block):
         yield it.start(), checkout.clause_fault(it[1], list(crates), names)
 
 
-def faults_of_examples(checkout):
-    """The scripts and replies of README that aren't files of examples/, which the gate runs."""
+def faults_of_examples(checkout, page):
+    """The blocks of a page that aren't the examples that they show."""
+    text = checkout.pages[page]
     kept = {checkout.text(it) for it in checkout.files if it.startswith("examples/")}
-    for it in SHOWN.finditer(checkout.pages["README.md"]):
-        checkout.count += 1
-        if it[1] not in kept:
-            yield Finding("README.md", 1 + checkout.pages["README.md"].count("\n", 0, it.start()), "this block is no file of examples/")
+    shown = [(it.start(), it[1] in kept, "no file of examples/") for it in SHOWN.finditer(text) if page == "README.md"]
+    shown += [(it.start(), it[2] == checkout.text(it[1]), f"not {it[1]}") for it in SHOWN_BY_NAME.finditer(text) if it[1] in checkout.files]
+    checkout.count += len(shown)
+    yield from (Finding(page, 1 + text.count("\n", 0, at), f"this block is {what}") for at, is_right, what in shown if not is_right)
 
 
 def faults_of_page(checkout, page):
@@ -217,4 +220,5 @@ def wrong_references(checkout):
     """All wrong references of a checkout, in the order of their places."""
     found = {it for page in checkout.pages for it in faults_of_page(checkout, page)}
     found |= {it for file in checkout.files if is_code(file) for it in faults_of_code(checkout, file)}
-    return sorted(found | set(faults_of_examples(checkout)))
+    found |= {it for page in checkout.pages for it in faults_of_examples(checkout, page)}
+    return sorted(found)
