@@ -5,7 +5,8 @@ from collections import defaultdict
 from tools.functions import FUNCTION, IMPL, TRAIT, head_at, last_word, outside
 
 CLAUSE = re.compile(r"\s*(ensures|requires)(\*?) (?:(\w+) )?\{(.*)")
-INVARIANT = re.compile(r"\s*ghost invariant = \{(.*)")
+INVARIANT = re.compile(r"\s*ghost (?:invariant = |(\w+): )\{(.*)")
+STRUCT = re.compile(r"\s*(?:pub(?:\([^)]*\))? )?(?:struct|enum) (\w+)")
 DEFINITION = re.compile(r"(?:abbrev |def )?(?:pub )?(?:abbrev |def )?(?:pub )?(record )?(\w+)\b(.*)")
 FIELD = re.compile(r"\s+(?:pub )?(\w+) :")
 WORD = re.compile(r"[A-Za-z_]\w*")
@@ -43,10 +44,10 @@ class Definitions:
 
 
 def owner_at(lines, row):
-    """The type or trait whose impl or trait begins in a row, or nothing."""
-    impl, trait = IMPL.fullmatch(lines[row]), TRAIT.match(lines[row])
-    if trait:
-        return trait[2]
+    """The type or trait that begins in a row, or whose impl does, or nothing."""
+    impl, trait, struct = IMPL.fullmatch(lines[row]), TRAIT.match(lines[row]), STRUCT.match(lines[row])
+    if trait or struct:
+        return trait[2] if trait else struct[1]
     if not impl:
         return None
     head = head_at(lines, row).strip().partition(" where ")[0]
@@ -69,8 +70,9 @@ def contracts_of(text):
         if clause or invariant:
             is_open = True
         if is_open:
+            name = clause[3] if clause else invariant[1] if invariant else None
             for it in names:
-                found[it][0].update({clause[3]} - {None} if clause else ())
+                found[it][0].update({name} - {None})
                 found[it][1].append(line)
             is_open = not line.rstrip().endswith(("}", "};"))
     return found
