@@ -7,3 +7,4 @@ pub mod Charging
 pub mod Following
 pub mod Carried
 pub mod Isolated
+pub mod CutLimits

@@ -12,7 +12,6 @@ use Rattle.s4_types.specs.Spending.{budget_of}
 use Rattle.s4_types.specs.Play.{last_of}
 use Rattle.s4_ledger.specs.declared.charge.Charge.{Charge}
 use Rattle.s4_ledger.specs.Books as books
-use Rattle.s4_state.specs.Log.{Log, base_of}
 use Rattle.s4_state.specs.Sound.{IsSound}
 use Rattle.s4_state.specs.Weights.{purse_weight}
 use Rattle.s4_drive.specs.declared.limits.Limits.{Limits}
@@ -36,9 +35,9 @@ pub record LimitsStand (base : Base) (h : List Record) (limits : Limits) : Type 
   pub budgets : (p : Purse) → books.budget_of p limits.ledger.budgets ≡ budget_of base p h
 
 -- what a drive holds stands for its history, and the history is sound
-pub record DriveStands (log : Log) (spending : Limits) : Type 0 where
-  pub sound : IsSound (base_of log) log.history
-  pub limits : LimitsStand (base_of log) log.history spending
+pub record DriveStands (base : Base) (h : List Record) (spending : Limits) : Type 0 where
+  pub sound : IsSound base h
+  pub limits : LimitsStand base h spending
 
 -- what the values cost that a request makes past
 abbrev pub costs_of : Past → List ℕ

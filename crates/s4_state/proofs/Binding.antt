@@ -1,11 +1,13 @@
 -- Names: what is held of them tells what they are bound to, and records that bind them.
 use Rattle.std.proofs.Common.{◌≡◌, ℕ, ◌+◌, ◌≤◌, Bool, true, false, cond, Option, Some, None, List, [], ◌∷◌, ◌++◌, refl, sym, ◌∙◌, ap, subst, arith, length, filter}
 use Rattle.std.specs.Prelude.{◌&&◌, ◌==◌, nat_le, is_some, count_by, map, replicate, if◌then◌else◌}
-use Rattle.std.specs.List.{list_any}
+use Rattle.std.specs.List.{list_all, list_any}
+use Rattle.std.specs.List.Sorted.{IsStrictlySortedBy}
 use Rattle.std.specs.Option.{option_map}
 use Rattle.std.proofs.lemmas.Bool.{eqb-true, eq-eqb}
 use Rattle.std.proofs.lemmas.List.{map-append}
 use Rattle.std.proofs.lemmas.List.Folds.{list_all-map}
+use Rattle.std.proofs.lemmas.List.Kept.{IsStrictlySortedBy-filter}
 use Rattle.s4_types.specs.declared.object.Purse.{Purse}
 use Rattle.s4_types.specs.declared.object.ObjectId.{ObjectId}
 use Rattle.s4_types.specs.declared.principal.Caller.{Caller}
@@ -16,7 +18,7 @@ use Rattle.s4_types.specs.declared.record.Record.{Record}
 use Rattle.s4_types.specs.declared.version.Version.{Version}
 use Rattle.s4_types.specs.declared.version.Item.TheVariants as item
 use Rattle.s4_types.specs.Names.{same_purse, object_in}
-use Rattle.s4_types.specs.Name.{same_name}
+use Rattle.s4_types.specs.Name.{same_name, name_cmp}
 use Rattle.s4_types.specs.declared.acl.AclEntry.{AclEntry}
 use Rattle.s4_types.specs.Kinds.{is_refused, is_create, concerns}
 use Rattle.s4_types.specs.Bindings.{bindings, names_of, with_name, bound_at, bound_count, has_name, is_serial}
@@ -30,9 +32,9 @@ use Rattle.s4_types.proofs.Snoc.{newest-snoc}
 use Rattle.s4_types.proofs.SameNames.{purse_is, name_is, name_self}
 use Rattle.s4_store.specs.Chains.{Chains, items_of, item_count, IsOpen, StillOpen}
 use Rattle.s4_tracks.specs.Chain.{endless, current_of, version_in, with_end, end_at}
-use Rattle.s4_tracks.specs.Swept.{IsSwept, IsFrom}
+use Rattle.s4_tracks.specs.Swept.{unexpired, AgreesWith, IsFrom}
 use Rattle.s4_tracks.proofs.Ending.{with_end-snoc}
-use Rattle.s4_tracks.proofs.Sweeping.{swept_up, swept_end, swept_more, swept_version_in}
+use Rattle.s4_tracks.proofs.Sweeping.{agrees_as, agrees_up, agrees_end, agrees_more, agrees_version_in}
 use Rattle.s4_objects.specs.declared.kept.Which.{Which}
 use Rattle.s4_objects.specs.declared.kept.Which.TheVariants as which
 use Rattle.s4_objects.specs.declared.kept.Kept.{Kept}
@@ -45,15 +47,15 @@ use Rattle.s4_parts.specs.Waiting.{waiting_in, all_by, Waits}
 use Rattle.s4_parts.specs.Table.{Holds, chain_at, names_in, bindings_in, binding, object_of, serial_now, is_any, IsForeign, KeepsOthers, LeavesNoChain}
 use Rattle.s4_state.specs.Counts.{made_by, values_ended_by, bindings_ended_by, counted}
 use Rattle.s4_state.specs.Laid.{laid, laid_by, version_by, versions_on, bindings_on}
-use Rattle.s4_state.specs.Sound.{IsSound, IsNext, EndsBy, BindingsStand}
-use Rattle.s4_state.specs.Stands.{horizon_now, ObjectsStand, NamesStand, IsTidy, StandsFor, MakesNone}
+use Rattle.s4_state.specs.Sound.{IsSound, IsNext, EndsBy, ValuesStand}
+use Rattle.s4_state.specs.Stands.{horizon_now, is_lasting, ObjectsStand, NamesStand, IsTidy, Balances, StandsFor, MakesNone}
 use Rattle.s4_state.proofs.Reading.{in_force-laid}
-use Rattle.s4_state.proofs.Living.{all_by-up}
-use Rattle.s4_state.proofs.Naming.{bindings-snoc, names_of-snoc}
-use Rattle.s4_state.proofs.Waiting.{ends-by, no-more, waiting_by, waiting_same, waiting_next}
-use Rattle.s4_state.proofs.Left.{serial-none, any-more, any-end, count-filter, any-filter, filter-with}
+use Rattle.s4_state.proofs.Living.{all_by-up, none-newer, floor-now}
+use Rattle.s4_state.proofs.Naming.{bindings-snoc, names_of-snoc, lasting_as}
+use Rattle.s4_state.proofs.Waiting.{horizon-by, ends-by, no-more, waiting_by, waiting_same, waiting_next}
+use Rattle.s4_state.proofs.Left.{serial-none, lasting-up, lasting-more, lasting-end, filter-less, count-filter, any-filter, filter-with}
 use Rattle.s4_state.proofs.Granting.{told as told-of, told-asked, accepted-asked, bound-done, unbound-done, was_unbound, was_bound, window-done, budget-done}
-use Rattle.s4_state.proofs.Standing.{swept_as, swept_if, horizon_up, objects_next, stands_on, stands_still}
+use Rattle.s4_state.proofs.Standing.{agrees_if, horizon_up, objects_next, stands_on, stands_still}
 use Rattle.s4_state.proofs.Effects.{makes-none, idle}
 
 -- WHAT A NAME IS BOUND TO
@@ -67,7 +69,7 @@ object-laid p n None = refl
 object-laid p n (Some v) = refl
 
 -- from the last moment on the current binding is the one in force
-current-bound : (p : Purse) (n : List ℕ) (last t : ℕ) (values : List (Value ℕ)) → last ≤ t → BindingsStand last values
+current-bound : (p : Purse) (n : List ℕ) (last t : ℕ) (values : List (Value ℕ)) → last ≤ t → ValuesStand last values
     → current_of (laid_by (λ serial. 64 + length n) (λ v. Some (item.Bind (object_in p v.value))) values) ≡ option_map (as_version p n) (in_force_by t values)
 current-bound p n last t [] l s = refl
 current-bound p n last t (v ∷ past) l s =
@@ -81,10 +83,10 @@ current-bound p n last t (v ∷ past) l s =
     of None b = refl
     of (Some end) b = let over : nat_le end t ≡ true = grind arith in sym (ap (λ x. option_map (as_version p n) (if x then None else Some v)) over)
 
-module _ {base : Base} {freed : ℕ} {chains : Chains Version} {kept : Objects} {serials : Purse → ℕ} {table : Table} {h : List Record} (s : StandsFor base freed chains kept serials table h) where
+module _ {base : Base} {size : ℕ} {chains : Chains Version} {kept : Objects} {serials : Purse → ℕ} {table : Table} {h : List Record} (s : StandsFor base size chains kept serials table h) where
   -- now, or at a moment that isn't below the horizon
   pub bound-in : (p : Purse) (n : List ℕ) (t : ℕ) → last_of h ≤ t → (at : Option ℕ) → IsFrom (horizon_now base h) at → object_of (version_in at (bindings_in chains table p n)) ≡ option_map (object_in p) (bound_at base p n (moment_of t at) h)
-  bound-in p n t l at from = ap object_of (swept_version_in (horizon_now base h) at (bindings_in chains table p n) (bindings_on base p n h) from (s.partitions.bindings p n)) ∙ all at
+  bound-in p n t l at from = ap object_of (agrees_version_in (horizon_now base h) at (bindings_in chains table p n) (bindings_on base p n h) from (s.partitions.bindings p n)) ∙ all at
     where
       all : (at : Option ℕ) → object_of (version_in at (bindings_on base p n h)) ≡ option_map (object_in p) (bound_at base p n (moment_of t at) h)
       all None = ap object_of (current-bound p n (last_of h) t (bindings base p n h) l (s.sound.bindings p n)) ∙ object-laid p n (in_force_by t (bindings base p n h))
@@ -99,13 +101,17 @@ module _ {base : Base} {freed : ℕ} {chains : Chains Version} {kept : Objects} 
 
   -- how many names are bound, and whether an object has one
   pub count-now : (p : Purse) (t : ℕ) → last_of h ≤ t → count_by (λ n. is_some (serial_now (bindings_in chains table p n))) (names_in chains table p) ≡ bound_count base p t h
-  count-now p t l = ap (count_by (λ n. is_some (serial_now (bindings_in chains table p n)))) (s.partitions.names p)
-      ∙ count-filter _ _ (names_of base p h) (λ n e. ap is_some (serial-none (bindings_in chains table p n) e))
+  count-now p t l =
+      let none : (n : List ℕ) → is_lasting (horizon_now base h) chains table p n ≡ false → is_some (serial_now (bindings_in chains table p n)) ≡ false = λ n e. ap is_some (serial-none (horizon_now base h) (bindings_in chains table p n) e) in
+      sym (count-filter _ _ (names_in chains table p) none) ∙ ap (count_by (λ n. is_some (serial_now (bindings_in chains table p n)))) (s.partitions.names p)
+      ∙ count-filter _ _ (names_of base p h) none
       ∙ ap (λ f. count_by f (names_of base p h)) (λ i n. is_some (serial-now p n t l i))
 
   pub named-now : (o : ObjectId) (t : ℕ) → last_of h ≤ t → list_any (λ n. is_serial o.serial (serial_now (bindings_in chains table o.purse n))) (names_in chains table o.purse) ≡ has_name base o t h
-  named-now o t l = ap (list_any (λ n. is_serial o.serial (serial_now (bindings_in chains table o.purse n)))) (s.partitions.names o.purse)
-      ∙ any-filter _ _ (names_of base o.purse h) (λ n e. ap (is_serial o.serial) (serial-none (bindings_in chains table o.purse n) e))
+  named-now o t l =
+      let none : (n : List ℕ) → is_lasting (horizon_now base h) chains table o.purse n ≡ false → is_serial o.serial (serial_now (bindings_in chains table o.purse n)) ≡ false = λ n e. ap (is_serial o.serial) (serial-none (horizon_now base h) (bindings_in chains table o.purse n) e) in
+      sym (any-filter _ _ (names_in chains table o.purse) none) ∙ ap (list_any (λ n. is_serial o.serial (serial_now (bindings_in chains table o.purse n)))) (s.partitions.names o.purse)
+      ∙ any-filter _ _ (names_of base o.purse h) none
       ∙ ap (λ f. list_any f (names_of base o.purse h)) (λ i n. is_serial o.serial (serial-now o.purse n t l i))
 
 -- OPEN CHAINS
@@ -120,8 +126,8 @@ tidy_named tidy leaves = record { none_else = λ c o f g. let before = leaves c 
 pub objects_beside : {hz : ℕ} {chains new : Chains Version} {kept : Objects} {base : Base} {h : List Record} → ObjectsStand base hz chains kept h → KeepsObjects chains new kept → ObjectsStand base hz new kept h
 objects_beside {hz} {base = base} {h = h} s keeps = record {
   holds = holds_still keeps s.holds;
-  made = s.made;
-  tracks = λ o w. subst (λ vs. IsSwept hz vs (versions_on base w o h)) (sym (held_still keeps o w)) (s.tracks o w);
+  numbered = s.numbered;
+  tracks = λ o w. subst (λ vs. AgreesWith hz vs (versions_on base w o h)) (sym (held_still keeps o w)) (s.tracks o w);
   ends = s.ends;
 }
 
@@ -129,11 +135,11 @@ objects_beside {hz} {base = base} {h = h} s keeps = record {
 pub strange : {hz : ℕ} {chains : Chains Version} {kept : Objects} {table : Table} {base : Base} {h : List Record} → NamesStand base hz chains kept table h → (o : ObjectId) (k : Kept) (w : Which) → found_in kept o ≡ Some k → IsForeign table (chain_of w k)
 strange s o k w got p n has = not_both _ (eq-eqb (chain_of w k) (chain_of w k) refl) (s.apart p n (chain_of w k) has o k w got)
 
-module _ {base : Base} {freed : ℕ} {chains : Chains Version} {kept : Objects} {serials : Purse → ℕ} {table : Table} {h : List Record} (s : StandsFor base freed chains kept serials table h) (new : Chains Version) (table' : Table) where
+module _ {base : Base} {size : ℕ} {chains : Chains Version} {kept : Objects} {serials : Purse → ℕ} {table : Table} {h : List Record} (s : StandsFor base size chains kept serials table h) (new : Chains Version) (table' : Table) where
   pub stands_reserved : Holds new table' → Waits new table' → waiting_in table' ≡ waiting_in table → ((p : Purse) → names_in new table' p ≡ names_in chains table p) → ((p : Purse) (n : List ℕ) → bindings_in new table' p n ≡ bindings_in chains table p n)
       → ((c : ℕ) → IsOpen chains c → items_of new c ≡ items_of chains c) → StillOpen chains new
       → ((p : Purse) (n : List ℕ) (c : ℕ) → chain_at table' p n ≡ Some c → IsOpen chains c → chain_at table p n ≡ Some c) → LeavesNoChain chains new table table' → item_count new ≡ item_count chains
-      → StandsFor base freed new kept serials table' h
+      → StandsFor base size new kept serials table' h
   stands_reserved holds waits waiting names bindings others still own leaves same = record {
     sound = s.sound;
     objects = objects_beside s.objects (record {
@@ -144,8 +150,8 @@ module _ {base : Base} {freed : ℕ} {chains : Chains Version} {kept : Objects} 
     partitions = record {
       holds = holds;
       waits = waits;
-      bindings = λ p n. subst (λ vs. IsSwept (horizon_now base h) vs (bindings_on base p n h)) (sym (bindings p n)) (s.partitions.bindings p n);
-      names = λ p. names p ∙ s.partitions.names p ∙ ap (λ f. filter f (names_of base p h)) (λ i n. is_any (sym (bindings p n) i));
+      bindings = λ p n. subst (λ vs. AgreesWith (horizon_now base h) vs (bindings_on base p n h)) (sym (bindings p n)) (s.partitions.bindings p n);
+      names = λ p. lasting_as (horizon_now base h) chains new table table' p (λ n. bindings p n) (names p) refl (s.partitions.names p);
       ends = waiting_same (ap (map (λ e. e.end)) waiting) refl s.partitions.ends;
       apart = λ p n c has o k w got. by_test (c == chain_of w k)
           (λ e. let is : c ≡ chain_of w k = eqb-true c (chain_of w k) e in
@@ -153,8 +159,8 @@ module _ {base : Base} {freed : ℕ} {chains : Chains Version} {kept : Objects} 
           (λ e. e);
     };
     tidy = tidy_named s.tidy leaves;
-    used = ap (λ n. n + freed) same ∙ s.used;
-    ended = s.ended ∙ ap (λ es. freed + length (ends_in kept) + length es) (sym waiting);
+    used = same ∙ s.used;
+    balance = subst (λ es. Balances base h size (length (ends_in kept) + length es)) (sym waiting) s.balance;
   }
 
   -- A RECORD ABOUT A NAME
@@ -162,14 +168,14 @@ module _ {base : Base} {freed : ℕ} {chains : Chains Version} {kept : Objects} 
   stands_named : (r : Record) (sound : IsSound base (h ++ r ∷ [])) → MakesNone r → counted values_ended_by r ≡ 0 → ((o : ObjectId) (w : Which) → versions_on base w o (h ++ r ∷ []) ≡ versions_on base w o h)
       → Holds new table' → Waits new table' → map (λ e. e.end) (waiting_in table') ≡ map (λ e. e.end) (waiting_in table) ++ replicate (counted bindings_ended_by r) r.moment
       → KeepsOthers chains new table → ((p : Purse) (n : List ℕ) → chain_at table' p n ≡ chain_at table p n)
-      → ((p : Purse) → names_in new table' p ≡ filter (λ n. is_any (bindings_in new table' p n)) (names_of base p (h ++ r ∷ [])))
-      → ((p : Purse) (n : List ℕ) → IsSwept (horizon_now base h) (bindings_in new table' p n) (bindings_on base p n (h ++ r ∷ [])))
-      → LeavesNoChain chains new table table' → item_count new ≡ item_count chains + counted made_by r → StandsFor base freed new kept serials table' (h ++ r ∷ [])
+      → ((p : Purse) → filter (is_lasting (horizon_now base h) new table' p) (names_in new table' p) ≡ filter (is_lasting (horizon_now base h) new table' p) (names_of base p (h ++ r ∷ [])))
+      → ((p : Purse) (n : List ℕ) → AgreesWith (horizon_now base h) (bindings_in new table' p n) (bindings_on base p n (h ++ r ∷ [])))
+      → LeavesNoChain chains new table table' → item_count new ≡ item_count chains + counted made_by r → StandsFor base (size + counted made_by r) new kept serials table' (h ++ r ∷ [])
   stands_named r sound none unended tracks holds waits waiting others own names bindings leaves made = stands_on s r sound none objects (record {
     holds = holds;
     waits = waits;
-    bindings = λ p n. swept_up (horizon_now base h) (horizon_now base (h ++ r ∷ [])) _ _ (horizon_up s r sound) (bindings p n);
-    names = names;
+    bindings = λ p n. agrees_up (horizon_now base h) (horizon_now base (h ++ r ∷ [])) _ _ (horizon_up s r sound) (bindings p n);
+    names = λ p. filter-less (is_lasting (horizon_now base (h ++ r ∷ [])) new table' p) (is_lasting (horizon_now base h) new table' p) _ _ (λ n e. lasting-up _ _ (bindings_in new table' p n) (horizon_up s r sound) e) (names p);
     ends = waiting_next (horizon_up s r sound) bindings_ended_by h r waiting s.partitions.ends;
     apart = λ p n c has. s.partitions.apart p n c (sym (own p n) ∙ has);
   }) (tidy_named s.tidy leaves) made (no-more (ends_in kept) r.moment unended) waiting
@@ -181,7 +187,7 @@ module _ {base : Base} {freed : ℕ} {chains : Chains Version} {kept : Objects} 
       })
 
       objects : ObjectsStand base (horizon_now base (h ++ r ∷ [])) new kept (h ++ r ∷ [])
-      objects = objects_next s r sound beside.holds (λ o. refl) none (λ q u. swept_as refl (tracks q u) (beside.tracks q u))
+      objects = objects_next s r sound beside.holds (λ o. refl) none (λ q u. agrees_as refl (tracks q u) (beside.tracks q u))
           (no-more (ends_in kept) r.moment unended)
 
 same-count : (n m : ℕ) → m ≡ 0 → n ≡ n + m
@@ -225,10 +231,14 @@ bound-laid m name o p n old e f =
     ap (λ w. laid_by (λ serial. 64 + length n) (λ v. Some (item.Bind (object_in p v.value))) old ++ w ∷ [])
     (λ i. record { begin = m; end = None; item = Some (item.Bind (sym is i)); cost = 64 + length (name_is name n f i) })
 
-module _ {base : Base} {freed : ℕ} {chains : Chains Version} {kept : Objects} {serials : Purse → ℕ} {table : Table} {h : List Record} (s : StandsFor base freed chains kept serials table h) {r : Record} (n : IsNext base h r) (granted : is_refused r.reply ≡ false) where
+module _ {base : Base} {size : ℕ} {chains : Chains Version} {kept : Objects} {serials : Purse → ℕ} {table : Table} {h : List Record} (s : StandsFor base size chains kept serials table h) {r : Record} (n : IsNext base h r) (granted : is_refused r.reply ≡ false) where
   -- no binding that waits ended later than the record
   pub later_then : all_by r.moment (waiting_in table) ≡ true
-  later_then = sym (list_all-map (λ end. nat_le end r.moment) (λ e. e.end) (waiting_in table)) ∙ waiting_by r.moment (ends-by bindings_ended_by r.moment h (all_by-up (last_of h) r.moment h n.later s.sound.moments)) s.partitions.ends
+  later_then =
+      let later : last_of h ≤ r.moment = n.later in
+      let low : base.floor ≤ r.moment = (let floor = floor-now s.sound in omega (arith, floor, later)) in
+      let all : list_all (λ x. nat_le x.moment r.moment) h ≡ true = all_by-up (last_of h) r.moment h n.later (none-newer s.sound) in
+      sym (list_all-map (λ end. nat_le end r.moment) (λ e. e.end) (waiting_in table)) ∙ waiting_by r.moment (horizon-by base h (last_of h) r.moment low all n.later) (ends-by bindings_ended_by r.moment h all) s.partitions.ends
 
   module _ (name : List ℕ) (o : ObjectId) (asked : r.request ≡ PCreate name o) where
     bound-accepted : is_refused (told-of base h r.moment r.caller (PCreate name o)) ≡ false
@@ -258,25 +268,28 @@ module _ {base : Base} {freed : ℕ} {chains : Chains Version} {kept : Objects} 
     pub stands_bound : IsSound base (h ++ r ∷ []) → (new : Chains Version) (table' : Table) → Holds new table' → Waits new table' → waiting_in table' ≡ waiting_in table → KeepsOthers chains new table → ((p : Purse) (m : List ℕ) → chain_at table' p m ≡ chain_at table p m)
         → ((p : Purse) → names_in new table' p ≡ (if same_purse o.purse p then with_name name (names_in chains table p) else names_in chains table p))
         → ((p : Purse) (m : List ℕ) → bindings_in new table' p m ≡ (if same_purse o.purse p && same_name name m then bindings_in chains table p m ++ binding r.moment name o ∷ [] else bindings_in chains table p m))
-        → LeavesNoChain chains new table table' → item_count new ≡ item_count chains + 1 → StandsFor base freed new kept serials table' (h ++ r ∷ [])
-    stands_bound sound new table' holds waits waiting others own names held leaves made = subst (λ x. StandsFor base freed new kept serials table' (h ++ x ∷ [])) (sym bound-is)
+        → LeavesNoChain chains new table table' → item_count new ≡ item_count chains + 1 → StandsFor base (size + counted made_by r) new kept serials table' (h ++ r ∷ [])
+    stands_bound sound new table' holds waits waiting others own names held leaves made = subst (λ x. StandsFor base (size + counted made_by x) new kept serials table' (h ++ x ∷ [])) (sym bound-is)
         (stands_named s new table' bound-record (subst (λ x. IsSound base (h ++ x ∷ [])) bound-is sound)
         (makes-none base h bound-record o (λ p. refl) (λ q. refl) refl) refl
         (tracks-idle base h r.moment r.caller o (PCreate name o) (λ p. refl) refl (λ q. refl) (λ q. refl) (λ q old. refl) (λ q old. refl) (λ q old. refl))
         holds waits (ap (map (λ e. e.end)) waiting ∙ no-more (map (λ e. e.end) (waiting_in table)) r.moment refl) others own
         (λ p. by_test (same_purse o.purse p)
-        (λ e. names p ∙ ap (λ b. if b then with_name name (names_in chains table p) else names_in chains table p) e ∙ ap (with_name name) (s.partitions.names p)
-        ∙ filter-with name (λ m. is_any (bindings_in new table' p m)) (λ m. is_any (bindings_in chains table p m))
-        (λ m other. ap is_any (held p m ∙ ap (λ b. if same_purse o.purse p && b then bindings_in chains table p m ++ binding r.moment name o ∷ [] else bindings_in chains table p m) other
+        (λ e. let hz : ℕ = horizon_now base h in
+        let more : (names : List (List ℕ)) → IsStrictlySortedBy name_cmp names → with_name name (filter (is_lasting hz chains table p) names) ≡ filter (is_lasting hz new table' p) (with_name name names)
+        = λ names sorted. filter-with name (is_lasting hz new table' p) (is_lasting hz chains table p)
+        (λ m other. ap (λ vs. is_any (unexpired hz vs)) (held p m ∙ ap (λ b. if same_purse o.purse p && b then bindings_in chains table p m ++ binding r.moment name o ∷ [] else bindings_in chains table p m) other
         ∙ ap (λ b. if b then bindings_in chains table p m ++ binding r.moment name o ∷ [] else bindings_in chains table p m) (&&-false (same_purse o.purse p))))
-        (ap is_any (held p name ∙ ap (λ b. if b && same_name name name then bindings_in chains table p name ++ binding r.moment name o ∷ [] else bindings_in chains table p name) e
-        ∙ ap (λ b. if b then bindings_in chains table p name ++ binding r.moment name o ∷ [] else bindings_in chains table p name) (name_self name)) ∙ any-more (bindings_in chains table p name) (binding r.moment name o))
-        (names_of base p h) (s.sound.sorted p)
-        ∙ ap (filter (λ m. is_any (bindings_in new table' p m))) (sym (bound-names p ∙ ap (λ b. cond b (with_name name (names_of base p h)) (names_of base p h)) e)))
-        (λ e. names p ∙ ap (λ b. if b then with_name name (names_in chains table p) else names_in chains table p) e ∙ s.partitions.names p
-        ∙ ap (λ f. filter f (names_of base p h)) (λ i m. is_any (sym (held p m ∙ ap (λ b. if b && same_name name m then bindings_in chains table p m ++ binding r.moment name o ∷ [] else bindings_in chains table p m) e) i))
-        ∙ ap (filter (λ m. is_any (bindings_in new table' p m))) (sym (bound-names p ∙ ap (λ b. cond b (with_name name (names_of base p h)) (names_of base p h)) e))))
-        (λ p m. swept_as (held p m) (bound-on p m) (swept_if (same_purse o.purse p && same_name name m) (swept_more (horizon_now base h) (binding r.moment name o) _ _ (s.partitions.bindings p m)) (s.partitions.bindings p m))) leaves made)
+        (ap (λ vs. is_any (unexpired hz vs)) (held p name ∙ ap (λ b. if b && same_name name name then bindings_in chains table p name ++ binding r.moment name o ∷ [] else bindings_in chains table p name) e
+        ∙ ap (λ b. if b then bindings_in chains table p name ++ binding r.moment name o ∷ [] else bindings_in chains table p name) (name_self name)) ∙ lasting-more hz (bindings_in chains table p name) (binding r.moment name o) refl)
+        names sorted in
+        ap (filter (is_lasting hz new table' p)) (names p ∙ ap (λ b. if b then with_name name (names_in chains table p) else names_in chains table p) e)
+        ∙ sym (more (names_in chains table p) (IsStrictlySortedBy-filter name_cmp _ _ (s.partitions.holds.sorted p))) ∙ ap (with_name name) (s.partitions.names p) ∙ more (names_of base p h) (s.sound.sorted p)
+        ∙ ap (filter (is_lasting hz new table' p)) (sym (bound-names p ∙ ap (λ b. cond b (with_name name (names_of base p h)) (names_of base p h)) e)))
+        (λ e. lasting_as (horizon_now base h) chains new table table' p (λ m. held p m ∙ ap (λ b. if b && same_name name m then bindings_in chains table p m ++ binding r.moment name o ∷ [] else bindings_in chains table p m) e)
+        (names p ∙ ap (λ b. if b then with_name name (names_in chains table p) else names_in chains table p) e)
+        (bound-names p ∙ ap (λ b. cond b (with_name name (names_of base p h)) (names_of base p h)) e) (s.partitions.names p)))
+        (λ p m. agrees_as (held p m) (bound-on p m) (agrees_if (same_purse o.purse p && same_name name m) (agrees_more (horizon_now base h) (binding r.moment name o) _ _ (s.partitions.bindings p m)) (s.partitions.bindings p m))) leaves made)
 
     -- it wasn't bound, so what is held of it isn't current
     pub unbound_before : object_of (current_of (bindings_in chains table o.purse name)) ≡ None
@@ -304,7 +317,7 @@ module _ {base : Base} {freed : ℕ} {chains : Chains Version} {kept : Objects} 
     pub bound_before : is_some (serial_now (bindings_in chains table purse name)) ≡ true
     bound_before = ap is_some (serial-now s purse name r.moment n.later) ∙ was_bound base h r.moment r.caller purse name unbound-accepted
 
-    ended-laid : (values : List (Value ℕ)) → BindingsStand (last_of h) values → is_some (option_map (λ v. v.value) (in_force_by r.moment values)) ≡ true
+    ended-laid : (values : List (Value ℕ)) → ValuesStand (last_of h) values → is_some (option_map (λ v. v.value) (in_force_by r.moment values)) ≡ true
         → with_end r.moment (laid_by (λ serial. 64 + length name) (λ v. Some (item.Bind (object_in purse v.value))) values) ≡ laid_by (λ serial. 64 + length name) (λ v. Some (item.Bind (object_in purse v.value))) (model.with_end r.moment values)
     ended-laid [] b e = refl
     ended-laid (v ∷ past) b e =
@@ -340,20 +353,21 @@ module _ {base : Base} {freed : ℕ} {chains : Chains Version} {kept : Objects} 
     pub stands_unbound : IsSound base (h ++ r ∷ []) → (new : Chains Version) (table' : Table) → Holds new table' → Waits new table' → waiting_in table' ≡ waiting_in table ++ record { end = r.moment; purse = purse; name = name } ∷ [] → KeepsOthers chains new table → ((p : Purse) (m : List ℕ) → chain_at table' p m ≡ chain_at table p m)
         → ((p : Purse) → names_in new table' p ≡ names_in chains table p)
         → ((p : Purse) (m : List ℕ) → bindings_in new table' p m ≡ (if same_purse purse p && same_name name m then with_end r.moment (bindings_in chains table p m) else bindings_in chains table p m))
-        → LeavesNoChain chains new table table' → item_count new ≡ item_count chains → StandsFor base freed new kept serials table' (h ++ r ∷ [])
-    stands_unbound sound new table' holds waits waiting others own names held leaves made = subst (λ x. StandsFor base freed new kept serials table' (h ++ x ∷ [])) (sym unbound-is)
+        → LeavesNoChain chains new table table' → item_count new ≡ item_count chains → StandsFor base (size + counted made_by r) new kept serials table' (h ++ r ∷ [])
+    stands_unbound sound new table' holds waits waiting others own names held leaves made = subst (λ x. StandsFor base (size + counted made_by x) new kept serials table' (h ++ x ∷ [])) (sym unbound-is)
         (stands_named s new table' unbound-record (subst (λ x. IsSound base (h ++ x ∷ [])) unbound-is sound)
         (makes-none base h unbound-record (object_in purse 0) (λ p. refl) (λ q. refl) refl) refl
         (tracks-idle base h r.moment r.caller (object_in purse 0) (PDelete purse name) (λ p. refl) refl (λ q. refl) (λ q. refl) (λ q old. refl) (λ q old. refl) (λ q old. refl))
         holds waits (ap (map (λ e. e.end)) waiting ∙ map-append (λ e. e.end) (waiting_in table) (record { end = r.moment; purse = purse; name = name } ∷ [])) others own
-        (λ p. names p ∙ s.partitions.names p
-        ∙ ap (λ f. filter f (names_of base p h)) (λ i m. sym (ap is_any (held p m) ∙ any-end r.moment (same_purse purse p && same_name name m) (bindings_in chains table p m)) i)
-        ∙ ap (filter (λ m. is_any (bindings_in new table' p m))) (sym (names_of-snoc p base h unbound-record ∙ unmoved (same_purse purse p) (names_of base p h))))
-        (λ p m. swept_as (held p m) (unbound-on p m) (swept_if (same_purse purse p && same_name name m) (swept_end (horizon_now base h) r.moment _ _ (s.partitions.bindings p m)) (s.partitions.bindings p m))) leaves (made ∙ same-count (item_count chains) (counted made_by unbound-record) refl))
+        (λ p. filter-less (is_lasting (horizon_now base h) new table' p) (is_lasting (horizon_now base h) chains table p) _ _
+        (λ m e. ap (λ vs. is_any (unexpired (horizon_now base h) vs)) (held p m) ∙ lasting-end (horizon_now base h) r.moment (same_purse purse p && same_name name m) (bindings_in chains table p m) e)
+        (ap (filter (is_lasting (horizon_now base h) chains table p)) (names p) ∙ s.partitions.names p
+        ∙ ap (filter (is_lasting (horizon_now base h) chains table p)) (sym (names_of-snoc p base h unbound-record ∙ unmoved (same_purse purse p) (names_of base p h)))))
+        (λ p m. agrees_as (held p m) (unbound-on p m) (agrees_if (same_purse purse p && same_name name m) (agrees_end (horizon_now base h) r.moment _ _ (s.partitions.bindings p m)) (s.partitions.bindings p m))) leaves (made ∙ same-count (item_count chains) (counted made_by unbound-record) refl))
 
 -- THE ADMINISTRATOR'S RECORDS
 
-module _ {base : Base} {freed : ℕ} {chains : Chains Version} {kept : Objects} {serials : Purse → ℕ} {table : Table} {h : List Record} (s : StandsFor base freed chains kept serials table h) {r : Record} (n : IsNext base h r) (granted : is_refused r.reply ≡ false) where
+module _ {base : Base} {size : ℕ} {chains : Chains Version} {kept : Objects} {serials : Purse → ℕ} {table : Table} {h : List Record} (s : StandsFor base size chains kept serials table h) {r : Record} (n : IsNext base h r) (granted : is_refused r.reply ≡ false) where
   abbrev done-of : Request → Record
   done-of request = record { moment = r.moment; caller = r.caller; request = request; reply = Done }
 
@@ -361,19 +375,19 @@ module _ {base : Base} {freed : ℕ} {chains : Chains Version} {kept : Objects} 
   done-is request asked told' = λ i. record { moment = r.moment; caller = r.caller; request = asked i; reply = (told-asked n granted request asked ∙ told') i }
 
   -- a record that sets a budget changes nothing of objects and names
-  pub stands_budget : {purse : Purse} {budget : ℕ} → r.request ≡ SetBudget purse budget → IsSound base (h ++ r ∷ []) → StandsFor base freed chains kept serials table (h ++ r ∷ [])
+  pub stands_budget : {purse : Purse} {budget : ℕ} → r.request ≡ SetBudget purse budget → IsSound base (h ++ r ∷ []) → StandsFor base (size + counted made_by r) chains kept serials table (h ++ r ∷ [])
   stands_budget {purse} {budget} asked sound =
       let set : Record = done-of (SetBudget purse budget) in
       let is : r ≡ set = done-is (SetBudget purse budget) asked (budget-done base h r.moment r.caller purse budget (accepted-asked n granted (SetBudget purse budget) asked)) in
-      subst (λ x. StandsFor base freed chains kept serials table (h ++ x ∷ [])) (sym is)
+      subst (λ x. StandsFor base (size + counted made_by x) chains kept serials table (h ++ x ∷ [])) (sym is)
       (stands_still s set (subst (λ x. IsSound base (h ++ x ∷ [])) is sound) (λ q. refl) refl (λ q. refl) (λ q. refl) (λ q old. refl) (λ q old. refl) (λ q old. refl)
       (record { bindings = λ p m old. unmoved (concerns p set) old; names = λ p old. unmoved (concerns p set) old }) (record { made = refl; values = refl; bindings = refl }))
 
   -- nor does one that sets the window
-  pub stands_window : {ticks : ℕ} → r.request ≡ SetWindow ticks → IsSound base (h ++ r ∷ []) → StandsFor base freed chains kept serials table (h ++ r ∷ [])
+  pub stands_window : {ticks : ℕ} → r.request ≡ SetWindow ticks → IsSound base (h ++ r ∷ []) → StandsFor base (size + counted made_by r) chains kept serials table (h ++ r ∷ [])
   stands_window {ticks} asked sound =
       let set : Record = done-of (SetWindow ticks) in
       let is : r ≡ set = done-is (SetWindow ticks) asked (window-done base h r.moment r.caller ticks (accepted-asked n granted (SetWindow ticks) asked)) in
-      subst (λ x. StandsFor base freed chains kept serials table (h ++ x ∷ [])) (sym is)
+      subst (λ x. StandsFor base (size + counted made_by x) chains kept serials table (h ++ x ∷ [])) (sym is)
       (stands_still s set (subst (λ x. IsSound base (h ++ x ∷ [])) is sound) (λ q. refl) refl (λ q. refl) (λ q. refl) (λ q old. refl) (λ q old. refl) (λ q old. refl)
       (record { bindings = λ p m old. unmoved (concerns p set) old; names = λ p old. unmoved (concerns p set) old }) (record { made = refl; values = refl; bindings = refl }))

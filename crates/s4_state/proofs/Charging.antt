@@ -1,6 +1,7 @@
 -- What a record makes past weighs what its charge tells, and what a flush takes back weighs nothing from then on.
-use Rattle.std.proofs.Common.{◌≡◌, ℕ, ◌+◌, ◌≤◌, Bool, true, false, not, cond, Option, Some, None, List, [], ◌∷◌, ◌++◌, refl, sym, ◌∙◌, ap, subst, arith, add-zero}
+use Rattle.std.proofs.Common.{◌≡◌, ℕ, ◌+◌, ◌≤◌, ◌<◌, Bool, true, false, not, cond, Option, Some, None, List, [], ◌∷◌, ◌++◌, refl, sym, ◌∙◌, ap, subst, arith, add-zero}
 use Rattle.std.specs.Prelude.{◌&&◌, ◌||◌, Ok, nat_le, sum_by, if◌then◌else◌}
+use Rattle.std.proofs.lemmas.Bool.{leb-true}
 use Rattle.std.proofs.lemmas.List.Sums.{sum_by-cons}
 use Rattle.s4_types.specs.declared.principal.Caller.{Caller}
 use Rattle.s4_types.specs.declared.object.Purse.{Purse}
@@ -28,9 +29,10 @@ use Rattle.s4_types.proofs.Erasing.{flushed-whole, versions-idle}
 use Rattle.s4_types.proofs.SameNames.{purse_is, purse_self, object_self, object_is}
 use Rattle.s4_types.proofs.Snoc.{drawn-snoc}
 use Rattle.s4_objects.specs.declared.kept.Which.TheVariants as which
-use Rattle.s4_state.specs.Sound.{IsSound, IsNext, DataFits, AttributesFit, AclFits, TrackStands, was_made}
+use Rattle.s4_state.specs.Sound.{IsSound, IsNext}
 use Rattle.s4_state.specs.Weights.{track_weight, object_weight, purse_weight, track_freed, object_freed, freed_weight}
-use Rattle.s4_state.proofs.Current.{Current, current, unmade, was_made-now, untouched, unchanged, made-first, end-after, put-after}
+use Rattle.s4_state.proofs.Living.{no-data, no-attributes, no-acl, drawn-now}
+use Rattle.s4_state.proofs.Current.{Current, current, untouched, unchanged, made-first, end-after, put-after}
 use Rattle.s4_state.proofs.Granting.{told-accepted, accepted-by-kind, changed_by, changed-lives, IsNextOf, made_is}
 use Rattle.s4_state.proofs.Rebinding.{names-idle, names-move}
 use Rattle.s4_state.proofs.Weighing.{sum_to-cong, sum_to-zero, first-weight, end-weight, put-weight, unbinding_weight, unbound_weight, OnlyErases, Moves, object-freed-none, erases-moves, moves-one, share-sum, freed_weight-none, purse-moves, purse-made}
@@ -121,13 +123,13 @@ module _ (f : ℕ → ℕ → ℕ) (base : Base) (h : List Record) (m : ℕ) (ca
         lives = changed-lives base h m caller request o (accepted-by-kind n granted) of_o
 
         data-now : Current base data_track o m h
-        data-now = current DataFits data_track o m base h (s.tracks o which.Data) (s.tracks o which.Acl) n.later lives
+        data-now = current data_track o base h (s.tracks o which.Data) (s.tracks o which.Acl) n.later lives
 
         attributes-now : Current base attribute_track o m h
-        attributes-now = current AttributesFit attribute_track o m base h (s.tracks o which.Attributes) (s.tracks o which.Acl) n.later lives
+        attributes-now = current attribute_track o base h (s.tracks o which.Attributes) (s.tracks o which.Acl) n.later lives
 
         acl-now : Current base acl_track o m h
-        acl-now = current AclFits acl_track o m base h (s.tracks o which.Acl) (s.tracks o which.Acl) n.later lives
+        acl-now = current acl_track o base h (s.tracks o which.Acl) (s.tracks o which.Acl) n.later lives
 
         freed-nothing : object_freed base f h r o ≡ 0
         freed-nothing = object-freed-none f base h r o (ap (λ b. if b then span_of o request else None) here ∙ plain o)
@@ -161,7 +163,7 @@ module _ (f : ℕ → ℕ → ℕ) (base : Base) (h : List Record) (m : ℕ) (ca
             let d : ℕ = sum_by (f m) (made_past base h m request) in
             let moved = purse-moves f base h r (λ q. if same_object o q then d else 0) draws-none (moves-one f base h r o d moves others) p (names-move f base h r p s n) in
             let parts : sum_to (drawn base p h) (λ serial. if same_object o (object_in p serial) then d else 0) ≡ (if same_purse o.purse p then d else 0)
-            = share-sum o d p (drawn base p h) (λ e. subst (λ x. o.serial ≤ drawn base x h) (purse_is o.purse p e) (s.named o (was_made-now o m base h (s.tracks o which.Acl) n.later lives))) in
+            = share-sum o d p (drawn base p h) (λ e. subst (λ x. o.serial ≤ drawn base x h) (purse_is o.purse p e) (drawn-now s o m lives)) in
             let charge : (if concerns p r then d else 0) ≡ (if same_purse o.purse p then d else 0) = ap (λ b. cond b d 0) (concerned-o p) in
             let binding = binding-none unbinding p in
             omega (arith, moved, parts, charge, binding)
@@ -256,17 +258,15 @@ module _ (f : ℕ → ℕ → ℕ) (base : Base) (h : List Record) (m : ℕ) (ca
       no-span : (q : ObjectId) → span_by q creation ≡ None
       no-span q = either (concerns q.purse creation) None
 
-      first-on : {V : Type 0} (Fits : V → Type 0) (track : Track V) → TrackStands Fits base o h (versions base track o h) → track_weight f track (versions base track o (h ++ creation ∷ [])) ≡ 0
-      first-on Fits track stands =
+      new : drawn base purse h < o.serial
+      new = omega arith
+
+      first-on : {V : Type 0} (track : Track V) → versions base track o h ≡ [] → track_weight f track (versions base track o (h ++ creation ∷ [])) ≡ 0
+      first-on track none =
           let here : concerns purse creation ≡ true = its-purse purse ∙ purse_self purse in
           let made : makes o creation ≡ true = makes-it o ∙ ap (λ b. b && same_object o o) here ∙ object_self o in
-          ap (track_weight f track) (made-first base h creation track o here refl made ∙ ap (λ values. begun m (track.start o) ∷ values) (unmade Fits track o base h stands new))
+          ap (track_weight f track) (made-first base h creation track o here refl made ∙ ap (λ values. begun m (track.start o) ∷ values) none)
           ∙ first-weight f track.cost m (track.start o)
-        where
-          new : was_made base o h ≡ false
-          new = by_test (was_made base o h)
-              (λ e. let low : drawn base purse h + 1 ≤ drawn base purse h = s.named o e in absurd (omega (arith, low)))
-              (λ e. e)
 
       create-charges : Charges base f h creation
       create-charges p =
@@ -281,9 +281,9 @@ module _ (f : ℕ → ℕ → ℕ) (base : Base) (h : List Record) (m : ℕ) (ca
 
           fresh-weight : object_weight base f (h ++ creation ∷ []) o ≡ 0
           fresh-weight =
-              let a = first-on DataFits data_track (s.tracks o which.Data) in
-              let b = first-on AttributesFit attribute_track (s.tracks o which.Attributes) in
-              let c = first-on AclFits acl_track (s.tracks o which.Acl) in
+              let a = first-on data_track (no-data s o new) in
+              let b = first-on attribute_track (no-attributes s o new) in
+              let c = first-on acl_track (no-acl s o new) in
               omega (arith, a, b, c)
 
           elsewhere : (q : ObjectId) → same_object o q ≡ false → object_weight base f (h ++ creation ∷ []) q ≡ object_weight base f h q
@@ -346,20 +346,20 @@ flush-frees f {base} {h} {r} s n none p =
     ∙ ap (λ d. purse_weight base f p h + d) (either (concerns p r) 0)
     ∙ add-zero (purse_weight base f p h)
 
--- of an object that wasn't made nothing is taken back
-pub unmade-freed : (f : ℕ → ℕ → ℕ) {base : Base} {h : List Record} (r : Record) → IsSound base h → (o : ObjectId) → was_made base o h ≡ false → object_freed base f h r o ≡ 0
-unmade-freed f {base} {h} r s o new =
-    let a = ap (track_freed f data_track o r) (unmade DataFits data_track o base h (s.tracks o which.Data) new) in
-    let b = ap (track_freed f attribute_track o r) (unmade AttributesFit attribute_track o base h (s.tracks o which.Attributes) new) in
+-- of an object whose serial wasn't drawn nothing is taken back
+undrawn-freed : (f : ℕ → ℕ → ℕ) {base : Base} {h : List Record} (r : Record) → IsSound base h → (o : ObjectId) → drawn base o.purse h < o.serial → object_freed base f h r o ≡ 0
+undrawn-freed f {base} {h} r s o new =
+    let a = ap (track_freed f data_track o r) (no-data s o new) in
+    let b = ap (track_freed f attribute_track o r) (no-attributes s o new) in
     omega (arith, a, b)
 
 -- a flush of one object takes back what it erases there
 pub one-freed : (f : ℕ → ℕ → ℕ) {base : Base} {h : List Record} (r : Record) → IsSound base h → (o : ObjectId) (from to : ℕ) → r.request ≡ FlushO o from to
     → (p : Purse) → freed_weight base f p h r ≡ (if same_purse o.purse p then object_freed base f h r o else 0)
-one-freed f {base} {h} r s o from to asked p = by_test (was_made base o h)
-    (λ made. sum_to-cong (drawn base p h) (λ k. object_freed base f h r (object_in p k)) (λ k. if same_object o (object_in p k) then object_freed base f h r o else 0) (λ k l. part (object_in p k))
-    ∙ share-sum o (object_freed base f h r o) p (drawn base p h) (λ e. subst (λ x. o.serial ≤ drawn base x h) (purse_is o.purse p e) (s.named o made)))
-    (λ new. let none : object_freed base f h r o ≡ 0 = unmade-freed f r s o new in
+one-freed f {base} {h} r s o from to asked p = by_test (nat_le o.serial (drawn base o.purse h))
+    (λ low. sum_to-cong (drawn base p h) (λ k. object_freed base f h r (object_in p k)) (λ k. if same_object o (object_in p k) then object_freed base f h r o else 0) (λ k l. part (object_in p k))
+    ∙ share-sum o (object_freed base f h r o) p (drawn base p h) (λ e. subst (λ x. o.serial ≤ drawn base x h) (purse_is o.purse p e) (leb-true o.serial (drawn base o.purse h) low)))
+    (λ high. let none : object_freed base f h r o ≡ 0 = undrawn-freed f r s o (let over : nat_le o.serial (drawn base o.purse h) ≡ false = high in grind (arith, over)) in
     sum_to-zero (drawn base p h) (λ k. object_freed base f h r (object_in p k)) (λ k l. part (object_in p k) ∙ ap (λ d. cond (same_object o (object_in p k)) d 0) none ∙ either (same_object o (object_in p k)) 0)
     ∙ sym (ap (λ d. cond (same_purse o.purse p) d 0) none ∙ either (same_purse o.purse p) 0))
   where

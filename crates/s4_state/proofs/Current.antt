@@ -1,18 +1,16 @@
 -- What is current on a track of an object that lives, and what one record more makes of it.
-use Rattle.std.proofs.Common.{◌≡◌, ℕ, ◌≤◌, Bool, true, false, not, Option, Some, None, List, [], ◌∷◌, ◌++◌, refl, sym, ◌∙◌, ap, subst, arith}
-use Rattle.std.specs.Prelude.{◌&&◌, nat_le, if◌then◌else◌}
+use Rattle.std.proofs.Common.{◌≡◌, ℕ, ◌≤◌, true, false, Option, Some, None, List, [], ◌∷◌, ◌++◌, refl, sym, ◌∙◌, ap, subst}
+use Rattle.std.specs.Prelude.{is_some, if◌then◌else◌}
 use Rattle.s4_types.specs.Base.{Base}
 use Rattle.s4_types.specs.declared.object.ObjectId.{ObjectId}
 use Rattle.s4_types.specs.declared.record.Record.{Record}
 use Rattle.s4_types.specs.Kinds.{concerns}
-use Rattle.s4_types.specs.Play.{last_of}
-use Rattle.s4_types.specs.Versions.{Track, Value, span_of, makes, deletes, begun, ended, ends_by, in_force_by, on_current, with_end, with_value, with_effect, flushed_by, after_mutation, after_change, versions, value_at, lives_at, acl_track}
+use Rattle.s4_types.specs.Versions.{Track, Value, span_of, makes, deletes, begun, ended, in_force_by, on_current, with_end, with_value, with_effect, flushed_by, after_mutation, after_change, versions, value_at, lives_at, acl_track}
 use Rattle.s4_types.specs.Erased.{span_by}
-use Rattle.s4_types.proofs.Booleans.{both}
 use Rattle.s4_types.proofs.Erasing.{unended-whole, plain-change}
 use Rattle.s4_types.proofs.Snoc.{versions-snoc}
-use Rattle.s4_state.specs.Sound.{AclFits, IsTrack, TrackStands, was_made, was_deleted}
-use Rattle.s4_state.proofs.Living.{lives_at-now}
+use Rattle.s4_state.specs.Sound.{ValuesStand}
+use Rattle.s4_state.proofs.Living.{newest-now, live-track}
 
 -- the newest value of a track, which is in force at the moment
 pub record Current {V : Type 0} (base : Base) (track : Track V) (o : ObjectId) (m : ℕ) (h : List Record) : Type 0 where
@@ -23,34 +21,18 @@ pub record Current {V : Type 0} (base : Base) (track : Track V) (o : ObjectId) (
   pub unerased : newest.is_erased ≡ false
   pub told : value_at base track o m h ≡ Some newest
 
-pub current : {V : Type 0} (Fits : V → Type 0) (track : Track V) (o : ObjectId) (m : ℕ) (base : Base) (h : List Record) → TrackStands Fits base o h (versions base track o h)
-    → TrackStands AclFits base o h (versions base acl_track o h) → last_of h ≤ m → lives_at base m o h ≡ true → Current base track o m h
-current {V} Fits track o m base h stands acl later lives =
-    newest (was_made base o h) (was_deleted o h) (versions base track o h) (sym (lives_at-now m base o h later acl) ∙ lives) refl stands
-  where
-    newest : (made deleted : Bool) (values : List (Value V)) → (made && not deleted) ≡ true → versions base track o h ≡ values → IsTrack Fits made deleted (last_of h) values → Current base track o m h
-    newest false deleted values e is shape = cc
-    newest true true values e is shape = cc
-    newest true false [] e is shape = absurd shape
-    newest true false (v ∷ past) e is shape = record {
-      newest = v;
-      past = past;
-      whole = is;
-      unended = shape.current;
-      unerased = unended-whole base track o h v past is shape.current;
-      told = ap (in_force_by m) is ∙ ap (λ b. if b then (if ends_by m v.end then None else Some v) else in_force_by m past) begun ∙ ap (λ e. if ends_by m e then None else Some v) shape.current;
+pub current : {V : Type 0} (track : Track V) (o : ObjectId) {m last : ℕ} (base : Base) (h : List Record) → ValuesStand last (versions base track o h)
+    → ValuesStand last (versions base acl_track o h) → last ≤ m → lives_at base m o h ≡ true → Current base track o m h
+current track o {m} {last} base h stands acl later lives =
+    let live = live-track base o h later acl track lives in
+    record {
+      newest = live.newest;
+      past = live.past;
+      whole = live.whole;
+      unended = live.current;
+      unerased = unended-whole base track o h live.newest live.past live.whole live.current;
+      told = ap (in_force_by m) live.whole ∙ newest-now later live.newest live.past (subst (ValuesStand last) live.whole stands) ∙ ap (λ (end : Option ℕ). if is_some end then None else Some live.newest) live.current;
     }
-      where
-        begun : nat_le v.begin m ≡ true
-        begun = let low : v.begin ≤ last_of h = shape.begun in grind (arith, low, later)
-
--- an object that wasn't made has no values
-pub unmade : {V : Type 0} (Fits : V → Type 0) (track : Track V) (o : ObjectId) (base : Base) (h : List Record) → TrackStands Fits base o h (versions base track o h) → was_made base o h ≡ false → versions base track o h ≡ []
-unmade Fits track o base h stands e = subst (λ made. IsTrack Fits made (was_deleted o h) (last_of h) (versions base track o h)) e stands
-
--- an object that lives was made
-pub was_made-now : (o : ObjectId) (m : ℕ) (base : Base) (h : List Record) → TrackStands AclFits base o h (versions base acl_track o h) → last_of h ≤ m → lives_at base m o h ≡ true → was_made base o h ≡ true
-was_made-now o m base h acl later lives = (both (was_made base o h) (not (was_deleted o h)) (sym (lives_at-now m base o h later acl) ∙ lives)).0
 
 -- ONE RECORD MORE
 

@@ -1,5 +1,5 @@
 -- What an accepted request puts, ends and makes.
-use Rattle.std.proofs.Common.{◌≡◌, ℕ, ◌+◌, ◌≤◌, Bool, true, false, cond, Option, Some, None, List, [], ◌∷◌, ◌++◌, refl, sym, ◌∙◌, ap, subst}
+use Rattle.std.proofs.Common.{◌≡◌, ℕ, ◌+◌, Bool, true, false, cond, Option, Some, None, List, [], ◌∷◌, ◌++◌, refl, sym, ◌∙◌, ap, subst}
 use Rattle.std.specs.Prelude.{◌&&◌, ◌==◌, nat_le, is_ok, Ok, if◌then◌else◌}
 use Rattle.s4_types.specs.declared.principal.Caller.{Caller}
 use Rattle.s4_types.specs.declared.object.Purse.{Purse}
@@ -23,11 +23,10 @@ use Rattle.s4_types.specs.Base.{Base}
 use Rattle.s4_types.specs.Acl.{acl_with}
 use Rattle.s4_types.specs.Answer.{data_of, attributes_of, acl_of, settable}
 use Rattle.s4_types.specs.Serials.{drawn}
-use Rattle.s4_types.specs.Play.{last_of}
 use Rattle.s4_types.specs.Judgement.{judge}
 use Rattle.s4_types.specs.declared.rights.Right.TheVariants as right
 use Rattle.s4_types.proofs.Outcomes.{passes_judgement}
-use Rattle.s4_types.proofs.Booleans.{by_test, both, &&-true, &&-false}
+use Rattle.s4_types.proofs.Booleans.{by_test, &&-true, &&-false}
 use Rattle.s4_types.proofs.SameNames.{purse_self, object_self, object_is}
 use Rattle.s4_types.proofs.Erasing.{plain-change}
 use Rattle.s4_types.proofs.Snoc.{versions-snoc}
@@ -37,10 +36,10 @@ use Rattle.s4_objects.specs.declared.kept.Which.{Which}
 use Rattle.s4_objects.specs.declared.kept.Which.TheVariants as which
 use Rattle.s4_objects.specs.Chains.{same_which}
 use Rattle.s4_state.specs.Laid.{item_of, version_of, laid, versions_on}
-use Rattle.s4_state.specs.Sound.{IsSound, IsNext, IsTrack, TrackStands, DataFits, AttributesFit, AclFits, was_made, was_deleted}
+use Rattle.s4_state.specs.Sound.{IsSound, IsNext, DataFits}
 use Rattle.s4_state.specs.Stands.{MakesNone, RebindsNone, Counts, PutsOn, EndsAll}
 use Rattle.s4_state.proofs.Granting.{told, told-asked, accepted-asked, changed_by, changed-lives, changed-done, data-fit}
-use Rattle.s4_state.proofs.Living.{lives_at-now}
+use Rattle.s4_state.proofs.Living.{IsLive, live-track, live-fits}
 use Rattle.s4_state.proofs.Reading.{data-in-force, attributes-in-force, acl-in-force}
 use Rattle.s4_state.proofs.Standing.{MakesOnly}
 
@@ -55,20 +54,6 @@ effect-none t (v ∷ past) = ap (λ x. with_value t x v past) (of v.end)
     of : (end : Option ℕ) → on_current (λ old. None) end v.value ≡ None
     of None = refl
     of (Some end) = refl
-
--- the current value of a track, where the object lives
-pub record IsLive {V : Type 0} (Fits : V → Type 0) (values : List (Value V)) : Type 0 where
-  pub newest : Value V
-  pub past : List (Value V)
-  pub whole : values ≡ newest ∷ past
-  pub current : newest.end ≡ None
-  pub fits : Fits newest.value
-
-pub live-track : {V : Type 0} (Fits : V → Type 0) (m d : Bool) (last : ℕ) (values : List (Value V)) → m ≡ true → d ≡ false → IsTrack Fits m d last values → IsLive Fits values
-live-track Fits false d last values e f s = cc
-live-track Fits true true last values e f s = cc
-live-track Fits true false last [] e f s = absurd s
-live-track Fits true false last (v ∷ past) e f s = record { newest = v; past = past; whole = refl; current = s.current; fits = s.fits }
 
 -- VERSIONS
 
@@ -125,7 +110,7 @@ module _ (base : Base) (h : List Record) (r : Record) (o : ObjectId) (about : (p
       pub idle : is_deleted q r.request ≡ false → ((old : V) → track.effect q r.request old ≡ None) → versions base track q (h ++ r ∷ []) ≡ versions base track q h
       idle e none = effected e ∙ either-same (same_purse o.purse q.purse) _ _ (ap (λ effect. with_effect r.moment effect (versions base track q h)) (λ i old. none old i) ∙ effect-none r.moment (versions base track q h))
 
-    module _ {V : Type 0} {Fits : V → Type 0} (track : Track V) (wrap : V → Item) (cost : (x : V) → cost_of (wrap x) ≡ track.cost x) (live : IsLive Fits (versions base track o h)) where
+    module _ {V : Type 0} (track : Track V) (wrap : V → Item) (cost : (x : V) → cost_of (wrap x) ≡ track.cost x) (live : IsLive (versions base track o h)) where
       -- a value is put in the place of another
       module _ (f : V → V) (undeleted : (q : ObjectId) → is_deleted q r.request ≡ false) (does : (q : ObjectId) (old : V) → track.effect q r.request old ≡ when (same_object o q) (f old)) where
         put-here : laid track wrap (versions base track o (h ++ r ∷ [])) ≡ with_put r.moment (wrap (f live.newest.value)) (laid track wrap (versions base track o h))
@@ -182,15 +167,6 @@ module _ {base : Base} {h : List Record} {r : Record} (s : IsSound base h) (n : 
   pub changed_lives : lives_at base r.moment o h ≡ true
   changed_lives = changed-lives base h r.moment r.caller request o accepted of_o
 
-  alive : (was_made base o h ≡ true) × (was_deleted o h ≡ false)
-  alive =
-      let parts = both (was_made base o h) (Rattle.std.proofs.Common.not (was_deleted o h)) (sym (lives_at-now r.moment base o h n.later (s.tracks o which.Acl)) ∙ changed_lives) in
-      (parts.0, turned (was_deleted o h) parts.1)
-    where
-      turned : (b : Bool) → Rattle.std.proofs.Common.not b ≡ true → b ≡ false
-      turned true f = cc
-      turned false f = refl
-
   plain : Record
   plain = record { moment = r.moment; caller = r.caller; request = request; reply = Done }
 
@@ -199,14 +175,14 @@ module _ {base : Base} {h : List Record} {r : Record} (s : IsSound base h) (n : 
       let is : r.reply ≡ Done = told-asked n granted request asked ∙ changed-done base h r.moment r.caller request o accepted of_o in
       λ i. record { moment = r.moment; caller = r.caller; request = asked i; reply = is i }
 
-  pub live-data : IsLive DataFits (versions base data_track o h)
-  live-data = let stands : TrackStands DataFits base o h (versions base data_track o h) = s.tracks o which.Data in live-track DataFits (was_made base o h) (was_deleted o h) (last_of h) (versions base data_track o h) alive.0 alive.1 stands
+  pub live-data : IsLive (versions base data_track o h)
+  live-data = live-track base o h n.later (s.tracks o which.Acl) data_track changed_lives
 
-  pub live-attributes : IsLive AttributesFit (versions base attribute_track o h)
-  live-attributes = let stands : TrackStands AttributesFit base o h (versions base attribute_track o h) = s.tracks o which.Attributes in live-track AttributesFit (was_made base o h) (was_deleted o h) (last_of h) (versions base attribute_track o h) alive.0 alive.1 stands
+  pub live-attributes : IsLive (versions base attribute_track o h)
+  live-attributes = live-track base o h n.later (s.tracks o which.Acl) attribute_track changed_lives
 
-  pub live-acl : IsLive AclFits (versions base acl_track o h)
-  live-acl = let stands : TrackStands AclFits base o h (versions base acl_track o h) = s.tracks o which.Acl in live-track AclFits (was_made base o h) (was_deleted o h) (last_of h) (versions base acl_track o h) alive.0 alive.1 stands
+  pub live-acl : IsLive (versions base acl_track o h)
+  live-acl = live-track base o h n.later (s.tracks o which.Acl) acl_track changed_lives
 
   pub current-data : live-data.newest.value ≡ data_of base o r.moment h
   current-data = data-in-force s o r.moment n.later changed_lives live-data.newest live-data.past live-data.whole
@@ -221,7 +197,7 @@ module _ (base : Base) (h : List Record) (t : ℕ) (caller : Caller) (o : Object
   abbrev done : Request → Record
   done request = record { moment = t; caller = caller; request = request; reply = Done }
 
-  puts-data : (request : Request) (f : List ℕ → List ℕ) (live : IsLive DataFits (versions base data_track o h))
+  puts-data : (request : Request) (f : List ℕ → List ℕ) (live : IsLive (versions base data_track o h))
       → ((p : Purse) → concerns p (done request) ≡ same_purse o.purse p) → is_create request ≡ false → ((q : ObjectId) → span_of q request ≡ None) → ((q : ObjectId) → is_deleted q request ≡ false)
       → ((q : ObjectId) (old : List ℕ) → model.data_effect q request old ≡ when (same_object o q) (f old))
       → ((q : ObjectId) (old : List ℕ) → model.attribute_effect q request old ≡ None) → ((q : ObjectId) (old : List AclEntry) → model.acl_effect q request old ≡ None)
@@ -234,7 +210,7 @@ module _ (base : Base) (h : List Record) (t : ℕ) (caller : Caller) (o : Object
       tracks q which.Attributes = else-both (same_object o q) _ _ _ (ap (laid attribute_track item.Attr) (idle base h (done request) o about (λ q. refl) kind plain attribute_track q (undeleted q) (none q)))
       tracks q which.Acl = else-both (same_object o q) _ _ _ (ap (laid acl_track item.Acl) (idle base h (done request) o about (λ q. refl) kind plain acl_track q (undeleted q) (keeps q)))
 
-  puts-attributes : (bytes : List ℕ) (live : IsLive AttributesFit (versions base attribute_track o h)) → PutsOn base h (done (SetAttr o bytes)) o which.Attributes (item.Attr bytes)
+  puts-attributes : (bytes : List ℕ) (live : IsLive (versions base attribute_track o h)) → PutsOn base h (done (SetAttr o bytes)) o which.Attributes (item.Attr bytes)
   puts-attributes bytes live = record { makes = makes-none base h (done (SetAttr o bytes)) o (λ p. refl) (λ q. refl) refl; rebinds = rebinds-none (done (SetAttr o bytes)) (λ p n m old. refl) (λ p old. refl); counts = record { made = refl; values = refl; bindings = refl }; tracks = tracks }
     where
       tracks : (q : ObjectId) (u : Which) → versions_on base u q (h ++ done (SetAttr o bytes) ∷ []) ≡ (if same_object o q && same_which which.Attributes u then with_put t (item.Attr bytes) (versions_on base u q h) else versions_on base u q h)
@@ -242,7 +218,7 @@ module _ (base : Base) (h : List Record) (t : ℕ) (caller : Caller) (o : Object
       tracks q which.Data = else-both (same_object o q) _ _ _ (ap (laid data_track item.Data) (idle base h (done (SetAttr o bytes)) o (λ p. refl) (λ q. refl) refl (λ q. refl) data_track q refl (λ old. refl)))
       tracks q which.Acl = else-both (same_object o q) _ _ _ (ap (laid acl_track item.Acl) (idle base h (done (SetAttr o bytes)) o (λ p. refl) (λ q. refl) refl (λ q. refl) acl_track q refl (λ old. refl)))
 
-  puts-acl : (user rights : ℕ) (live : IsLive AclFits (versions base acl_track o h)) → PutsOn base h (done (SetAcl o user rights)) o which.Acl (item.Acl (acl_with user rights live.newest.value))
+  puts-acl : (user rights : ℕ) (live : IsLive (versions base acl_track o h)) → PutsOn base h (done (SetAcl o user rights)) o which.Acl (item.Acl (acl_with user rights live.newest.value))
   puts-acl user rights live = record { makes = makes-none base h (done (SetAcl o user rights)) o (λ p. refl) (λ q. refl) refl; rebinds = rebinds-none (done (SetAcl o user rights)) (λ p n m old. refl) (λ p old. refl); counts = record { made = refl; values = refl; bindings = refl }; tracks = tracks }
     where
       tracks : (q : ObjectId) (u : Which) → versions_on base u q (h ++ done (SetAcl o user rights) ∷ []) ≡ (if same_object o q && same_which which.Acl u then with_put t (item.Acl (acl_with user rights live.newest.value)) (versions_on base u q h) else versions_on base u q h)
@@ -250,7 +226,7 @@ module _ (base : Base) (h : List Record) (t : ℕ) (caller : Caller) (o : Object
       tracks q which.Data = else-both (same_object o q) _ _ _ (ap (laid data_track item.Data) (idle base h (done (SetAcl o user rights)) o (λ p. refl) (λ q. refl) refl (λ q. refl) data_track q refl (λ old. refl)))
       tracks q which.Attributes = else-both (same_object o q) _ _ _ (ap (laid attribute_track item.Attr) (idle base h (done (SetAcl o user rights)) o (λ p. refl) (λ q. refl) refl (λ q. refl) attribute_track q refl (λ old. refl)))
 
-  ends-all : IsLive DataFits (versions base data_track o h) → IsLive AttributesFit (versions base attribute_track o h) → IsLive AclFits (versions base acl_track o h) → EndsAll base h (done (Delete o)) o
+  ends-all : IsLive (versions base data_track o h) → IsLive (versions base attribute_track o h) → IsLive (versions base acl_track o h) → EndsAll base h (done (Delete o)) o
   ends-all a b c = record { makes = makes-none base h (done (Delete o)) o (λ p. refl) (λ q. refl) refl; rebinds = rebinds-none (done (Delete o)) (λ p n m old. refl) (λ p old. refl); counts = record { made = refl; values = refl; bindings = refl }; tracks = tracks }
     where
       tracks : (q : ObjectId) (u : Which) → versions_on base u q (h ++ done (Delete o) ∷ []) ≡ (if same_object o q then with_end t (versions_on base u q h) else versions_on base u q h)
@@ -273,7 +249,7 @@ module _ {base : Base} {h : List Record} {r : Record} (s : IsSound base h) (n : 
       let live = live-data s n granted o (Write o offset bytes) asked refl in
       let is = current-data s n granted o (Write o offset bytes) asked refl in
       data-fit base h r.moment r.caller (Write o offset bytes) o (accepted-asked n granted (Write o offset bytes) asked)
-      (data_of base o r.moment h) (written offset bytes (data_of base o r.moment h)) (ap (λ b. when b (written offset bytes (data_of base o r.moment h))) (object_self o)) refl (subst DataFits is live.fits)
+      (data_of base o r.moment h) (written offset bytes (data_of base o r.moment h)) (ap (λ b. when b (written offset bytes (data_of base o r.moment h))) (object_self o)) refl (subst DataFits is (live-fits DataFits live (s.values o which.Data)))
 
   pub append_puts : (bytes : List ℕ) → r.request ≡ Append o bytes → PutsOn base h r o which.Data (item.Data (data_of base o r.moment h ++ bytes))
   append_puts bytes asked =

@@ -9,11 +9,10 @@ use Rattle.s4_types.specs.declared.record.Record.{Record}
 use Rattle.s4_types.specs.Acl.{IsAcl, one_each}
 use Rattle.s4_types.specs.Kinds.{concerns}
 use Rattle.s4_types.specs.Versions.{Track, Value, Span, span_of, erased, ends_by, in_force_by, flushed_by, begun, on_current, with_value, with_effect, with_end, versions, value_at, makes, deletes}
-use Rattle.s4_types.specs.Play.{last_of}
 use Rattle.s4_types.proofs.Booleans.{by_test, both}
 use Rattle.s4_types.proofs.Snoc.{versions-snoc}
 use Rattle.s4_state.specs.Sound.{AllFit}
-use Rattle.s4_state.proofs.Following.{IsFitting, effect-current}
+use Rattle.s4_state.proofs.Following.{effect-current}
 
 -- an ACL has at most 16 entries, each of which gives some right
 pub acl-entries : (acl : List AclEntry) → IsAcl acl → (length acl ≤ 16) × (list_all (λ entry. nat_lt 0 entry.rights) acl ≡ true)
@@ -42,14 +41,19 @@ module _ {V : Type 0} (Fits : V → Type 0) where
   all-either true xs ys s t = s
   all-either false xs ys s t = t
 
-module _ {V : Type 0} (track : Track V) (Fits : V → Type 0) (o : ObjectId) (base : Base) (h : List Record) (r : Record) (later : last_of h ≤ r.moment) (f : IsFitting track Fits o base h r later) where
+-- what the record puts on the track fits
+pub record IsFitting {V : Type 0} (track : Track V) (Fits : V → Type 0) (o : ObjectId) (base : Base) (h : List Record) (r : Record) : Type 0 where
+  pub start_fits : Fits (track.start o)
+  pub changes_fit : concerns o.purse r ≡ true → (v : Value V) (past : List (Value V)) → versions base track o h ≡ v ∷ past → (new : V) → track.effect o r.request v.value ≡ Some new → Fits v.value → Fits new
+
+module _ {V : Type 0} (track : Track V) (Fits : V → Type 0) (o : ObjectId) (base : Base) (h : List Record) (r : Record) (f : IsFitting track Fits o base h r) where
   all-effect : concerns o.purse r ≡ true → (values : List (Value V)) → versions base track o h ≡ values → AllFit Fits values → AllFit Fits (with_effect r.moment (track.effect o r.request) values)
   all-effect c [] is s = tt
   all-effect c (v ∷ past) is s = of (on_current (track.effect o r.request) v.end v.value) refl
     where
       of : (next : Option V) → on_current (track.effect o r.request) v.end v.value ≡ next → AllFit Fits (with_value r.moment next v past)
       of None e = s
-      of (Some x) e = ((f.changes_live c v past is x (effect-current (track.effect o r.request) v.end v.value x e)).2 s.0, s)
+      of (Some x) e = (f.changes_fit c v past is x (effect-current (track.effect o r.request) v.end v.value x e) s.0, s)
 
   pub all_next : AllFit Fits (versions base track o h) → AllFit Fits (versions base track o (h ++ r ∷ []))
   all_next s = subst (AllFit Fits) (sym (versions-snoc base track o h r))

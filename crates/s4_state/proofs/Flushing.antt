@@ -1,5 +1,5 @@
 -- What is kept stands for a history with a flush more.
-use Rattle.std.proofs.Common.{◌≡◌, ℕ, Bool, true, false, Some, None, List, [], ◌∷◌, ◌++◌, refl, sym, ◌∙◌, ap, subst}
+use Rattle.std.proofs.Common.{◌≡◌, ℕ, Bool, true, false, Some, None, List, [], ◌∷◌, ◌++◌, refl, sym, ◌∙◌, ap, subst, ◌+◌}
 use Rattle.std.specs.Prelude.{◌||◌, map, if◌then◌else◌}
 use Rattle.std.proofs.lemmas.Bool.{eqb-true}
 use Rattle.s4_types.specs.declared.object.Purse.{Purse}
@@ -21,8 +21,8 @@ use Rattle.s4_types.proofs.Booleans.{&&-false}
 use Rattle.s4_types.proofs.Erasing.{versions-flush, versions-flush-one}
 use Rattle.s4_store.specs.Chains.{Chains}
 use Rattle.s4_tracks.specs.Chain.{is_within, erased, flushed_one, flushed}
-use Rattle.s4_tracks.specs.Swept.{IsSwept}
-use Rattle.s4_tracks.proofs.Sweeping.{swept_flush}
+use Rattle.s4_tracks.specs.Swept.{AgreesWith}
+use Rattle.s4_tracks.proofs.Sweeping.{agrees_as, agrees_flush}
 use Rattle.s4_parts.specs.declared.parts.Parts.{Parts as Table}
 use Rattle.s4_parts.specs.Waiting.{waiting_in}
 use Rattle.s4_objects.specs.declared.flushes.Refund.{Refund}
@@ -31,12 +31,13 @@ use Rattle.s4_objects.specs.declared.kept.Which.TheVariants as which
 use Rattle.s4_objects.specs.declared.objects.Objects.{Objects}
 use Rattle.s4_objects.specs.Flushes.{flushed_on, Flushes}
 use Rattle.s4_objects.specs.Table.{found_in, held_in, ends_in, Holds, LeavesNoChain}
+use Rattle.s4_state.specs.Counts.{counted, made_by}
 use Rattle.s4_state.specs.Laid.{version_of, laid, versions_on}
 use Rattle.s4_state.specs.Sound.{IsSound, IsNext}
 use Rattle.s4_state.specs.Stands.{horizon_now, StandsFor, NamesStand, MakesNone, RebindsNone, Counts}
 use Rattle.s4_state.proofs.Granting.{told, told-asked, accepted-asked, flush-done, flush_one-done, flush-asker}
 use Rattle.s4_state.proofs.Naming.{names_with, names_over}
-use Rattle.s4_state.proofs.Standing.{swept_as, swept_if, horizon_up, objects_next, none-made, stands_on, tidy_beside}
+use Rattle.s4_state.proofs.Standing.{agrees_if, horizon_up, objects_next, none-made, stands_on, tidy_beside}
 use Rattle.s4_state.proofs.Waiting.{no-more}
 
 -- VALUES AND VERSIONS
@@ -84,12 +85,12 @@ unmoved true x = refl
 unmoved false x = refl
 
 -- what is held of a track is flushed as all of it is
-flushed-left : {hz : ℕ} (from to : ℕ) (w : Which) {held all : List Version} → IsSwept hz held all → IsSwept hz (flushed_on from to w held) (flushed_on from to w all)
-flushed-left {hz} from to which.Data s = swept_flush hz from to _ _ s
-flushed-left {hz} from to which.Attributes s = swept_flush hz from to _ _ s
+flushed-left : {hz : ℕ} (from to : ℕ) (w : Which) {held all : List Version} → AgreesWith hz held all → AgreesWith hz (flushed_on from to w held) (flushed_on from to w all)
+flushed-left {hz} from to which.Data s = agrees_flush hz from to _ _ s
+flushed-left {hz} from to which.Attributes s = agrees_flush hz from to _ _ s
 flushed-left from to which.Acl s = s
 
-module _ {base : Base} {freed : ℕ} {chains : Chains Version} {kept : Objects} {serials : Purse → ℕ} {table : Table} {h : List Record} (s : StandsFor base freed chains kept serials table h) {new : Chains Version} {asked : ObjectId → Bool} {from to : ℕ} {refunds : List Refund} (f : Flushes chains new (found_in kept) asked from to refunds) where
+module _ {base : Base} {size : ℕ} {chains : Chains Version} {kept : Objects} {serials : Purse → ℕ} {table : Table} {h : List Record} (s : StandsFor base size chains kept serials table h) {new : Chains Version} {asked : ObjectId → Bool} {from to : ℕ} {refunds : List Refund} (f : Flushes chains new (found_in kept) asked from to refunds) where
   names-flushed : NamesStand base (horizon_now base h) new kept table h
   names-flushed = names_over s.partitions new kept (record {
     opened = λ p n c got. f.still c (s.partitions.holds.opened p n c got);
@@ -98,10 +99,10 @@ module _ {base : Base} {freed : ℕ} {chains : Chains Version} {kept : Objects} 
 
   -- by what the flush leaves of all versions
   module _ (r : Record) (tracks : (o : ObjectId) (w : Which) → versions_on base w o (h ++ r ∷ []) ≡ (if asked o then flushed_on from to w (versions_on base w o h) else versions_on base w o h)) where
-    tracks-left : (o : ObjectId) (w : Which) → IsSwept (horizon_now base h) (held_in new kept o w) (versions_on base w o (h ++ r ∷ []))
-    tracks-left o w = swept_as (f.tracks o w) (tracks o w) (swept_if (asked o) (flushed-left from to w (s.objects.tracks o w)) (s.objects.tracks o w))
+    tracks-left : (o : ObjectId) (w : Which) → AgreesWith (horizon_now base h) (held_in new kept o w) (versions_on base w o (h ++ r ∷ []))
+    tracks-left o w = agrees_as (f.tracks o w) (tracks o w) (agrees_if (asked o) (flushed-left from to w (s.objects.tracks o w)) (s.objects.tracks o w))
 
-    stands_flushed : Holds new kept → LeavesNoChain chains new kept kept → IsSound base (h ++ r ∷ []) → MakesNone r → RebindsNone r → Counts r 0 0 0 → StandsFor base freed new kept serials table (h ++ r ∷ [])
+    stands_flushed : Holds new kept → LeavesNoChain chains new kept kept → IsSound base (h ++ r ∷ []) → MakesNone r → RebindsNone r → Counts r 0 0 0 → StandsFor base (size + counted made_by r) new kept serials table (h ++ r ∷ [])
     stands_flushed holds leaves sound none rebinds counts = stands_on s r sound none
         (objects_next s r sound holds (λ o. refl) none tracks-left (no-more (ends_in kept) r.moment counts.values))
         (names_with names-flushed r (horizon_up s r sound) rebinds counts.bindings)
@@ -137,7 +138,7 @@ flush_one-tracks base h t caller p from to o which.Data = ap (laid data_track it
 flush_one-tracks base h t caller p from to o which.Attributes = ap (laid attribute_track item.Attr) (versions-flush-one attribute_track o base h t 0 from to caller p (λ old. refl)) ∙ flushed-if attribute_track item.Attr from to (same_object p o) (versions base attribute_track o h)
 flush_one-tracks base h t caller p from to o which.Acl = ap (laid acl_track item.Acl) (versions-flush-one acl_track o base h t 0 from to caller p (λ old. refl)) ∙ kept-if acl_track item.Acl from to (same_object p o) (versions base acl_track o h)
 
-module _ {base : Base} {freed : ℕ} {chains : Chains Version} {kept : Objects} {serials : Purse → ℕ} {table : Table} {h : List Record} (s : StandsFor base freed chains kept serials table h) {r : Record} (n : IsNext base h r) (granted : is_refused r.reply ≡ false) {new : Chains Version} {from to : ℕ} {refunds : List Refund} where
+module _ {base : Base} {size : ℕ} {chains : Chains Version} {kept : Objects} {serials : Purse → ℕ} {table : Table} {h : List Record} (s : StandsFor base size chains kept serials table h) {r : Record} (n : IsNext base h r) (granted : is_refused r.reply ≡ false) {new : Chains Version} {from to : ℕ} {refunds : List Refund} where
   -- a flush of all objects
   module _ (asked : r.request ≡ Flush from to) (f : Flushes chains new (found_in kept) (λ o. true) from to refunds) where
     flush-is : r ≡ flush_of r.moment (record { who = 0; client = r.caller.client }) (Flush from to)
@@ -147,12 +148,12 @@ module _ {base : Base} {freed : ℕ} {chains : Chains Version} {kept : Objects} 
         let asker : r.caller.who ≡ 0 = eqb-true r.caller.who 0 (flush-asker base h r.moment r.caller from to accepted) in
         λ i. record { moment = r.moment; caller = record { who = asker i; client = r.caller.client }; request = asked i; reply = told' i }
 
-    pub flush_left : (o : ObjectId) (w : Which) → IsSwept (horizon_now base h) (held_in new kept o w) (versions_on base w o (h ++ r ∷ []))
-    flush_left o w = subst (λ x. IsSwept (horizon_now base h) (held_in new kept o w) (versions_on base w o (h ++ x ∷ []))) (sym flush-is)
+    pub flush_left : (o : ObjectId) (w : Which) → AgreesWith (horizon_now base h) (held_in new kept o w) (versions_on base w o (h ++ r ∷ []))
+    flush_left o w = subst (λ x. AgreesWith (horizon_now base h) (held_in new kept o w) (versions_on base w o (h ++ x ∷ []))) (sym flush-is)
         (tracks-left s f (flush_of r.moment (record { who = 0; client = r.caller.client }) (Flush from to)) (flush-tracks base h r.moment r.caller.client from to) o w)
 
-    pub stands_flush : Holds new kept → LeavesNoChain chains new kept kept → IsSound base (h ++ r ∷ []) → StandsFor base freed new kept serials table (h ++ r ∷ [])
-    stands_flush holds leaves sound = subst (λ x. StandsFor base freed new kept serials table (h ++ x ∷ [])) (sym flush-is)
+    pub stands_flush : Holds new kept → LeavesNoChain chains new kept kept → IsSound base (h ++ r ∷ []) → StandsFor base (size + counted made_by r) new kept serials table (h ++ r ∷ [])
+    stands_flush holds leaves sound = subst (λ x. StandsFor base (size + counted made_by x) new kept serials table (h ++ x ∷ [])) (sym flush-is)
         (stands_flushed s f (flush_of r.moment (record { who = 0; client = r.caller.client }) (Flush from to)) (flush-tracks base h r.moment r.caller.client from to) holds leaves (subst (λ x. IsSound base (h ++ x ∷ [])) flush-is sound)
         (flush-makes r.moment (record { who = 0; client = r.caller.client }) from to) (flush-rebinds r.moment (record { who = 0; client = r.caller.client }) from to) (record { made = refl; values = refl; bindings = refl }))
 
@@ -163,11 +164,11 @@ module _ {base : Base} {freed : ℕ} {chains : Chains Version} {kept : Objects} 
         let told' : r.reply ≡ Done = told-asked n granted (FlushO o from to) asked ∙ flush_one-done base h r.moment r.caller o from to (accepted-asked n granted (FlushO o from to) asked) in
         λ i. record { moment = r.moment; caller = r.caller; request = asked i; reply = told' i }
 
-    pub flush_one_left : (q : ObjectId) (w : Which) → IsSwept (horizon_now base h) (held_in new kept q w) (versions_on base w q (h ++ r ∷ []))
-    flush_one_left q w = subst (λ x. IsSwept (horizon_now base h) (held_in new kept q w) (versions_on base w q (h ++ x ∷ []))) (sym flush_one-is)
+    pub flush_one_left : (q : ObjectId) (w : Which) → AgreesWith (horizon_now base h) (held_in new kept q w) (versions_on base w q (h ++ r ∷ []))
+    flush_one_left q w = subst (λ x. AgreesWith (horizon_now base h) (held_in new kept q w) (versions_on base w q (h ++ x ∷ []))) (sym flush_one-is)
         (tracks-left s f (flush_of r.moment r.caller (FlushO o from to)) (flush_one-tracks base h r.moment r.caller o from to) q w)
 
-    pub stands_flush_one : Holds new kept → LeavesNoChain chains new kept kept → IsSound base (h ++ r ∷ []) → StandsFor base freed new kept serials table (h ++ r ∷ [])
-    stands_flush_one holds leaves sound = subst (λ x. StandsFor base freed new kept serials table (h ++ x ∷ [])) (sym flush_one-is)
+    pub stands_flush_one : Holds new kept → LeavesNoChain chains new kept kept → IsSound base (h ++ r ∷ []) → StandsFor base (size + counted made_by r) new kept serials table (h ++ r ∷ [])
+    stands_flush_one holds leaves sound = subst (λ x. StandsFor base (size + counted made_by x) new kept serials table (h ++ x ∷ [])) (sym flush_one-is)
         (stands_flushed s f (flush_of r.moment r.caller (FlushO o from to)) (flush_one-tracks base h r.moment r.caller o from to) holds leaves (subst (λ x. IsSound base (h ++ x ∷ [])) flush_one-is sound)
         (flush_one-makes r.moment r.caller o from to) (flush_one-rebinds r.moment r.caller o from to) (record { made = refl; values = refl; bindings = refl }))

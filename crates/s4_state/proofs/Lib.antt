@@ -14,6 +14,7 @@ pub mod Beginning
 pub mod Effects
 pub mod Binding
 pub mod Flushing
+mod Fitted
 pub mod Sweeping
 pub mod Resting
 pub mod Mounting
@@ -24,3 +25,9 @@ pub mod Charging
 pub mod Refunding
 pub mod Costs
 pub mod Stepped
+pub mod Once
+pub mod Keeping
+pub mod Cutting
+pub mod Cuts
+pub mod Moments
+pub mod Above

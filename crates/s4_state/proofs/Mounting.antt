@@ -1,5 +1,5 @@
 -- The page of a drive's partitions is that of the definition.
-use Rattle.std.proofs.Common.{◌≡◌, ℕ, ◌≤◌, false, Option, Some, None, List, [], ◌∷◌, refl, ◌∙◌, ap, filter, filter_map, flat_map}
+use Rattle.std.proofs.Common.{◌≡◌, ℕ, ◌≤◌, false, Option, Some, None, List, refl, sym, ◌∙◌, ap, filter, filter_map, flat_map}
 use Rattle.std.specs.Prelude.{Result, Ok, Err}
 use Rattle.std.specs.Option.{option_map}
 use Rattle.s4_types.specs.Base.{Base}
@@ -20,13 +20,13 @@ use Rattle.s4_types.specs.Play.{last_of}
 use Rattle.s4_store.specs.Chains.{Chains}
 use Rattle.s4_parts.specs.declared.parts.Parts.{Parts as Table}
 use Rattle.s4_tracks.specs.Swept.{IsFrom}
-use Rattle.s4_parts.specs.Table.{bindings_in, is_any}
+use Rattle.s4_parts.specs.Table.{bindings_in, names_in, object_of}
 use Rattle.s4_parts.specs.Page as page
 use Rattle.s4_objects.specs.declared.objects.Objects.{Objects}
 use Rattle.s4_state.specs.Shown.{granted, grant_of}
-use Rattle.s4_state.specs.Stands.{horizon_now, StandsFor}
+use Rattle.s4_state.specs.Stands.{horizon_now, is_lasting, StandsFor}
 use Rattle.s4_state.proofs.Binding.{bound-in}
-use Rattle.s4_state.proofs.Left.{lines-filter}
+use Rattle.s4_state.proofs.Left.{none-lasting, lines-filter}
 
 line-granted : (name : List ℕ) (o : ObjectId) (r : Result Grant Refusal) → page.line_with name o (grant_of r) ≡ line_where name o r
 line-granted name o (Ok grant) = refl
@@ -37,22 +37,22 @@ line-bound : (base : Base) (h : List Record) (t : ℕ) (caller : Caller) (at : O
 line-bound base h t caller at purse name None = refl
 line-bound base h t caller at purse name (Some serial) = line-granted name (object_in purse serial) (judge base h t caller (object_in purse serial) right.Read at)
 
-module _ {base : Base} {freed : ℕ} {chains : Chains Version} {kept : Objects} {serials : Purse → ℕ} {table : Table} {h : List Record} (s : StandsFor base freed chains kept serials table h) (t : ℕ) (later : last_of h ≤ t) (caller : Caller) where
+module _ {base : Base} {size : ℕ} {chains : Chains Version} {kept : Objects} {serials : Purse → ℕ} {table : Table} {h : List Record} (s : StandsFor base size chains kept serials table h) (t : ℕ) (later : last_of h ≤ t) (caller : Caller) where
   line-is : (at : Option ℕ) → IsFrom (horizon_now base h) at → (purse : Purse) (name : List ℕ) → page.line_of (granted base h t caller at) at name (bindings_in chains table purse name) ≡ line_of base h t caller at purse name
   line-is at from purse name = ap (page.line_to (granted base h t caller at) name) (bound-in s purse name t later at from) ∙ line-bound base h t caller at purse name (bound_at base purse name (moment_of t at) h)
 
-  -- a name without bindings has no line
-  line-none : (at : Option ℕ) (name : List ℕ) (vs : List Version) → is_any vs ≡ false → page.line_of (granted base h t caller at) at name vs ≡ None
-  line-none None name [] e = refl
-  line-none (Some m) name [] e = refl
-  line-none at name (v ∷ vs) e = cc
+  -- a name of which all bindings are expired has no line
+  line-none : (at : Option ℕ) → IsFrom (horizon_now base h) at → (purse : Purse) (name : List ℕ) → is_lasting (horizon_now base h) chains table purse name ≡ false → page.line_of (granted base h t caller at) at name (bindings_in chains table purse name) ≡ None
+  line-none at from purse name e = ap (λ x. page.line_to (granted base h t caller at) name (object_of x)) (none-lasting (horizon_now base h) at (bindings_in chains table purse name) from e)
 
   lines-are : (range : ℕ) (after : Option After) (at : Option ℕ) → IsFrom (horizon_now base h) at → (number : ℕ) → page.lines_in chains table (granted base h t caller at) range after at number ≡ lines_in base h t caller range after at number
   lines-are range after at from number =
       let purse : Purse = record { creator = range; number = number } in
-      ap (λ names. filter_map (λ name. page.line_of (granted base h t caller at) at name (bindings_in chains table purse name)) (filter (is_after after number) names)) (s.partitions.names purse)
-      ∙ lines-filter (λ name. page.line_of (granted base h t caller at) at name (bindings_in chains table purse name)) (is_after after number) (λ n. is_any (bindings_in chains table purse n)) (names_of base purse h)
-      (λ name e. line-none at name (bindings_in chains table purse name) e)
+      sym (lines-filter (λ name. page.line_of (granted base h t caller at) at name (bindings_in chains table purse name)) (is_after after number) (is_lasting (horizon_now base h) chains table purse) (names_in chains table purse)
+      (λ name e. line-none at from purse name e))
+      ∙ ap (λ names. filter_map (λ name. page.line_of (granted base h t caller at) at name (bindings_in chains table purse name)) (filter (is_after after number) names)) (s.partitions.names purse)
+      ∙ lines-filter (λ name. page.line_of (granted base h t caller at) at name (bindings_in chains table purse name)) (is_after after number) (is_lasting (horizon_now base h) chains table purse) (names_of base purse h)
+      (λ name e. line-none at from purse name e)
       ∙ ap (λ f. filter_map f (filter (is_after after number) (names_of base purse h))) (λ i name. line-is at from purse name i)
 
   -- all lines that a page is cut from

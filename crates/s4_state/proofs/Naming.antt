@@ -15,8 +15,8 @@ use Rattle.s4_types.specs.Versions.{Value, only_kept}
 use Rattle.s4_types.specs.Play.{last_of}
 use Rattle.s4_types.proofs.Booleans.{both}
 use Rattle.s4_store.specs.Chains.{Chains}
-use Rattle.s4_tracks.specs.Swept.{IsSwept}
-use Rattle.s4_tracks.proofs.Sweeping.{swept_up}
+use Rattle.s4_tracks.specs.Swept.{unexpired, AgreesWith}
+use Rattle.s4_tracks.proofs.Sweeping.{agrees_up}
 use Rattle.s4_objects.specs.declared.objects.Objects.{Objects}
 use Rattle.s4_objects.specs.Table.{IsForeign, KeepsOthers}
 use Rattle.s4_parts.specs.declared.parts.Parts.{Parts as Table}
@@ -25,7 +25,8 @@ use Rattle.s4_parts.specs.Waiting.{waiting_in}
 use Rattle.s4_parts.specs.Laws.{KeepsTable, bindings_still, names_still, holds_still, waits_still}
 use Rattle.s4_state.specs.Counts.{bindings_ended_by, counted}
 use Rattle.s4_state.specs.Laid.{laid_by, bindings_on}
-use Rattle.s4_state.specs.Stands.{NamesStand, RebindsNone}
+use Rattle.s4_state.specs.Stands.{is_lasting, NamesStand, RebindsNone}
+use Rattle.s4_state.proofs.Left.{lasting-up, filter-less}
 use Rattle.s4_state.proofs.Waiting.{no-more, waiting_next}
 
 -- ONE MORE RECORD
@@ -58,14 +59,22 @@ last-up h r all = of (slice_get h (length h - 1)) refl
     of None got = omega arith
     of (Some x) got = let here : nat_le x.moment (last_of (h ++ r ∷ [])) ≡ true = all-at (λ y. nat_le y.moment (last_of (h ++ r ∷ []))) h (length h - 1) x (all-front (λ y. nat_le y.moment (last_of (h ++ r ∷ []))) h (r ∷ []) all) got in grind arith
 
+-- where the bindings and the names are as before
+pub lasting_as : (hz : ℕ) (chains new : Chains Version) (table table' : Table) (p : Purse) → ((n : List ℕ) → bindings_in new table' p n ≡ bindings_in chains table p n) → {old now all whole : List (List ℕ)} → now ≡ old → whole ≡ all
+    → filter (is_lasting hz chains table p) old ≡ filter (is_lasting hz chains table p) all → filter (is_lasting hz new table' p) now ≡ filter (is_lasting hz new table' p) whole
+lasting_as hz chains new table table' p bindings {old} {now} {all} {whole} e f s =
+    let same : is_lasting hz new table' p ≡ is_lasting hz chains table p = λ i n. is_any (unexpired hz (bindings n i)) in
+    ap (filter (is_lasting hz new table' p)) e ∙ ap (λ test. filter test old) same ∙ s ∙ sym (ap (λ test. filter test all) same) ∙ sym (ap (filter (is_lasting hz new table' p)) f)
+
 module _ {hz : ℕ} {chains : Chains Version} {kept : Objects} {table : Table} {base : Base} {h : List Record} (s : NamesStand base hz chains kept table h) where
   -- a record that binds no name
   pub names_with : (r : Record) → {hz' : ℕ} → hz ≤ hz' → RebindsNone r → counted bindings_ended_by r ≡ 0 → NamesStand base hz' chains kept table (h ++ r ∷ [])
   names_with r {hz'} up none ended = record {
     holds = s.holds;
     waits = s.waits;
-    bindings = λ p n. swept_up hz hz' _ _ up (subst (IsSwept hz (bindings_in chains table p n)) (sym (ap (laid-on p n) (bindings-snoc p n base h r ∙ none.bindings p n (bindings base p n h)))) (s.bindings p n));
-    names = λ p. s.names p ∙ ap (filter (λ n. is_any (bindings_in chains table p n))) (sym (names_of-snoc p base h r ∙ none.names p (names_of base p h)));
+    bindings = λ p n. agrees_up hz hz' _ _ up (subst (AgreesWith hz (bindings_in chains table p n)) (sym (ap (laid-on p n) (bindings-snoc p n base h r ∙ none.bindings p n (bindings base p n h)))) (s.bindings p n));
+    names = λ p. filter-less (is_lasting hz' chains table p) (is_lasting hz chains table p) _ _ (λ n e. lasting-up hz hz' (bindings_in chains table p n) up e)
+        (s.names p ∙ ap (filter (is_lasting hz chains table p)) (sym (names_of-snoc p base h r ∙ none.names p (names_of base p h))));
     ends = waiting_next up bindings_ended_by h r (no-more (map (λ e. e.end) (waiting_in table)) r.moment ended) s.ends;
     apart = s.apart;
   }
@@ -78,8 +87,8 @@ module _ {hz : ℕ} {chains : Chains Version} {kept : Objects} {table : Table} {
   names_over new kept' keeps apart = record {
     holds = holds_still keeps s.holds;
     waits = waits_still keeps s.waits;
-    bindings = λ p n. subst (λ vs. IsSwept hz vs (bindings_on base p n h)) (sym (bindings_still keeps p n)) (s.bindings p n);
-    names = λ p. names_still keeps p ∙ s.names p ∙ ap (λ f. filter f (names_of base p h)) (λ i n. is_any (sym (bindings_still keeps p n) i));
+    bindings = λ p n. subst (λ vs. AgreesWith hz vs (bindings_on base p n h)) (sym (bindings_still keeps p n)) (s.bindings p n);
+    names = λ p. lasting_as hz chains new table table p (λ n. bindings_still keeps p n) (names_still keeps p) refl (s.names p);
     ends = s.ends;
     apart = apart;
   }

@@ -1,6 +1,6 @@
 -- What is held tells what is in force.
-use Rattle.std.proofs.Common.{◌≡◌, ℕ, ◌≤◌, Bool, true, false, cond, Option, Some, None, List, [], ◌∷◌, refl, sym, ◌∙◌, ap, subst, arith}
-use Rattle.std.specs.Prelude.{◌&&◌, not, nat_le, is_some, if◌then◌else◌}
+use Rattle.std.proofs.Common.{◌≡◌, ℕ, ◌≤◌, Bool, true, false, cond, Option, Some, None, List, [], ◌∷◌, refl, sym, ◌∙◌, ap, subst}
+use Rattle.std.specs.Prelude.{not, nat_le, is_some, if◌then◌else◌}
 use Rattle.std.specs.List.{find, list_all}
 use Rattle.std.specs.Option.{option_map}
 use Rattle.std.proofs.lemmas.List.Sums.{fold-append}
@@ -12,7 +12,7 @@ use Rattle.s4_types.specs.declared.record.Record.{Record}
 use Rattle.s4_types.specs.declared.version.Version.{Version}
 use Rattle.s4_types.specs.declared.version.Item.{Item}
 use Rattle.s4_types.specs.declared.version.Item.TheVariants as item
-use Rattle.s4_types.specs.Versions.{when, Track, Value, versions, value_at, lives_at, ends_by, in_force_by, data_track, attribute_track, acl_track}
+use Rattle.s4_types.specs.Versions.{when, Track, Value, versions, value_at, lives_at, ends_by, in_force_by, unended, standing, data_track, attribute_track, acl_track}
 use Rattle.s4_types.specs.Judgement.{held_of}
 use Rattle.s4_types.specs.Answer.{value_or_empty, is_gone, data_of, attributes_of, acl_of, moment_of}
 use Rattle.s4_types.specs.Play.{last_of}
@@ -21,9 +21,9 @@ use Rattle.s4_types.proofs.Booleans.{both}
 use Rattle.s4_types.proofs.Erasing.{acls-whole, unended-whole}
 use Rattle.s4_types.proofs.Snoc.{newest-snoc}
 use Rattle.s4_store.specs.Chains.{Chains}
-use Rattle.s4_tracks.specs.Chain.{newer, latest, unended, in_force, endless, current_of, version_in}
+use Rattle.s4_tracks.specs.Chain.{newer, latest, unended as not_ended, in_force, endless, current_of, version_in}
 use Rattle.s4_tracks.specs.Swept.{IsFrom}
-use Rattle.s4_tracks.proofs.Sweeping.{swept_version_in}
+use Rattle.s4_tracks.proofs.Sweeping.{agrees_version_in}
 use Rattle.s4_objects.specs.declared.kept.Which.{Which}
 use Rattle.s4_objects.specs.declared.kept.Which.TheVariants as which
 use Rattle.s4_parts.specs.declared.parts.Parts.{Parts as Table}
@@ -31,9 +31,9 @@ use Rattle.s4_objects.specs.declared.objects.Objects.{Objects}
 use Rattle.s4_state.specs.Held.{bytes_of_item, bytes_in, held_of_item, held_in as acl_in}
 use Rattle.s4_objects.specs.Table.{held_in}
 use Rattle.s4_state.specs.Laid.{item_of, version_by, laid_by, version_of, laid, versions_on, version_at}
-use Rattle.s4_state.specs.Sound.{IsSound, IsTrack, TrackStands, DataFits, AttributesFit, AclFits, was_made, was_deleted}
+use Rattle.s4_state.specs.Sound.{IsSoundBy, IsSound, ValuesStand}
 use Rattle.s4_state.specs.Stands.{horizon_now, StandsFor}
-use Rattle.s4_state.proofs.Living.{in_force-now, lives_at-now}
+use Rattle.s4_state.proofs.Living.{newest-now, in_force-now, lives-now}
 
 -- FROM VALUES TO VERSIONS
 
@@ -45,68 +45,48 @@ module _ {V : Type 0} (cost : V → ℕ) (hold : Value V → Option Item) where
       ∙ ap (λ o. if nat_le v.begin m then Some (version_by cost hold v) else o) (latest-laid m past)
       ∙ (elim (nat_le v.begin m) as (λ b. (if b then Some (version_by cost hold v) else option_map (version_by cost hold) (find (λ v. nat_le v.begin m) past)) ≡ option_map (version_by cost hold) (cond b (Some v) (find (λ v. nat_le v.begin m) past))) [ true ↦ refl | false ↦ refl ])
 
-  unended-found : (m : ℕ) (values : List (Value V)) → unended m (option_map (version_by cost hold) (find (λ v. nat_le v.begin m) values)) ≡ option_map (version_by cost hold) (in_force_by m values)
+  unended-found : (m : ℕ) (values : List (Value V)) → not_ended m (option_map (version_by cost hold) (find (λ v. nat_le v.begin m) values)) ≡ option_map (version_by cost hold) (in_force_by m values)
   unended-found m [] = refl
-  unended-found m (v ∷ past) = elim (nat_le v.begin m) as (λ b. unended m (option_map (version_by cost hold) (cond b (Some v) (find (λ v. nat_le v.begin m) past))) ≡ option_map (version_by cost hold) (if b then (if ends_by m v.end then None else Some v) else in_force_by m past)) [
+  unended-found m (v ∷ past) = elim (nat_le v.begin m) as (λ b. not_ended m (option_map (version_by cost hold) (cond b (Some v) (find (λ v. nat_le v.begin m) past))) ≡ option_map (version_by cost hold) (if b then (if ends_by m v.end then None else Some v) else in_force_by m past)) [
     | true ↦ (elim (ends_by m v.end) as (λ b. (if b then None else Some (version_by cost hold v)) ≡ option_map (version_by cost hold) (if b then None else Some v)) [ true ↦ refl | false ↦ refl ])
     | false ↦ unended-found m past
   ]
 
   -- at a moment the chain holds what the values hold
   pub in_force-laid : (m : ℕ) (values : List (Value V)) → in_force m (laid_by cost hold values) ≡ option_map (version_by cost hold) (in_force_by m values)
-  in_force-laid m values = ap (unended m) (latest-laid m values) ∙ unended-found m values
+  in_force-laid m values = ap (not_ended m) (latest-laid m values) ∙ unended-found m values
 
 -- from the last moment on the current value is held
-current-laid : {V : Type 0} (track : Track V) (wrap : V → Item) (Fits : V → Type 0) (made deleted : Bool) (last t : ℕ) (values : List (Value V)) → last ≤ t → IsTrack Fits made deleted last values
-    → current_of (laid track wrap values) ≡ option_map (version_of track wrap) (in_force_by t values)
-current-laid track wrap Fits false deleted last t values l s = ap (λ vs. current_of (laid track wrap vs)) s ∙ sym (ap (λ vs. option_map (version_of track wrap) (in_force_by t vs)) s)
-current-laid track wrap Fits true deleted last t [] l s = refl
-current-laid track wrap Fits true false last t (v ∷ past) l s =
-    let low : v.begin ≤ last = s.begun in
-    let begun : nat_le v.begin t ≡ true = grind arith in
+current-laid : {V : Type 0} (track : Track V) (wrap : V → Item) {last t : ℕ} (values : List (Value V)) → last ≤ t → ValuesStand last values → current_of (laid track wrap values) ≡ option_map (version_of track wrap) (in_force_by t values)
+current-laid track wrap [] l s = refl
+current-laid track wrap {last} {t} (v ∷ past) l s =
     ap endless (newest-snoc (laid track wrap past) (version_of track wrap v))
-    ∙ ap (λ e. if is_some e then None else Some (version_of track wrap v)) s.current
-    ∙ sym (ap (λ b. option_map (version_of track wrap) (if b then (if ends_by t v.end then None else Some v) else in_force_by t past)) begun
-    ∙ ap (λ e. option_map (version_of track wrap) (if ends_by t e then None else Some v)) s.current)
-current-laid track wrap Fits true true last t (v ∷ past) l s =
-    let low : v.begin ≤ last = s.begun in
-    let begun : nat_le v.begin t ≡ true = grind arith in
-    let early : s.end ≤ last = s.past in
-    let over : nat_le s.end t ≡ true = grind arith in
-    ap endless (newest-snoc (laid track wrap past) (version_of track wrap v))
-    ∙ ap (λ e. if is_some e then None else Some (version_of track wrap v)) s.ended
-    ∙ sym (ap (λ b. option_map (version_of track wrap) (if b then (if ends_by t v.end then None else Some v) else in_force_by t past)) begun
-    ∙ ap (λ e. option_map (version_of track wrap) (if ends_by t e then None else Some v)) s.ended
-    ∙ ap (λ b. option_map (version_of track wrap) (if b then None else Some v)) over)
+    ∙ (elim (is_some v.end) as (λ b. (if b then None else Some (version_of track wrap v)) ≡ option_map (version_of track wrap) (if b then None else Some v)) [ true ↦ refl | false ↦ refl ])
+    ∙ sym (ap (option_map (version_of track wrap)) (newest-now l v past s))
 
 -- the value in force from the last moment on is the newest, where the object lives
-newest-in-force : {V : Type 0} (track : Track V) (Fits : V → Type 0) (base : Base) (h : List Record) (o : ObjectId) → TrackStands Fits base o h (versions base track o h) → TrackStands AclFits base o h (versions base acl_track o h)
-    → (t : ℕ) → last_of h ≤ t → lives_at base t o h ≡ true → (v : Value V) (past : List (Value V)) → versions base track o h ≡ v ∷ past → value_at base track o t h ≡ Some v
-newest-in-force {V} track Fits base h o stands acl t later lives v past is =
-    ap (in_force_by t) is
-    ∙ newest (was_made base o h) (was_deleted o h) (sym (lives_at-now t base o h later acl) ∙ lives) (subst (IsTrack Fits (was_made base o h) (was_deleted o h) (last_of h)) is stands)
+newest-in-force : {V : Type 0} (track : Track V) (base : Base) (h : List Record) (o : ObjectId) {last : ℕ} → ValuesStand last (versions base track o h) → ValuesStand last (versions base acl_track o h)
+    → (t : ℕ) → last ≤ t → lives_at base t o h ≡ true → (v : Value V) (past : List (Value V)) → versions base track o h ≡ v ∷ past → value_at base track o t h ≡ Some v
+newest-in-force {V} track base h o {last} stands acl t later lives v past is =
+    ap (in_force_by t) is ∙ newest-now later v past (subst (ValuesStand last) is stands)
+    ∙ of v.end (ap (λ values. is_some (standing values)) (sym is) ∙ lives-now base o h later acl track ∙ lives)
   where
-    newest : (m d : Bool) → (m && not d) ≡ true → IsTrack Fits m d (last_of h) (v ∷ past) → in_force_by t (v ∷ past) ≡ Some v
-    newest false d e shape = cc
-    newest true true e shape = cc
-    newest true false e shape =
-        let low : v.begin ≤ last_of h = shape.begun in
-        let begun : nat_le v.begin t ≡ true = grind arith in
-        ap (λ b. if b then (if ends_by t v.end then None else Some v) else in_force_by t past) begun
-        ∙ ap (λ e. if ends_by t e then None else Some v) shape.current
+    of : (end : Option ℕ) → is_some (unended end v) ≡ true → (if is_some end then None else Some v) ≡ Some v
+    of None e = refl
+    of (Some end) e = cc
 
-pub data-in-force : {base : Base} {h : List Record} → IsSound base h → (o : ObjectId) (t : ℕ) → last_of h ≤ t → lives_at base t o h ≡ true → (v : Value (List ℕ)) (past : List (Value (List ℕ))) → versions base data_track o h ≡ v ∷ past → v.value ≡ data_of base o t h
-data-in-force {base} {h} s o t later lives v past is = sym (ap value_or_empty (newest-in-force data_track DataFits base h o (s.tracks o which.Data) (s.tracks o which.Acl) t later lives v past is))
+pub data-in-force : {base : Base} {last : ℕ} {h : List Record} → IsSoundBy base last h → (o : ObjectId) (t : ℕ) → last ≤ t → lives_at base t o h ≡ true → (v : Value (List ℕ)) (past : List (Value (List ℕ))) → versions base data_track o h ≡ v ∷ past → v.value ≡ data_of base o t h
+data-in-force {base} {last} {h} s o t later lives v past is = sym (ap value_or_empty (newest-in-force data_track base h o (s.tracks o which.Data) (s.tracks o which.Acl) t later lives v past is))
 
-pub attributes-in-force : {base : Base} {h : List Record} → IsSound base h → (o : ObjectId) (t : ℕ) → last_of h ≤ t → lives_at base t o h ≡ true → (v : Value (List ℕ)) (past : List (Value (List ℕ))) → versions base attribute_track o h ≡ v ∷ past → v.value ≡ attributes_of base o t h
-attributes-in-force {base} {h} s o t later lives v past is = sym (ap value_or_empty (newest-in-force attribute_track AttributesFit base h o (s.tracks o which.Attributes) (s.tracks o which.Acl) t later lives v past is))
+pub attributes-in-force : {base : Base} {last : ℕ} {h : List Record} → IsSoundBy base last h → (o : ObjectId) (t : ℕ) → last ≤ t → lives_at base t o h ≡ true → (v : Value (List ℕ)) (past : List (Value (List ℕ))) → versions base attribute_track o h ≡ v ∷ past → v.value ≡ attributes_of base o t h
+attributes-in-force {base} {last} {h} s o t later lives v past is = sym (ap value_or_empty (newest-in-force attribute_track base h o (s.tracks o which.Attributes) (s.tracks o which.Acl) t later lives v past is))
 
-pub acl-in-force : {base : Base} {h : List Record} → IsSound base h → (o : ObjectId) (t : ℕ) → last_of h ≤ t → lives_at base t o h ≡ true → (v : Value (List AclEntry)) (past : List (Value (List AclEntry))) → versions base acl_track o h ≡ v ∷ past → v.value ≡ acl_of base o t h
-acl-in-force {base} {h} s o t later lives v past is = sym (ap value_or_empty (newest-in-force acl_track AclFits base h o (s.tracks o which.Acl) (s.tracks o which.Acl) t later lives v past is))
+pub acl-in-force : {base : Base} {last : ℕ} {h : List Record} → IsSoundBy base last h → (o : ObjectId) (t : ℕ) → last ≤ t → lives_at base t o h ≡ true → (v : Value (List AclEntry)) (past : List (Value (List AclEntry))) → versions base acl_track o h ≡ v ∷ past → v.value ≡ acl_of base o t h
+acl-in-force {base} {last} {h} s o t later lives v past is = sym (ap value_or_empty (newest-in-force acl_track base h o (s.tracks o which.Acl) (s.tracks o which.Acl) t later lives v past is))
 
 -- FROM WHAT IS KEPT
 
-is_some-map : {A B : Type 0} (f : A → B) (x : Option A) → is_some (option_map f x) ≡ is_some x
+pub is_some-map : {A B : Type 0} (f : A → B) (x : Option A) → is_some (option_map f x) ≡ is_some x
 is_some-map f None = refl
 is_some-map f (Some x) = refl
 
@@ -119,29 +99,28 @@ module _ {base : Base} {h : List Record} (s : IsSound base h) (o : ObjectId) whe
 
   -- now
   all-now : (t : ℕ) → last_of h ≤ t → (w : Which) → current_of (versions_on base w o h) ≡ version_at base w o t h
-  all-now t l which.Data = current-laid data_track item.Data DataFits (was_made base o h) (was_deleted o h) (last_of h) t (versions base data_track o h) l (s.tracks o which.Data)
-  all-now t l which.Attributes = current-laid attribute_track item.Attr AttributesFit (was_made base o h) (was_deleted o h) (last_of h) t (versions base attribute_track o h) l (s.tracks o which.Attributes)
-  all-now t l which.Acl = current-laid acl_track item.Acl AclFits (was_made base o h) (was_deleted o h) (last_of h) t (versions base acl_track o h) l (s.tracks o which.Acl)
+  all-now t l which.Data = current-laid data_track item.Data (versions base data_track o h) l (s.tracks o which.Data)
+  all-now t l which.Attributes = current-laid attribute_track item.Attr (versions base attribute_track o h) l (s.tracks o which.Attributes)
+  all-now t l which.Acl = current-laid acl_track item.Acl (versions base acl_track o h) l (s.tracks o which.Acl)
 
   all-told : (t : ℕ) → last_of h ≤ t → (at : Option ℕ) (w : Which) → version_in at (versions_on base w o h) ≡ version_at base w o (moment_of t at) h
   all-told t l None w = all-now t l w
   all-told t l (Some m) w = all-at m w
 
   -- what is in force on a track is there where the object lives
-  lives-then : {V : Type 0} (Fits : V → Type 0) (track : Track V) → TrackStands Fits base o h (versions base track o h) → (t : ℕ) → last_of h ≤ t → lives_at base t o h ≡ true → is_some (value_at base track o t h) ≡ true
-  lives-then Fits track stands t l lives =
-      in_force-now Fits t (last_of h) (was_made base o h) (was_deleted o h) (versions base track o h) l stands ∙ sym (lives_at-now t base o h l (s.tracks o which.Acl)) ∙ lives
+  lives-then : {V : Type 0} (track : Track V) → ValuesStand (last_of h) (versions base track o h) → (t : ℕ) → last_of h ≤ t → lives_at base t o h ≡ true → is_some (value_at base track o t h) ≡ true
+  lives-then track stands t l lives = in_force-now l (versions base track o h) stands ∙ lives-now base o h l (s.tracks o which.Acl) track ∙ lives
 
   -- an object that lives has a version on each track
   lives-told : (t : ℕ) → last_of h ≤ t → lives_at base t o h ≡ true → (w : Which) → is_some (version_at base w o t h) ≡ true
-  lives-told t l e which.Data = is_some-map (version_of data_track item.Data) (value_at base data_track o t h) ∙ lives-then DataFits data_track (s.tracks o which.Data) t l e
-  lives-told t l e which.Attributes = is_some-map (version_of attribute_track item.Attr) (value_at base attribute_track o t h) ∙ lives-then AttributesFit attribute_track (s.tracks o which.Attributes) t l e
-  lives-told t l e which.Acl = is_some-map (version_of acl_track item.Acl) (value_at base acl_track o t h) ∙ lives-then AclFits acl_track (s.tracks o which.Acl) t l e
+  lives-told t l e which.Data = is_some-map (version_of data_track item.Data) (value_at base data_track o t h) ∙ lives-then data_track (s.tracks o which.Data) t l e
+  lives-told t l e which.Attributes = is_some-map (version_of attribute_track item.Attr) (value_at base attribute_track o t h) ∙ lives-then attribute_track (s.tracks o which.Attributes) t l e
+  lives-told t l e which.Acl = is_some-map (version_of acl_track item.Acl) (value_at base acl_track o t h) ∙ lives-then acl_track (s.tracks o which.Acl) t l e
 
-module _ {base : Base} {freed : ℕ} {chains : Chains Version} {kept : Objects} {serials : Purse → ℕ} {table : Table} {h : List Record} (s : StandsFor base freed chains kept serials table h) (o : ObjectId) where
+module _ {base : Base} {size : ℕ} {chains : Chains Version} {kept : Objects} {serials : Purse → ℕ} {table : Table} {h : List Record} (s : StandsFor base size chains kept serials table h) (o : ObjectId) where
   -- what is held tells what is in force, now or at a moment that isn't below the horizon
   pub held-told : (t : ℕ) → last_of h ≤ t → (at : Option ℕ) → IsFrom (horizon_now base h) at → (w : Which) → version_in at (held_in chains kept o w) ≡ version_at base w o (moment_of t at) h
-  held-told t l at from w = swept_version_in (horizon_now base h) at (held_in chains kept o w) (versions_on base w o h) from (s.objects.tracks o w) ∙ all-told s.sound o t l at w
+  held-told t l at from w = agrees_version_in (horizon_now base h) at (held_in chains kept o w) (versions_on base w o h) from (s.objects.tracks o w) ∙ all-told s.sound o t l at w
 
   -- where the object lives each track has a current value
   pub current-held : (t : ℕ) → last_of h ≤ t → lives_at base t o h ≡ true → (w : Which) → is_some (current_of (held_in chains kept o w)) ≡ true
@@ -185,29 +164,19 @@ held_in-acl o m base h = of (value_at base acl_track o m h) (acl-whole o m base 
     of (Some v) e = ap (λ b. held_of_item v.begin (if b then None else Some (item.Acl v.value))) e
 
 -- nor is a current value
-current-whole : {V : Type 0} (track : Track V) (Fits : V → Type 0) (o : ObjectId) (base : Base) (h : List Record) → TrackStands Fits base o h (versions base track o h) → (t : ℕ) → last_of h ≤ t → is_gone (value_at base track o t h) ≡ false
-current-whole {V} track Fits o base h s t later = of (was_made base o h) (was_deleted o h) (versions base track o h) refl s
+current-whole : {V : Type 0} (track : Track V) (o : ObjectId) (base : Base) (h : List Record) {last : ℕ} → ValuesStand last (versions base track o h) → (t : ℕ) → last ≤ t → is_gone (value_at base track o t h) ≡ false
+current-whole {V} track o base h {last} s t later = of (versions base track o h) refl s
   where
-    of : (m d : Bool) (values : List (Value V)) → versions base track o h ≡ values → IsTrack Fits m d (last_of h) values → is_gone (in_force_by t values) ≡ false
-    of false d values is shape = ap (λ vs. is_gone (in_force_by t vs)) shape
-    of true d [] is shape = refl
-    of true false (v ∷ past) is shape =
-        let low : v.begin ≤ last_of h = shape.begun in
-        let begun : nat_le v.begin t ≡ true = grind arith in
-        ap (λ b. is_gone (if b then (if ends_by t v.end then None else Some v) else in_force_by t past)) begun
-        ∙ ap (λ e. is_gone (if ends_by t e then None else Some v)) shape.current
-        ∙ unended-whole base track o h v past is shape.current
-    of true true (v ∷ past) is shape =
-        let low : v.begin ≤ last_of h = shape.begun in
-        let begun : nat_le v.begin t ≡ true = grind arith in
-        let early : shape.end ≤ last_of h = shape.past in
-        let over : nat_le shape.end t ≡ true = grind arith in
-        ap (λ b. is_gone (if b then (if ends_by t v.end then None else Some v) else in_force_by t past)) begun
-        ∙ ap (λ e. is_gone (if ends_by t e then None else Some v)) shape.ended
-        ∙ ap (λ b. is_gone (if b then None else Some v)) over
+    of : (values : List (Value V)) → versions base track o h ≡ values → ValuesStand last values → is_gone (in_force_by t values) ≡ false
+    of [] is stands = refl
+    of (v ∷ past) is stands = ap is_gone (newest-now later v past stands) ∙ by_end v.end refl
+      where
+        by_end : (end : Option ℕ) → v.end ≡ end → is_gone (if is_some end then None else Some v) ≡ false
+        by_end None e = unended-whole base track o h v past is e
+        by_end (Some end) e = refl
 
 pub current-data-whole : {base : Base} {h : List Record} → IsSound base h → (o : ObjectId) (t : ℕ) → last_of h ≤ t → is_gone (value_at base data_track o t h) ≡ false
-current-data-whole {base} {h} s o t later = current-whole data_track DataFits o base h (s.tracks o which.Data) t later
+current-data-whole {base} {h} s o t later = current-whole data_track o base h (s.tracks o which.Data) t later
 
 -- what is told of what isn't gone
 pub told-whole : {A B : Type 0} (f : A → B) (r : Option A) (gone : Bool) (x : B) → option_map f r ≡ when (not gone) x → gone ≡ false → is_some r ≡ true

@@ -21,7 +21,7 @@ use Rattle.s4_types.specs.Versions.{Value, begun, with_end, ends_by, in_force_by
 use Rattle.s4_types.proofs.Booleans.{by_test, both, not_both, &&-false}
 use Rattle.s4_types.proofs.SameNames.{purse_is, name_is, name_self, at_name}
 use Rattle.s4_parts.proofs.Ordered.{IsBelow, by_order, greater-other, below-through, tail-sorted}
-use Rattle.s4_state.specs.Sound.{IsSound, IsNext, EndsBy, BindingsStand}
+use Rattle.s4_state.specs.Sound.{IsSound, IsNext, EndsBy, ValuesStand}
 use Rattle.s4_state.specs.Weights.{values_weight, name_weight, names_weight}
 use Rattle.s4_state.proofs.Granting.{accepted-asked, was_bound}
 use Rattle.s4_state.proofs.Weighing.{begun-weight, end-weight, unbinding_weight, NamesMove}
@@ -132,7 +132,7 @@ bindings-whole base p name h = whole-fold p name (only_kept (base.binding p name
 -- A BINDING ENDS
 
 -- what is in force from the last moment on has no end
-unended : {last m : ℕ} (v : Value ℕ) (past : List (Value ℕ)) → last ≤ m → BindingsStand last (v ∷ past) → is_some (in_force_by m (v ∷ past)) ≡ true → v.end ≡ None
+unended : {last m : ℕ} (v : Value ℕ) (past : List (Value ℕ)) → last ≤ m → ValuesStand last (v ∷ past) → is_some (in_force_by m (v ∷ past)) ≡ true → v.end ≡ None
 unended {last} {m} v past l s e = of v.end refl
   where
     of : (x : Option ℕ) → v.end ≡ x → v.end ≡ None
@@ -145,7 +145,7 @@ unended {last} {m} v past l s e = of v.end refl
         let none : in_force_by m (v ∷ past) ≡ None = ap (λ c. if c then (if ends_by m v.end then None else Some v) else in_force_by m past) begun ∙ ap (λ x. if ends_by m x then None else Some v) f ∙ ap (λ c. if c then None else Some v) gone in
         absurd (not_both (is_some (in_force_by m (v ∷ past))) e (ap is_some none))
 
-ended-binding : (f : ℕ → ℕ → ℕ) (cost : ℕ → ℕ) {last m : ℕ} (values : List (Value ℕ)) → last ≤ m → BindingsStand last values → IsWhole values → is_some (in_force_by m values) ≡ true → (c : ℕ) → ((x : ℕ) → cost x ≡ c)
+ended-binding : (f : ℕ → ℕ → ℕ) (cost : ℕ → ℕ) {last m : ℕ} (values : List (Value ℕ)) → last ≤ m → ValuesStand last values → IsWhole values → is_some (in_force_by m values) ≡ true → (c : ℕ) → ((x : ℕ) → cost x ≡ c)
     → values_weight f cost (with_end m values) ≡ values_weight f cost values + f m c
 ended-binding f cost [] l s w e c same = cc
 ended-binding f cost {last} {m} (v ∷ past) l s w e c same = end-weight f cost m v past (unended v past l s e) w ∙ ap (λ x. values_weight f cost (v ∷ past) + f m x) (same v.value)

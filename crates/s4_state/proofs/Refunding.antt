@@ -1,5 +1,5 @@
 -- What a record charges, and what a flush takes back of it.
-use Rattle.std.proofs.Common.{◌≡◌, ℕ, zero, ◌+◌, ◌≤◌, Bool, true, false, not, cond, Option, Some, None, List, [], ◌∷◌, ◌++◌, refl, ◌∙◌, ap, subst, arith}
+use Rattle.std.proofs.Common.{◌≡◌, ℕ, zero, ◌+◌, ◌≤◌, Bool, true, false, not, cond, Option, Some, None, List, [], ◌∷◌, ◌++◌, refl, ◌∙◌, ap, subst, arith, sym}
 use Rattle.std.specs.Prelude.{◌&&◌, ◌||◌, is_some, sum_by, if◌then◌else◌}
 use Rattle.std.specs.List.{list_all}
 use Rattle.std.proofs.lemmas.List.Sums.{sum_by-append, sum_by-cons}
@@ -21,7 +21,8 @@ use Rattle.s4_types.specs.Versions.{Track, Value, span_of, ends_by, versions, da
 use Rattle.s4_types.proofs.Booleans.{both, &&-false}
 use Rattle.s4_store.specs.Chains.{Chains}
 use Rattle.s4_tracks.specs.Chain.{is_expired}
-use Rattle.s4_tracks.specs.Swept.{IsSwept}
+use Rattle.s4_tracks.specs.Swept.{IsSwept, AgreesWith}
+use Rattle.s4_tracks.proofs.Sweeping.{unexpired_swept}
 use Rattle.s4_parts.specs.declared.parts.Parts.{Parts as Table}
 use Rattle.s4_objects.specs.declared.kept.Which.{Which}
 use Rattle.s4_objects.specs.declared.kept.Which.TheVariants as which
@@ -92,21 +93,25 @@ module _ (f : ℕ → ℕ → ℕ) {hz : ℕ} (nothing : IsNothingBy hz f) where
       let gone : chain.track_weight f s.gone ≡ 0 = gone-weight s.gone s.expired in
       omega (arith, whole, gone)
 
-  held-weight : (chains : Chains Version) (kept : Objects) (base : Base) (h : List Record) (o : ObjectId) → ((w : Which) → IsSwept hz (held_in chains kept o w) (versions_on base w o h)) → past_weight f chains (found_in kept o) ≡ object_weight base f h o
+  -- so both weigh what isn't expired weighs
+  agreed-weight : {held all : List Version} → AgreesWith hz held all → chain.track_weight f held ≡ chain.track_weight f all
+  agreed-weight {held} {all} s = sym (swept-weight (unexpired_swept hz held)) ∙ ap (chain.track_weight f) s.same ∙ swept-weight (unexpired_swept hz all)
+
+  held-weight : (chains : Chains Version) (kept : Objects) (base : Base) (h : List Record) (o : ObjectId) → ((w : Which) → AgreesWith hz (held_in chains kept o w) (versions_on base w o h)) → past_weight f chains (found_in kept o) ≡ object_weight base f h o
   held-weight chains kept base h o s =
-      let a : chain.track_weight f (held_in chains kept o which.Data) ≡ track_weight f data_track (versions base data_track o h) = swept-weight (s which.Data) ∙ laid-weight f data_track item.Data (versions base data_track o h) in
-      let b : chain.track_weight f (held_in chains kept o which.Attributes) ≡ track_weight f attribute_track (versions base attribute_track o h) = swept-weight (s which.Attributes) ∙ laid-weight f attribute_track item.Attr (versions base attribute_track o h) in
-      let c : chain.track_weight f (held_in chains kept o which.Acl) ≡ track_weight f acl_track (versions base acl_track o h) = swept-weight (s which.Acl) ∙ laid-weight f acl_track item.Acl (versions base acl_track o h) in
+      let a : chain.track_weight f (held_in chains kept o which.Data) ≡ track_weight f data_track (versions base data_track o h) = agreed-weight (s which.Data) ∙ laid-weight f data_track item.Data (versions base data_track o h) in
+      let b : chain.track_weight f (held_in chains kept o which.Attributes) ≡ track_weight f attribute_track (versions base attribute_track o h) = agreed-weight (s which.Attributes) ∙ laid-weight f attribute_track item.Attr (versions base attribute_track o h) in
+      let c : chain.track_weight f (held_in chains kept o which.Acl) ≡ track_weight f acl_track (versions base acl_track o h) = agreed-weight (s which.Acl) ∙ laid-weight f acl_track item.Acl (versions base acl_track o h) in
       omega (arith, a, b, c)
 
 -- A FLUSH
 
-module _ {base : Base} {freed : ℕ} {chains : Chains Version} {kept : Objects} {serials : Purse → ℕ} {table : Table} {h : List Record} (s : StandsFor base freed chains kept serials table h) (r : Record) (next : IsNext base h r) {new : Chains Version}
-    (left : (o : ObjectId) (w : Which) → IsSwept (horizon_now base h) (held_in new kept o w) (versions_on base w o (h ++ r ∷ []))) {asked : ObjectId → Bool} {from to : ℕ} {refunds : List Refund} (flushes : Flushes chains new (found_in kept) asked from to refunds)
+module _ {base : Base} {size : ℕ} {chains : Chains Version} {kept : Objects} {serials : Purse → ℕ} {table : Table} {h : List Record} (s : StandsFor base size chains kept serials table h) (r : Record) (next : IsNext base h r) {new : Chains Version}
+    (left : (o : ObjectId) (w : Which) → AgreesWith (horizon_now base h) (held_in new kept o w) (versions_on base w o (h ++ r ∷ []))) {asked : ObjectId → Bool} {from to : ℕ} {refunds : List Refund} (flushes : Flushes chains new (found_in kept) asked from to refunds)
     (request : Request) (is : r.request ≡ request) (kind : is_create request ≡ false) (unbinds : (f : ℕ → ℕ → ℕ) → unbinding_weight f r.moment request ≡ 0) (past : made_past base h r.moment request ≡ [])
     (f : ℕ → ℕ → ℕ) (p : Purse) (nothing : IsNothingBy (horizon_now base h) f) where
   low : (o : ObjectId) → is_some (found_in kept o) ≡ true → o.purse ≡ p → o.serial ≤ drawn base p h
-  low o e same = subst (λ x. o.serial ≤ drawn base x h) same (s.sound.named o (s.objects.made o e))
+  low o e same = subst (λ x. o.serial ≤ drawn base x h) same (s.objects.numbered o e)
 
   refunds-charged : IsCharged base f p h r refunds
   refunds-charged =
@@ -123,7 +128,7 @@ module _ {base : Base} {freed : ℕ} {chains : Chains Version} {kept : Objects} 
       = ap (λ q. cond (concerns p r) (sum_by (f r.moment) (made_past base h r.moment q)) zero) is ∙ ap (λ costs. cond (concerns p r) (sum_by (f r.moment) costs) zero) past ∙ either (concerns p r) zero in
       omega (arith, count, before, later, taken, names, none, charge)
 
-module _ {base : Base} {freed : ℕ} {chains : Chains Version} {kept : Objects} {serials : Purse → ℕ} {table : Table} {h : List Record} (s : StandsFor base freed chains kept serials table h) {r : Record} (n : IsNext base h r) (granted : is_refused r.reply ≡ false) {new : Chains Version} {from to : ℕ} {refunds : List Refund} where
+module _ {base : Base} {size : ℕ} {chains : Chains Version} {kept : Objects} {serials : Purse → ℕ} {table : Table} {h : List Record} (s : StandsFor base size chains kept serials table h) {r : Record} (n : IsNext base h r) (granted : is_refused r.reply ≡ false) {new : Chains Version} {from to : ℕ} {refunds : List Refund} where
   -- a flush of all objects takes back what it erases
   pub flush_charged : r.request ≡ Flush from to → Flushes chains new (found_in kept) (λ o. true) from to refunds → (f : ℕ → ℕ → ℕ) (p : Purse) → IsNothingBy (horizon_now base h) f → IsCharged base f p h r refunds
   flush_charged is flushes f p nothing = refunds-charged s r n (flush_left s n granted is flushes) flushes (Flush from to) is refl (λ f. refl) refl f p nothing

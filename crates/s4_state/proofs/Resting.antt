@@ -1,5 +1,5 @@
 -- Records that leave all that is kept as it is.
-use Rattle.std.proofs.Common.{◌≡◌, ℕ, true, false, not, List, [], ◌∷◌, ◌++◌, refl, ◌∙◌, ap}
+use Rattle.std.proofs.Common.{◌≡◌, ℕ, true, false, not, List, [], ◌∷◌, ◌++◌, refl, ◌∙◌, ap, ◌+◌}
 use Rattle.std.specs.Prelude.{◌&&◌}
 use Rattle.s4_types.specs.declared.object.Purse.{Purse}
 use Rattle.s4_types.specs.declared.object.ObjectId.{ObjectId}
@@ -13,6 +13,7 @@ use Rattle.s4_types.proofs.Booleans.{&&-false}
 use Rattle.s4_store.specs.Chains.{Chains}
 use Rattle.s4_parts.specs.declared.parts.Parts.{Parts as Table}
 use Rattle.s4_objects.specs.declared.objects.Objects.{Objects}
+use Rattle.s4_state.specs.Counts.{counted, made_by}
 use Rattle.s4_state.specs.Flushes.{is_flush}
 use Rattle.s4_state.specs.Sound.{IsSound, IsNext}
 use Rattle.s4_state.specs.Stands.{StandsFor}
@@ -54,18 +55,18 @@ pub record IsOther (q : Request) : Type 0 where
   pub bind : (name : List ℕ) (o : ObjectId) → q ≡ PCreate name o → ⊥
   pub unbind : (purse : Purse) (name : List ℕ) → q ≡ PDelete purse name → ⊥
 
-module _ {base : Base} {freed : ℕ} {chains : Chains Version} {kept : Objects} {serials : Purse → ℕ} {table : Table} {h : List Record} (s : StandsFor base freed chains kept serials table h) (r : Record) (sound : IsSound base (h ++ r ∷ [])) where
+module _ {base : Base} {size : ℕ} {chains : Chains Version} {kept : Objects} {serials : Purse → ℕ} {table : Table} {h : List Record} (s : StandsFor base size chains kept serials table h) (r : Record) (sound : IsSound base (h ++ r ∷ [])) where
   -- a record that was refused
-  pub stands_refused : is_refused r.reply ≡ true → StandsFor base freed chains kept serials table (h ++ r ∷ [])
+  pub stands_refused : is_refused r.reply ≡ true → StandsFor base (size + counted made_by r) chains kept serials table (h ++ r ∷ [])
   stands_refused refused = stands_idle s r sound (ap (λ b. not b && not (only_reads r.request)) refused)
 
   -- a record that only reads
-  stands_read : only_reads r.request ≡ true → StandsFor base freed chains kept serials table (h ++ r ∷ [])
+  stands_read : only_reads r.request ≡ true → StandsFor base (size + counted made_by r) chains kept serials table (h ++ r ∷ [])
   stands_read reads = stands_idle s r sound (ap (λ b. not (is_refused r.reply) && not b) reads ∙ &&-false (not (is_refused r.reply)))
 
   -- a record that does neither of these changes, and is no flush
   module _ (n : IsNext base h r) (granted : is_refused r.reply ≡ false) where
-    pub stands_rest : (q : Request) → r.request ≡ q → is_flush q ≡ false → IsOther q → StandsFor base freed chains kept serials table (h ++ r ∷ [])
+    pub stands_rest : (q : Request) → r.request ≡ q → is_flush q ≡ false → IsOther q → StandsFor base (size + counted made_by r) chains kept serials table (h ++ r ∷ [])
     stands_rest (Read o offset length at) asked f other = stands_read (ap only_reads asked)
     stands_rest (GetAttr o at) asked f other = stands_read (ap only_reads asked)
     stands_rest (GetAclByUser o user at) asked f other = stands_read (ap only_reads asked)

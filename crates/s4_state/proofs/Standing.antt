@@ -1,6 +1,7 @@
 -- What is kept stands for a history with one more record.
-use Rattle.std.proofs.Common.{◌≡◌, ℕ, ◌+◌, ◌≤◌, Bool, true, false, cond, None, List, [], ◌∷◌, ◌++◌, refl, sym, ◌∙◌, ap, subst, arith, length}
-use Rattle.std.specs.Prelude.{◌&&◌, ◌||◌, is_some, map, replicate, if◌then◌else◌}
+use Rattle.std.proofs.Common.{◌≡◌, ℕ, ◌+◌, ◌≤◌, ◌<◌, Bool, true, false, cond, None, List, [], ◌∷◌, ◌++◌, refl, sym, ◌∙◌, ap, subst, arith, length}
+use Rattle.std.specs.Prelude.{◌&&◌, ◌||◌, nat_le, is_some, map, replicate, if◌then◌else◌}
+use Rattle.std.specs.List.{list_all}
 use Rattle.std.proofs.lemmas.List.{length-map}
 use Rattle.std.proofs.lemmas.List.Sums.{sum_by-append, sum_by-cons}
 use Rattle.s4_types.specs.declared.object.Purse.{Purse}
@@ -20,14 +21,14 @@ use Rattle.s4_types.specs.Bindings.{rebound, named_by}
 use Rattle.s4_types.specs.Play.{last_of}
 use Rattle.s4_types.specs.Serials.{drawn, draws}
 use Rattle.s4_types.proofs.Erasing.{versions-idle}
-use Rattle.s4_types.proofs.Booleans.{by_test, &&-false, ||-false, ||-true, not_both}
-use Rattle.s4_types.proofs.SameNames.{object_is, purse_is}
+use Rattle.s4_types.proofs.Booleans.{by_test, &&-false}
+use Rattle.s4_types.proofs.SameNames.{object_is, purse_is, purse_self}
 use Rattle.s4_types.proofs.Snoc.{versions-snoc, drawn-snoc, last_of-snoc}
 use Rattle.s4_types.proofs.Windows.{horizon_at-later}
 use Rattle.s4_store.specs.Chains.{Chains, item_count}
 use Rattle.s4_tracks.specs.Chain.{with_put, with_end}
-use Rattle.s4_tracks.specs.Swept.{IsSwept}
-use Rattle.s4_tracks.proofs.Sweeping.{swept_none, swept_up, swept_put, swept_end}
+use Rattle.s4_tracks.specs.Swept.{AgreesWith}
+use Rattle.s4_tracks.proofs.Sweeping.{agrees_self, agrees_as, agrees_up, agrees_put, agrees_end}
 use Rattle.s4_objects.specs.declared.kept.Which.{Which}
 use Rattle.s4_objects.specs.declared.kept.Which.TheVariants as which
 use Rattle.s4_objects.specs.declared.objects.Objects.{Objects}
@@ -39,20 +40,16 @@ use Rattle.s4_parts.specs.declared.parts.Parts.{Parts as Table}
 use Rattle.s4_parts.specs.Waiting.{waiting_in}
 use Rattle.s4_state.specs.Counts.{made_by, values_ended_by, bindings_ended_by, counted, made_count, object_ends, binding_ends}
 use Rattle.s4_state.specs.Laid.{laid, versions_on}
-use Rattle.s4_state.specs.Sound.{IsSound, IsTrack, TrackStands, DataFits, AttributesFit, AclFits, was_made, was_deleted}
-use Rattle.s4_state.specs.Stands.{horizon_now, ObjectsStand, NamesStand, IsTidy, StandsFor, MakesNone, RebindsNone, Counts, PutsOn, EndsAll}
-use Rattle.s4_state.proofs.Living.{all_by-up}
-use Rattle.s4_state.proofs.Following.{was_made-snoc}
-use Rattle.s4_state.proofs.Waiting.{ends-by, moments-length, longer-by, no-more, waiting_by, waiting_next, waiting_same}
+use Rattle.s4_state.specs.Sound.{IsSound}
+use Rattle.s4_state.specs.Stands.{horizon_now, ObjectsStand, NamesStand, IsTidy, Balances, StandsFor, MakesNone, RebindsNone, Counts, PutsOn, EndsAll}
+use Rattle.s4_state.proofs.Living.{all_by-up, none-newer, floor-now, no-data, no-attributes, no-acl}
+use Rattle.s4_state.proofs.Waiting.{horizon-by, ends-by, moments-length, longer-by, no-more, waiting_by, waiting_next, waiting_same}
 use Rattle.s4_state.proofs.Naming.{names_with, names_beside, last-up}
 
 -- ONE MORE RECORD
 
 module _ (base : Base) (h : List Record) (r : Record) where
-  -- a record that makes and draws nothing
-  was_made-same : (o : ObjectId) → makes o r ≡ false → was_made base o (h ++ r ∷ []) ≡ was_made base o h
-  was_made-same o e = was_made-snoc base o h r ∙ ap (λ b. was_made base o h || b) e ∙ ||-false (was_made base o h)
-
+  -- a record that draws nothing
   pub drawn-same : (p : Purse) → draws p r ≡ false → drawn base p (h ++ r ∷ []) ≡ drawn base p h
   drawn-same p e = let more : drawn base p (h ++ r ∷ []) ≡ drawn base p h + 0 = drawn-snoc base p h r ∙ ap (λ b. drawn base p h + cond b 1 0) e in omega arith
 
@@ -69,12 +66,9 @@ module _ (base : Base) (h : List Record) (r : Record) where
 
 -- WHAT IS LEFT OF A TRACK
 
-pub swept_as : {hz : ℕ} {old new all whole : List Version} → new ≡ old → whole ≡ all → IsSwept hz old all → IsSwept hz new whole
-swept_as e f s = record { gone = s.gone; whole = f ∙ s.whole ∙ ap (λ vs. s.gone ++ vs) (sym e); expired = s.expired }
-
-pub swept_if : {hz : ℕ} (b : Bool) {x y u v : List Version} → IsSwept hz x u → IsSwept hz y v → IsSwept hz (if b then x else y) (if b then u else v)
-swept_if true s t = s
-swept_if false s t = t
+pub agrees_if : {hz : ℕ} (b : Bool) {x y u v : List Version} → AgreesWith hz x u → AgreesWith hz y v → AgreesWith hz (if b then x else y) (if b then u else v)
+agrees_if true s t = s
+agrees_if false s t = t
 
 -- OPEN CHAINS
 
@@ -84,18 +78,21 @@ tidy_beside tidy leaves = record { none_else = λ c o f g. let before = leaves c
 
 -- ROOM FOR ENDS
 
-module _ {base : Base} {freed : ℕ} {chains : Chains Version} {kept : Objects} {serials : Purse → ℕ} {table : Table} {h : List Record} (s : StandsFor base freed chains kept serials table h) where
+module _ {base : Base} {size : ℕ} {chains : Chains Version} {kept : Objects} {serials : Purse → ℕ} {table : Table} {h : List Record} (s : StandsFor base size chains kept serials table h) where
   -- no end that waits is later than the next record
   pub ends_then : (m : ℕ) → last_of h ≤ m → all_by m (ends_in kept) ≡ true
-  ends_then m later = waiting_by m (ends-by values_ended_by m h (all_by-up (last_of h) m h later s.sound.moments)) s.objects.ends
+  ends_then m later =
+      let low : base.floor ≤ m = (let floor = floor-now s.sound in omega (arith, floor, later)) in
+      let all : list_all (λ r. nat_le r.moment m) h ≡ true = all_by-up (last_of h) m h later (none-newer s.sound) in
+      waiting_by m (horizon-by base h (last_of h) m low all later) (ends-by values_ended_by m h all) s.objects.ends
 
-  pub stands_room : {kept' : Objects} → ((o : ObjectId) → found_in kept' o ≡ found_in kept o) → ends_in kept' ≡ ends_in kept → Holds chains kept' → StandsFor base freed chains kept' serials table h
+  pub stands_room : {kept' : Objects} → ((o : ObjectId) → found_in kept' o ≡ found_in kept o) → ends_in kept' ≡ ends_in kept → Holds chains kept' → StandsFor base size chains kept' serials table h
   stands_room {kept'} found ends holds = record {
     sound = s.sound;
     objects = record {
       holds = holds;
-      made = λ o e. s.objects.made o (sym (ap is_some (found o)) ∙ e);
-      tracks = λ o w. swept_as (ap (λ f. held chains f w) (found o)) refl (s.objects.tracks o w);
+      numbered = λ o e. s.objects.numbered o (sym (ap is_some (found o)) ∙ e);
+      tracks = λ o w. agrees_as (ap (λ f. held chains f w) (found o)) refl (s.objects.tracks o w);
       ends = waiting_same ends refl s.objects.ends;
     };
     names = s.names;
@@ -109,53 +106,53 @@ module _ {base : Base} {freed : ℕ} {chains : Chains Version} {kept : Objects} 
     };
     tidy = record { none_else = λ c o f. s.tidy.none_else c o (λ q k w got. f q k w (found q ∙ got)) };
     used = s.used;
-    ended = s.ended ∙ ap (λ es. freed + length es + length (waiting_in table)) (sym ends);
+    balance = subst (λ es. Balances base h size (length es + length (waiting_in table))) (sym ends) s.balance;
   }
 
 -- THE NEXT RECORD
 
-module _ {base : Base} {freed : ℕ} {chains : Chains Version} {kept : Objects} {serials : Purse → ℕ} {table : Table} {h : List Record} (s : StandsFor base freed chains kept serials table h) (r : Record) (sound : IsSound base (h ++ r ∷ [])) where
+module _ {base : Base} {size : ℕ} {chains : Chains Version} {kept : Objects} {serials : Purse → ℕ} {table : Table} {h : List Record} (s : StandsFor base size chains kept serials table h) (r : Record) (sound : IsSound base (h ++ r ∷ [])) where
   -- the horizon never goes back
   pub horizon_up : horizon_now base h ≤ horizon_now base (h ++ r ∷ [])
   horizon_up =
       let last : last_of (h ++ r ∷ []) ≡ r.moment = last_of-snoc h r in
-      let up : last_of h ≤ last_of (h ++ r ∷ []) = last-up h r sound.moments in
+      let up : last_of h ≤ last_of (h ++ r ∷ []) = last-up h r (none-newer sound) in
       horizon_at-later (base) h r (last_of h) (last_of (h ++ r ∷ [])) (omega arith) (omega arith)
 
   -- what is kept of objects, where none is made
   pub objects_next : {new : Chains Version} {kept' : Objects} → Holds new kept' → ((o : ObjectId) → found_in kept' o ≡ found_in kept o) → MakesNone r
-      → ((q : ObjectId) (u : Which) → IsSwept (horizon_now base h) (held_in new kept' q u) (versions_on base u q (h ++ r ∷ [])))
+      → ((q : ObjectId) (u : Which) → AgreesWith (horizon_now base h) (held_in new kept' q u) (versions_on base u q (h ++ r ∷ [])))
       → ends_in kept' ≡ ends_in kept ++ replicate (counted values_ended_by r) r.moment → ObjectsStand base (horizon_now base (h ++ r ∷ [])) new kept' (h ++ r ∷ [])
   objects_next holds found none tracks ends = record {
     holds = holds;
-    made = λ o e. was_made-same base h r o (none.makes_none o) ∙ s.objects.made o (sym (ap is_some (found o)) ∙ e);
-    tracks = λ q u. swept_up (horizon_now base h) (horizon_now base (h ++ r ∷ [])) _ _ horizon_up (tracks q u);
+    numbered = λ o e. subst (λ n. o.serial ≤ n) (sym (drawn-same base h r o.purse (none.draws_none o.purse))) (s.objects.numbered o (sym (ap is_some (found o)) ∙ e));
+    tracks = λ q u. agrees_up (horizon_now base h) (horizon_now base (h ++ r ∷ [])) _ _ horizon_up (tracks q u);
     ends = waiting_next horizon_up values_ended_by h r ends s.objects.ends;
   }
 
   -- and how many values and bindings are held and wait
-  pub used_next : (new : Chains Version) → item_count new ≡ item_count chains + counted made_by r → item_count new + freed ≡ made_count (h ++ r ∷ [])
-  used_next new made =
-      let more : made_count (h ++ r ∷ []) ≡ made_count h + made_count (r ∷ []) = sum_by-append (counted made_by) h (r ∷ []) in
-      let one : made_count (r ∷ []) ≡ counted made_by r + 0 = sum_by-cons (counted made_by) r [] in
-      omega (arith, made, s.used)
+  pub used_next : (new : Chains Version) → item_count new ≡ item_count chains + counted made_by r → item_count new ≡ size + counted made_by r
+  used_next new made = made ∙ ap (λ n. n + counted made_by r) s.used
 
-  pub ended_next : (kept' : Objects) (table' : Table) → ends_in kept' ≡ ends_in kept ++ replicate (counted values_ended_by r) r.moment
+  pub balance_next : (kept' : Objects) (table' : Table) → ends_in kept' ≡ ends_in kept ++ replicate (counted values_ended_by r) r.moment
       → map (λ e. e.end) (waiting_in table') ≡ map (λ e. e.end) (waiting_in table) ++ replicate (counted bindings_ended_by r) r.moment
-      → length (object_ends (h ++ r ∷ [])) + length (binding_ends (h ++ r ∷ [])) ≡ freed + length (ends_in kept') + length (waiting_in table')
-  ended_next kept' table' e f =
+      → Balances base (h ++ r ∷ []) (size + counted made_by r) (length (ends_in kept') + length (waiting_in table'))
+  balance_next kept' table' e f =
+      let made : made_count (h ++ r ∷ []) ≡ made_count h + made_count (r ∷ []) = sum_by-append (counted made_by) h (r ∷ []) in
+      let one : made_count (r ∷ []) ≡ counted made_by r + 0 = sum_by-cons (counted made_by) r [] in
       let values : length (object_ends (h ++ r ∷ [])) ≡ length (object_ends h) + counted values_ended_by r = moments-length values_ended_by h r in
       let bindings : length (binding_ends (h ++ r ∷ [])) ≡ length (binding_ends h) + counted bindings_ended_by r = moments-length bindings_ended_by h r in
       let more : length (ends_in kept') ≡ length (ends_in kept) + counted values_ended_by r = ap length e ∙ longer-by (ends_in kept) (counted values_ended_by r) r.moment in
       let wait : length (map (λ e. e.end) (waiting_in table')) ≡ length (map (λ e. e.end) (waiting_in table)) + counted bindings_ended_by r = ap length f ∙ longer-by (map (λ e. e.end) (waiting_in table)) (counted bindings_ended_by r) r.moment in
       let now : length (map (λ e. e.end) (waiting_in table')) ≡ length (waiting_in table') = length-map (waiting_in table') (λ e. e.end) in
       let before : length (map (λ e. e.end) (waiting_in table)) ≡ length (waiting_in table) = length-map (waiting_in table) (λ e. e.end) in
-      omega (arith, s.ended)
+      let even = s.balance.even in
+      record { begun = s.balance.begun; keeps = s.balance.keeps; even = omega (arith, made, one, values, bindings, more, wait, now, before, even) }
 
   -- a record that makes no object
   pub stands_on : {new : Chains Version} {kept' : Objects} {table' : Table} → MakesNone r → ObjectsStand base (horizon_now base (h ++ r ∷ [])) new kept' (h ++ r ∷ []) → NamesStand base (horizon_now base (h ++ r ∷ [])) new kept' table' (h ++ r ∷ [])
       → IsTidy new kept' table' → item_count new ≡ item_count chains + counted made_by r → ends_in kept' ≡ ends_in kept ++ replicate (counted values_ended_by r) r.moment
-      → map (λ e. e.end) (waiting_in table') ≡ map (λ e. e.end) (waiting_in table) ++ replicate (counted bindings_ended_by r) r.moment → StandsFor base freed new kept' serials table' (h ++ r ∷ [])
+      → map (λ e. e.end) (waiting_in table') ≡ map (λ e. e.end) (waiting_in table) ++ replicate (counted bindings_ended_by r) r.moment → StandsFor base (size + counted made_by r) new kept' serials table' (h ++ r ∷ [])
   stands_on {new} {kept'} {table'} none objects partitions tidy made ends waiting = record {
     sound = sound;
     objects = objects;
@@ -163,19 +160,19 @@ module _ {base : Base} {freed : ℕ} {chains : Chains Version} {kept : Objects} 
     partitions = partitions;
     tidy = tidy;
     used = used_next new made;
-    ended = ended_next kept' table' ends waiting;
+    balance = balance_next kept' table' ends waiting;
   }
 
   -- and ends no value of an object
   pub objects_idle : MakesNone r → counted values_ended_by r ≡ 0 → ((q : ObjectId) (u : Which) → versions_on base u q (h ++ r ∷ []) ≡ versions_on base u q h) → ObjectsStand base (horizon_now base (h ++ r ∷ [])) chains kept (h ++ r ∷ [])
-  objects_idle none ended still = objects_next s.objects.holds (λ o. refl) none (λ q u. swept_as refl (still q u) (s.objects.tracks q u))
+  objects_idle none ended still = objects_next s.objects.holds (λ o. refl) none (λ q u. agrees_as refl (still q u) (s.objects.tracks q u))
       (no-more (ends_in kept) r.moment ended)
 
   pub none-made : counted made_by r ≡ 0 → item_count chains ≡ item_count chains + counted made_by r
   none-made e = omega (arith, e)
 
   -- a record that stands for no change
-  pub stands_idle : is_accepted r ≡ false → StandsFor base freed chains kept serials table (h ++ r ∷ [])
+  pub stands_idle : is_accepted r ≡ false → StandsFor base (size + counted made_by r) chains kept serials table (h ++ r ∷ [])
   stands_idle idle = stands_on none
       (objects_idle none (nothing values_ended_by) (λ q u. versions_on-same base h r u q (strange q.purse)))
       (names_with s.partitions r horizon_up (record { bindings = λ p n old. ap (λ b. if b then rebound p n r.moment r.request old else old) (strange p); names = λ p old. ap (λ b. if b then named_by p r.request old else old) (strange p) })
@@ -194,7 +191,7 @@ module _ {base : Base} {freed : ℕ} {chains : Chains Version} {kept : Objects} 
   -- a record that makes, ends, changes, erases and binds nothing, also one that concerns all purses
   pub stands_still : ((q : ObjectId) → is_made q r.reply ≡ false) → is_create r.request ≡ false → ((q : ObjectId) → is_deleted q r.request ≡ false) → ((q : ObjectId) → span_of q r.request ≡ None)
       → ((q : ObjectId) (old : List ℕ) → data_effect q r.request old ≡ None) → ((q : ObjectId) (old : List ℕ) → attribute_effect q r.request old ≡ None) → ((q : ObjectId) (old : List AclEntry) → acl_effect q r.request old ≡ None)
-      → RebindsNone r → Counts r 0 0 0 → StandsFor base freed chains kept serials table (h ++ r ∷ [])
+      → RebindsNone r → Counts r 0 0 0 → StandsFor base (size + counted made_by r) chains kept serials table (h ++ r ∷ [])
   stands_still made kind undeleted plain keeps-data keeps-attributes keeps-acl rebinds counts =
       stands_on none (objects_idle none counts.values still) (names_with s.partitions r horizon_up rebinds counts.bindings) s.tidy
       (none-made counts.made) (no-more (ends_in kept) r.moment counts.values) (no-more (map (λ e. e.end) (waiting_in table)) r.moment counts.bindings)
@@ -216,10 +213,10 @@ module _ {base : Base} {freed : ℕ} {chains : Chains Version} {kept : Objects} 
   -- a record that puts one value in the place of another
   pub stands_put : {new : Chains Version} {kept' : Objects} (o : ObjectId) (w : Which) (item : Item) → PutsOn base h r o w item → Holds new kept' → ((q : ObjectId) → found_in kept' q ≡ found_in kept q)
       → ((q : ObjectId) (u : Which) → held_in new kept' q u ≡ (if same_object o q && same_which w u then with_put r.moment item (held_in chains kept q u) else held_in chains kept q u))
-      → ends_in kept' ≡ ends_in kept ++ r.moment ∷ [] → KeepsOthers chains new kept kept' → LeavesNoChain chains new kept kept' → item_count new ≡ item_count chains + 1 → StandsFor base freed new kept' serials table (h ++ r ∷ [])
+      → ends_in kept' ≡ ends_in kept ++ r.moment ∷ [] → KeepsOthers chains new kept kept' → LeavesNoChain chains new kept kept' → item_count new ≡ item_count chains + 1 → StandsFor base (size + counted made_by r) new kept' serials table (h ++ r ∷ [])
   stands_put o w item puts holds found held ends others leaves more = stands_on puts.makes
       (objects_next holds found puts.makes
-      (λ q u. swept_as (held q u) (puts.tracks q u) (swept_if (same_object o q && same_which w u) (swept_put (horizon_now base h) r.moment item _ _ (s.objects.tracks q u)) (s.objects.tracks q u)))
+      (λ q u. agrees_as (held q u) (puts.tracks q u) (agrees_if (same_object o q && same_which w u) (agrees_put (horizon_now base h) r.moment item _ _ (s.objects.tracks q u)) (s.objects.tracks q u)))
       (ends ∙ ap (λ n. ends_in kept ++ replicate n r.moment) (sym puts.counts.values)))
       (names_with (names_beside s.partitions others) r horizon_up puts.rebinds puts.counts.bindings)
       (tidy_beside s.tidy leaves)
@@ -228,10 +225,10 @@ module _ {base : Base} {freed : ℕ} {chains : Chains Version} {kept : Objects} 
   -- a record that ends an object
   pub stands_end : {new : Chains Version} {kept' : Objects} (o : ObjectId) → EndsAll base h r o → Holds new kept' → ((q : ObjectId) → found_in kept' q ≡ found_in kept q)
       → ((q : ObjectId) (u : Which) → held_in new kept' q u ≡ (if same_object o q then with_end r.moment (held_in chains kept q u) else held_in chains kept q u))
-      → ends_in kept' ≡ ends_in kept ++ r.moment ∷ r.moment ∷ r.moment ∷ [] → KeepsOthers chains new kept kept' → LeavesNoChain chains new kept kept' → item_count new ≡ item_count chains → StandsFor base freed new kept' serials table (h ++ r ∷ [])
+      → ends_in kept' ≡ ends_in kept ++ r.moment ∷ r.moment ∷ r.moment ∷ [] → KeepsOthers chains new kept kept' → LeavesNoChain chains new kept kept' → item_count new ≡ item_count chains → StandsFor base (size + counted made_by r) new kept' serials table (h ++ r ∷ [])
   stands_end o over holds found held ends others leaves same = stands_on over.makes
       (objects_next holds found over.makes
-      (λ q u. swept_as (held q u) (over.tracks q u) (swept_if (same_object o q) (swept_end (horizon_now base h) r.moment _ _ (s.objects.tracks q u)) (s.objects.tracks q u)))
+      (λ q u. agrees_as (held q u) (over.tracks q u) (agrees_if (same_object o q) (agrees_end (horizon_now base h) r.moment _ _ (s.objects.tracks q u)) (s.objects.tracks q u)))
       (ends ∙ ap (λ n. ends_in kept ++ replicate n r.moment) (sym over.counts.values)))
       (names_with (names_beside s.partitions others) r horizon_up over.rebinds over.counts.bindings)
       (tidy_beside s.tidy leaves)
@@ -251,45 +248,45 @@ pub record MakesOnly (base : Base) (h : List Record) (r : Record) (o : ObjectId)
   pub rebinds : RebindsNone r
   pub counts : Counts r 3 0 0
 
-pub unmade-track : {V : Type 0} (Fits : V → Type 0) (m d : Bool) (last : ℕ) (values : List (Rattle.s4_types.specs.Versions.Value V)) → m ≡ false → IsTrack Fits m d last values → values ≡ []
-unmade-track Fits true d last values e s = cc
-unmade-track Fits false d last values e s = s
-
-module _ {base : Base} {freed : ℕ} {chains : Chains Version} {kept : Objects} {serials : Purse → ℕ} {table : Table} {h : List Record} (s : StandsFor base freed chains kept serials table h) (o : ObjectId) (next : o.serial ≡ drawn base o.purse h + 1) where
-  unmade : was_made base o h ≡ false
-  unmade = by_test (was_made base o h)
-      (λ e. let low : o.serial ≤ drawn base o.purse h = s.sound.named o e in absurd (omega arith))
-      (λ e. e)
-
+module _ {base : Base} {size : ℕ} {chains : Chains Version} {kept : Objects} {serials : Purse → ℕ} {table : Table} {h : List Record} (s : StandsFor base size chains kept serials table h) (o : ObjectId) (next : o.serial ≡ drawn base o.purse h + 1) where
   -- it isn't kept yet
   pub unkept : kept_in kept o ≡ false
-  unkept = by_test (kept_in kept o) (λ e. absurd (not_both _ (s.objects.made o e) unmade)) (λ e. e)
+  unkept = by_test (kept_in kept o) (λ e. let low : o.serial ≤ drawn base o.purse h = s.objects.numbered o e in absurd (omega arith)) (λ e. e)
 
-module _ {base : Base} {freed : ℕ} {chains : Chains Version} {kept : Objects} {serials : Purse → ℕ} {table : Table} {h : List Record} (s : StandsFor base freed chains kept serials table h) (r : Record) (sound : IsSound base (h ++ r ∷ [])) (o : ObjectId) (only : MakesOnly base h r o) where
+module _ {base : Base} {size : ℕ} {chains : Chains Version} {kept : Objects} {serials : Purse → ℕ} {table : Table} {h : List Record} (s : StandsFor base size chains kept serials table h) (r : Record) (sound : IsSound base (h ++ r ∷ [])) (o : ObjectId) (only : MakesOnly base h r o) where
+  new : drawn base o.purse h < o.serial
+  new = let first = only.next in omega (arith, first)
+
   made-track : (w : Which) → versions_on base w o (h ++ r ∷ []) ≡ first_on w r.moment o.purse.creator ∷ []
-  made-track which.Data = let stands : TrackStands DataFits base o h (versions base data_track o h) = s.sound.tracks o which.Data in
-      ap (laid data_track item.Data) (only.data_here ∙ ap (λ vs. begins r.moment [] ∷ vs) (unmade-track _ (was_made base o h) (was_deleted o h) _ _ (unmade s o only.next) stands))
-  made-track which.Attributes = let stands : TrackStands AttributesFit base o h (versions base attribute_track o h) = s.sound.tracks o which.Attributes in
-      ap (laid attribute_track item.Attr) (only.attributes_here ∙ ap (λ vs. begins r.moment [] ∷ vs) (unmade-track _ (was_made base o h) (was_deleted o h) _ _ (unmade s o only.next) stands))
-  made-track which.Acl = let stands : TrackStands AclFits base o h (versions base acl_track o h) = s.sound.tracks o which.Acl in
-      ap (laid acl_track item.Acl) (only.acl_here ∙ ap (λ vs. begins r.moment (first_acl o.purse.creator) ∷ vs) (unmade-track _ (was_made base o h) (was_deleted o h) _ _ (unmade s o only.next) stands))
+  made-track which.Data = ap (laid data_track item.Data) (only.data_here ∙ ap (λ vs. begins r.moment [] ∷ vs) (no-data s.sound o new))
+  made-track which.Attributes = ap (laid attribute_track item.Attr) (only.attributes_here ∙ ap (λ vs. begins r.moment [] ∷ vs) (no-attributes s.sound o new))
+  made-track which.Acl = ap (laid acl_track item.Acl) (only.acl_here ∙ ap (λ vs. begins r.moment (first_acl o.purse.creator) ∷ vs) (no-acl s.sound o new))
+
+  here : o.serial ≤ drawn base o.purse (h ++ r ∷ [])
+  here = let more : drawn base o.purse (h ++ r ∷ []) ≡ drawn base o.purse h + 1 = drawn-more base h r o.purse (only.draws_it o.purse ∙ purse_self o.purse) in let first = only.next in omega (arith, more, first)
+
+  drawn-up : (p : Purse) → drawn base p h ≤ drawn base p (h ++ r ∷ [])
+  drawn-up p = by_test (draws p r)
+      (λ e. let more = drawn-more base h r p e in omega (arith, more))
+      (λ e. let same = drawn-same base h r p e in omega (arith, same))
 
   module _ {new : Chains Version} {kept' : Objects} (holds : Holds new kept') (keeps : (q : ObjectId) → kept_in kept' q ≡ (same_object o q || kept_in kept q))
       (begun : (q : ObjectId) (w : Which) → held_in new kept' q w ≡ (if same_object o q then first_on w r.moment o.purse.creator ∷ [] else held_in chains kept q w)) (ends : ends_in kept' ≡ ends_in kept) (others : KeepsOthers chains new kept kept') (leaves : LeavesNoChain chains new kept kept') (more : item_count new ≡ item_count chains + 3) where
     objects-made : ObjectsStand base (horizon_now base (h ++ r ∷ [])) new kept' (h ++ r ∷ [])
     objects-made = record {
       holds = holds;
-      made = λ q e. by_test (same_object o q)
-          (λ same. was_made-snoc base q h r ∙ ap (λ x. was_made base q h || x) (only.makes_it q ∙ same) ∙ ||-true (was_made base q h))
-          (λ other. was_made-same base h r q (only.makes_it q ∙ other) ∙ s.objects.made q (sym (keeps q ∙ ap (λ b. b || kept_in kept q) other) ∙ e));
-      tracks = λ q w. swept_up (horizon_now base h) (horizon_now base (h ++ r ∷ [])) _ _ (horizon_up s r sound) (by_test (same_object o q)
-          (λ same. swept_as (begun q w ∙ ap (λ b. if b then first_on w r.moment o.purse.creator ∷ [] else held_in chains kept q w) same)
-          (subst (λ x. versions_on base w x (h ++ r ∷ []) ≡ first_on w r.moment o.purse.creator ∷ []) (object_is o q same) (made-track w)) (swept_none (horizon_now base h) (first_on w r.moment o.purse.creator ∷ [])))
-          (λ other. swept_as (begun q w ∙ ap (λ b. if b then first_on w r.moment o.purse.creator ∷ [] else held_in chains kept q w) other) (only.elsewhere q w other) (s.objects.tracks q w)));
+      numbered = λ q e. by_test (same_object o q)
+          (λ same. subst (λ x. x.serial ≤ drawn base x.purse (h ++ r ∷ [])) (object_is o q same) here)
+          (λ other. let low : q.serial ≤ drawn base q.purse h = s.objects.numbered q (sym (keeps q ∙ ap (λ b. b || kept_in kept q) other) ∙ e) in
+          let more : drawn base q.purse h ≤ drawn base q.purse (h ++ r ∷ []) = drawn-up q.purse in omega (arith, low, more));
+      tracks = λ q w. agrees_up (horizon_now base h) (horizon_now base (h ++ r ∷ [])) _ _ (horizon_up s r sound) (by_test (same_object o q)
+          (λ same. agrees_as (begun q w ∙ ap (λ b. if b then first_on w r.moment o.purse.creator ∷ [] else held_in chains kept q w) same)
+          (subst (λ x. versions_on base w x (h ++ r ∷ []) ≡ first_on w r.moment o.purse.creator ∷ []) (object_is o q same) (made-track w)) (agrees_self (horizon_now base h) (first_on w r.moment o.purse.creator ∷ [])))
+          (λ other. agrees_as (begun q w ∙ ap (λ b. if b then first_on w r.moment o.purse.creator ∷ [] else held_in chains kept q w) other) (only.elsewhere q w other) (s.objects.tracks q w)));
       ends = waiting_next (horizon_up s r sound) values_ended_by h r (ends ∙ no-more (ends_in kept) r.moment only.counts.values) s.objects.ends;
     }
 
-    pub stands_made : (serials' : Purse → ℕ) → ((p : Purse) → serials' p ≡ (if same_purse o.purse p then serials o.purse + 1 else serials p)) → StandsFor base freed new kept' serials' table (h ++ r ∷ [])
+    pub stands_made : (serials' : Purse → ℕ) → ((p : Purse) → serials' p ≡ (if same_purse o.purse p then serials o.purse + 1 else serials p)) → StandsFor base (size + counted made_by r) new kept' serials' table (h ++ r ∷ [])
     stands_made serials' draws' = record {
       sound = sound;
       objects = objects-made;
@@ -299,5 +296,5 @@ module _ {base : Base} {freed : ℕ} {chains : Chains Version} {kept : Objects} 
       partitions = names_with (names_beside s.partitions others) r (horizon_up s r sound) only.rebinds only.counts.bindings;
       tidy = tidy_beside s.tidy leaves;
       used = used_next s r sound new (more ∙ ap (λ n. item_count chains + n) (sym only.counts.made));
-      ended = ended_next s r sound kept' table (ends ∙ no-more (ends_in kept) r.moment only.counts.values) (no-more (map (λ e. e.end) (waiting_in table)) r.moment only.counts.bindings);
+      balance = balance_next s r sound kept' table (ends ∙ no-more (ends_in kept) r.moment only.counts.values) (no-more (map (λ e. e.end) (waiting_in table)) r.moment only.counts.bindings);
     }

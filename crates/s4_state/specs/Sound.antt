@@ -1,28 +1,30 @@
 -- What holds of every history whose records were answered in turn.
-use Rattle.std.specs.Prelude.{◌≡◌, ℕ, ◌≤◌, Bool, true, false, not, ◌||◌, nat_le, is_some, Option, Some, None, List, [], ◌∷◌, length}
+use Rattle.std.specs.Prelude.{◌≡◌, ℕ, ◌≤◌, ◌<◌, true, false, not, is_some, Option, Some, None, List, [], ◌∷◌, ◌++◌, length}
 use Rattle.std.specs.List.{list_all, list_any}
 use Rattle.std.specs.List.Sorted.{IsStrictlySortedBy}
 use Rattle.s4_types.specs.declared.object.Purse.{Purse}
 use Rattle.s4_types.specs.declared.object.ObjectId.{ObjectId}
 use Rattle.s4_types.specs.declared.acl.AclEntry.{AclEntry}
+use Rattle.s4_types.specs.declared.principal.Caller.{Caller}
+use Rattle.s4_types.specs.declared.request.Request.{Request}
+use Rattle.s4_types.specs.declared.request.Request.TheVariants.{Create, Delete, PCreate, PDelete}
+use Rattle.s4_types.specs.declared.reply.Reply.{Reply}
+use Rattle.s4_types.specs.declared.reply.Reply.TheVariants.{Done, Made}
 use Rattle.s4_types.specs.declared.record.Record.{Record}
 use Rattle.s4_types.specs.Acl.{IsAcl}
-use Rattle.s4_types.specs.Versions.{Value, versions, makes, deletes, data_track, attribute_track, acl_track}
+use Rattle.s4_types.specs.Versions.{Value, versions, data_track, attribute_track, acl_track}
 use Rattle.s4_types.specs.Bindings.{bindings, names_of}
 use Rattle.s4_types.specs.Name.{same_name, name_cmp}
+use Rattle.s4_types.specs.Names.{object_in}
+use Rattle.s4_types.specs.Kinds.{is_accepted}
 use Rattle.s4_types.specs.Base.{Base}
 use Rattle.s4_types.specs.Answer.{answer}
 use Rattle.s4_types.specs.Serials.{drawn}
 use Rattle.s4_types.specs.Play.{last_of, is_no_memory}
+use Rattle.s4_cuts.specs.Cut.{object_left, is_left, IsHistory}
 use Rattle.s4_objects.specs.declared.kept.Which.{Which}
 use Rattle.s4_objects.specs.declared.kept.Which.TheVariants as which
-
--- whether the base keeps the object or some record made it, and whether some record deleted it
-abbrev pub was_made : Base → ObjectId → List Record → Bool
-was_made base o h = is_some (base.object o) || list_any (makes o) h
-
-abbrev pub was_deleted : ObjectId → List Record → Bool
-was_deleted o h = list_any (deletes o) h
+use Rattle.s4_state.specs.Laid.{versions_on}
 
 -- which values a track may have
 abbrev pub DataFits : List ℕ → Type 0
@@ -33,35 +35,6 @@ AttributesFit bytes = length bytes ≤ 256
 
 abbrev pub AclFits : List AclEntry → Type 0
 AclFits acl = IsAcl acl
-
--- the newest value is current, and began by the moment
-pub record IsCurrent {V : Type 0} (Fits : V → Type 0) (last : ℕ) (v : Value V) : Type 0 where
-  pub begun : v.begin ≤ last
-  pub current : v.end ≡ None
-  pub fits : Fits v.value
-
--- the newest value ended by the moment
-pub record IsOver {V : Type 0} (last : ℕ) (v : Value V) : Type 0 where
-  pub begun : v.begin ≤ last
-  pub end : ℕ
-  pub ended : v.end ≡ Some end
-  pub past : end ≤ last
-
--- an object has values just if it was made, and the newest is current just if it wasn't deleted
-abbrev pub IsTrack : {V : Type 0} → (V → Type 0) → Bool → Bool → ℕ → List (Value V) → Type 0
-IsTrack Fits false deleted last values = values ≡ []
-IsTrack Fits true deleted last [] = ⊥
-IsTrack Fits true false last (v ∷ past) = IsCurrent Fits last v
-IsTrack Fits true true last (v ∷ past) = IsOver last v
-
--- the values of a track agree with the object's life
-abbrev pub TrackStands : {V : Type 0} → (V → Type 0) → Base → ObjectId → List Record → List (Value V) → Type 0
-TrackStands Fits base o h values = IsTrack Fits (was_made base o h) (was_deleted o h) (last_of h) values
-
-abbrev pub StandsOn : Base → Which → ObjectId → List Record → Type 0
-StandsOn base which.Data o h = TrackStands DataFits base o h (versions base data_track o h)
-StandsOn base which.Attributes o h = TrackStands AttributesFit base o h (versions base attribute_track o h)
-StandsOn base which.Acl o h = TrackStands AclFits base o h (versions base acl_track o h)
 
 -- each of the values fits
 abbrev pub AllFit : {V : Type 0} → (V → Type 0) → List (Value V) → Type 0
@@ -79,27 +52,52 @@ abbrev pub EndsBy : ℕ → Option ℕ → Type 0
 EndsBy last None = Unit {0}
 EndsBy last (Some end) = end ≤ last
 
--- the newest binding of a name began by the moment, and where it ended, it ended by then
-abbrev pub BindingsStand : ℕ → List (Value ℕ) → Type 0
-BindingsStand last [] = Unit {0}
-BindingsStand last (v ∷ past) = (v.begin ≤ last) × EndsBy last v.end
+-- the newest value, if there is one, began by the moment, and where it ended, it ended by then
+abbrev pub ValuesStand : {V : Type 0} → ℕ → List (Value V) → Type 0
+ValuesStand last [] = Unit {0}
+ValuesStand last (v ∷ past) = (v.begin ≤ last) × EndsBy last v.end
 
-pub record IsSound (base : Base) (h : List Record) : Type 0 where
-  -- no record is newer than the last
-  pub moments : list_all (λ r. nat_le r.moment (last_of h)) h ≡ true
-  -- an object that was made has a serial that was drawn
-  pub named : (o : ObjectId) → was_made base o h ≡ true → o.serial ≤ drawn base o.purse h
-  -- an object that was deleted was made
-  pub made_first : (o : ObjectId) → was_deleted o h ≡ true → was_made base o h ≡ true
-  pub tracks : (o : ObjectId) (w : Which) → StandsOn base w o h
+abbrev pub StandsOn : Base → Which → ObjectId → ℕ → List Record → Type 0
+StandsOn base which.Data o last h = ValuesStand last (versions base data_track o h)
+StandsOn base which.Attributes o last h = ValuesStand last (versions base attribute_track o h)
+StandsOn base which.Acl o last h = ValuesStand last (versions base acl_track o h)
+
+-- what an accepted request finds once the records stand: a Create no object where it makes one, a PCreate a name that isn't bound, and
+-- a Delete and a PDelete what they end
+abbrev pub Finds : Base → List Record → Caller → Request → Reply → Type 0
+Finds base h caller (Create number) reply =
+    (serial : ℕ) × (reply ≡ Made (object_in (record { creator = caller.who; number = number }) serial))
+    × (is_some (object_left base h (object_in (record { creator = caller.who; number = number }) serial)) ≡ false)
+Finds base h caller (Delete o) reply = (reply ≡ Done) × (is_some (object_left base h o) ≡ true)
+Finds base h caller (PCreate name o) reply = (reply ≡ Done) × (is_left base h o.purse name ≡ false)
+Finds base h caller (PDelete purse name) reply = (reply ≡ Done) × (is_left base h purse name ≡ true)
+Finds base h caller _ reply = reply ≡ Done
+
+-- after the earlier records each of the later ones finds so
+abbrev pub AllFind : Base → List Record → List Record → Type 0
+AllFind base early [] = Unit {0}
+AllFind base early (r ∷ late) = (is_accepted r ≡ true → Finds base early r.caller r.request r.reply) × AllFind base (early ++ r ∷ []) late
+
+-- the records were answered in turn, up to the moment
+pub record IsSoundBy (base : Base) (last : ℕ) (h : List Record) : Type 0 where
+  -- the records go on from the base and never back, up to the moment
+  pub history : IsHistory base h last
+  -- an object whose serial wasn't drawn has no values
+  pub undrawn : (o : ObjectId) (w : Which) → drawn base o.purse h < o.serial → versions_on base w o h ≡ []
+  -- no value begins or ends later
+  pub tracks : (o : ObjectId) (w : Which) → StandsOn base w o last h
   pub values : (o : ObjectId) (w : Which) → FitsOn base w o h
   -- the names of a purse stand in their order, each once, and a name that isn't among them has no binding
   pub sorted : (p : Purse) → IsStrictlySortedBy name_cmp (names_of base p h)
   pub listed : (p : Purse) (name : List ℕ) → list_any (same_name name) (names_of base p h) ≡ false → bindings base p name h ≡ []
-  -- no binding begins or ends later than the last record
-  pub bindings : (p : Purse) (name : List ℕ) → BindingsStand (last_of h) (bindings base p name h)
+  pub bindings : (p : Purse) (name : List ℕ) → ValuesStand last (bindings base p name h)
+  pub found : AllFind base [] h
   -- want of memory leaves no record
   pub told : list_all (λ r. not (is_no_memory r.reply)) h ≡ true
+
+-- as of the newest record
+abbrev pub IsSound : Base → List Record → Type 0
+IsSound base h = IsSoundBy base (last_of h) h
 
 -- the record is the next one of the history
 pub record IsNext (base : Base) (h : List Record) (r : Record) : Type 0 where

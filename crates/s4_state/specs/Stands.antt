@@ -1,5 +1,5 @@
 -- What the drive keeps stands for its history.
-use Rattle.std.specs.Prelude.{◌≡◌, ℕ, Bool, true, false, ◌+◌, ◌-◌, ◌≤◌, ◌&&◌, Some, List, [], ◌∷◌, ◌++◌, map, filter, length, vec_capacity, if◌then◌else◌}
+use Rattle.std.specs.Prelude.{◌≡◌, ℕ, Bool, true, false, ◌+◌, ◌≤◌, ◌&&◌, not, Some, List, [], ◌∷◌, ◌++◌, map, filter, length, vec_capacity, if◌then◌else◌}
 use Rattle.std.specs.Global.{Vec}
 use Rattle.s4_store.specs.Chains.{Chains, IsOpen, item_count}
 use Rattle.s4_types.specs.declared.object.Purse.{Purse}
@@ -16,12 +16,12 @@ use Rattle.s4_types.specs.Serials.{drawn, draws}
 use Rattle.s4_types.specs.Play.{last_of}
 use Rattle.s4_names.specs.Drawn.{drawn_in}
 use Rattle.s4_tracks.specs.Chain.{with_put, with_end}
-use Rattle.s4_tracks.specs.Swept.{IsSwept}
+use Rattle.s4_tracks.specs.Swept.{unexpired, AgreesWith}
 use Rattle.s4_objects.specs.declared.kept.Which.{Which}
 use Rattle.s4_objects.specs.declared.flushes.Refund.{Refund}
 use Rattle.s4_objects.specs.declared.objects.Objects.{Objects}
 use Rattle.s4_objects.specs.Chains.{same_which}
-use Rattle.s4_objects.specs.Ends.{all_by}
+use Rattle.s4_objects.specs.Ends.{is_gone}
 use Rattle.s4_objects.specs.Table.{kept_in, held_in, ends_in, Holds as ObjectsHold, IsForeign}
 use Rattle.s4_parts.specs.declared.parts.Parts.{Parts as Table}
 use Rattle.s4_parts.specs.Table as nameless
@@ -29,27 +29,33 @@ use Rattle.s4_parts.specs.Table.{Holds, names_in, bindings_in, chain_at, is_any}
 use Rattle.s4_parts.specs.Waiting.{waiting_in, Waits}
 use Rattle.s4_state.specs.declared.parts.Parts.{Parts}
 use Rattle.s4_state.specs.Log.{Log}
-use Rattle.s4_state.specs.Counts.{made_by, values_ended_by, bindings_ended_by, counted, made_count, object_ends, binding_ends}
+use Rattle.s4_state.specs.Counts.{made_by, values_ended_by, bindings_ended_by, counted, made_count, object_ends, binding_ends, Keeps}
 use Rattle.s4_state.specs.Laid.{versions_on, bindings_on}
-use Rattle.s4_state.specs.Sound.{IsSound, was_made}
+use Rattle.s4_state.specs.Sound.{IsSound}
 
 -- the horizon at the newest record
 abbrev pub horizon_now : Base → List Record → ℕ
 horizon_now base h = horizon_at base h (last_of h)
 
--- all ends but some of the first wait, and those are at most the horizon
+-- the ends above the horizon
+abbrev pub ends_above : ℕ → List ℕ → List ℕ
+ends_above horizon ends = filter (λ end. not (is_gone horizon end)) ends
+
+-- above the horizon the same ends wait, in their order
 pub record IsWaiting (horizon : ℕ) (waiting all : List ℕ) : Type 0 where
-  pub gone : List ℕ
-  pub whole : all ≡ gone ++ waiting
-  pub past : all_by horizon gone ≡ true
+  pub above : ends_above horizon waiting ≡ ends_above horizon all
+
+-- whether the name has a binding that isn't expired
+abbrev pub is_lasting : ℕ → Chains Version → Table → Purse → List ℕ → Bool
+is_lasting horizon chains table p n = is_any (unexpired horizon (bindings_in chains table p n))
 
 -- what is kept of objects stands for the history
 pub record ObjectsStand (base : Base) (horizon : ℕ) (chains : Chains Version) (kept : Objects) (h : List Record) : Type 0 where
   pub holds : ObjectsHold chains kept
-  -- an object that is kept was made
-  pub made : (o : ObjectId) → kept_in kept o ≡ true → was_made base o h ≡ true
-  -- each track holds the values of the definition but for some of the oldest, which are expired
-  pub tracks : (o : ObjectId) (w : Which) → IsSwept horizon (held_in chains kept o w) (versions_on base w o h)
+  -- an object that is kept has a serial that was drawn
+  pub numbered : (o : ObjectId) → kept_in kept o ≡ true → o.serial ≤ drawn base o.purse h
+  -- each track holds the newest values of the definition, and before them on either side only expired ones
+  pub tracks : (o : ObjectId) (w : Which) → AgreesWith horizon (held_in chains kept o w) (versions_on base w o h)
   -- the ends of its past values wait in their order
   pub ends : IsWaiting horizon (ends_in kept) (object_ends h)
 
@@ -58,10 +64,11 @@ pub record NamesStand (base : Base) (horizon : ℕ) (chains : Chains Version) (k
     (h : List Record) : Type 0 where
   pub holds : Holds chains table
   pub waits : Waits chains table
-  -- each name has the bindings of the definition but for some of the oldest, which are expired
-  pub bindings : (p : Purse) (n : List ℕ) → IsSwept horizon (bindings_in chains table p n) (bindings_on base p n h)
-  -- the names are there that have bindings left
-  pub names : (p : Purse) → names_in chains table p ≡ filter (λ n. is_any (bindings_in chains table p n)) (names_of base p h)
+  -- each name has the newest bindings of the definition, and before them on either side only expired ones
+  pub bindings : (p : Purse) (n : List ℕ) → AgreesWith horizon (bindings_in chains table p n) (bindings_on base p n h)
+  -- of the names that have a binding that isn't expired the same are there
+  pub names : (p : Purse) → filter (is_lasting horizon chains table p) (names_in chains table p)
+      ≡ filter (is_lasting horizon chains table p) (names_of base p h)
   -- the ends of past bindings wait in their order
   pub ends : IsWaiting horizon (map (λ e. e.end) (waiting_in table)) (binding_ends h)
   -- no track of an object has the chain of a name
@@ -71,7 +78,14 @@ pub record NamesStand (base : Base) (horizon : ℕ) (chains : Chains Version) (k
 pub record IsTidy (chains : Chains Version) (kept : Objects) (table : Table) : Type 0 where
   pub none_else : (c : ℕ) → IsOpen chains c → IsForeign kept c → nameless.IsForeign table c → ⊥
 
-pub record StandsFor (base : Base) (freed : ℕ) (chains : Chains Version) (kept : Objects) (serials : Purse → ℕ) (table : Table)
+-- as many are held as the base keeps and as were made, but for those that ended, and for those that wait
+pub record Balances (base : Base) (h : List Record) (held waiting : ℕ) : Type 0 where
+  pub begun : ℕ
+  pub keeps : Keeps base begun
+  pub even : held + (length (object_ends h) + length (binding_ends h)) ≡ begun + made_count h + waiting
+
+-- what is kept stands for the history, and the store holds so many values and bindings
+pub record StandsFor (base : Base) (size : ℕ) (chains : Chains Version) (kept : Objects) (serials : Purse → ℕ) (table : Table)
     (h : List Record) : Type 0 where
   pub sound : IsSound base h
   pub objects : ObjectsStand base (horizon_now base h) chains kept h
@@ -79,10 +93,8 @@ pub record StandsFor (base : Base) (freed : ℕ) (chains : Chains Version) (kept
   pub partitions : NamesStand base (horizon_now base h) chains kept table h
   -- no chain is open that is neither a track's nor a name's
   pub tidy : IsTidy chains kept table
-  -- what isn't freed is held
-  pub used : item_count chains + freed ≡ made_count h
-  -- what has ended is freed, or waits
-  pub ended : length (object_ends h) + length (binding_ends h) ≡ freed + length (ends_in kept) + length (waiting_in table)
+  pub used : item_count chains ≡ size
+  pub balance : Balances base h size (length (ends_in kept) + length (waiting_in table))
 
 -- what the history starts from
 abbrev pub base_in : {S : Type 0} → Parts S → Base
@@ -101,26 +113,36 @@ log_where ready chains parts = record {
 abbrev pub log_in : {S : Type 0} → (S → Chains Version) → Parts S → Log
 log_in chains parts = log_where false chains parts
 
--- how many values and bindings sweeps have freed: those that were made, but for those that the store holds
-abbrev pub freed_in : {S : Type 0} → (S → Chains Version) → Parts S → ℕ
-freed_in chains parts = made_count parts.history.records - item_count (chains parts.store)
+-- how many values and bindings the store holds
+abbrev pub size_in : {S : Type 0} → (S → Chains Version) → Parts S → ℕ
+size_in chains parts = item_count (chains parts.store)
 
--- what is kept stands for this history, of which so many values and bindings are freed
+-- what is kept stands for this history, and so many values and bindings are held
 abbrev pub Stands : {S : Type 0} → (S → Chains Version) → Parts S → ℕ → List Record → Type 0
-Stands chains parts freed h = StandsFor (base_in parts) freed (chains parts.store) parts.objects (drawn_in parts.names) parts.partitions h
+Stands chains parts size h = StandsFor (base_in parts) size (chains parts.store) parts.objects (drawn_in parts.names) parts.partitions h
+
+-- what is kept now stands for the records of before and this one more
+abbrev pub StandsWith : {S : Type 0} → (S → Chains Version) → Parts S → Parts S → Record → Type 0
+StandsWith chains old new r = Stands chains new (size_in chains old + counted made_by r) (old.history.records ++ r ∷ [])
+
+-- what is kept now stands for the records of before
+abbrev pub StandsStill : {S : Type 0} → (S → Chains Version) → Parts S → Parts S → Type 0
+StandsStill chains old new = Stands chains new (size_in chains old) old.history.records
 
 -- what is kept stands for the history beside it
 abbrev pub IsKept : {S : Type 0} → (S → Chains Version) → Parts S → Type 0
-IsKept chains parts = Stands chains parts (freed_in chains parts) parts.history.records
+IsKept chains parts = Stands chains parts (size_in chains parts) parts.history.records
 
 -- one more record takes no memory, and there is room for a refund to each value that is held
 pub record HasRoom {S : Type 0} (chains : S → Chains Version) (parts : Parts S) (refunds : Vec Refund) : Type 0 where
   pub for_record : parts.history.has_room ≡ true
   pub for_refunds : item_count (chains parts.store) ≤ vec_capacity refunds
 
--- what is kept stands for the history beside it, no refund waits, and where it was made ready there is room for the next record
+-- what is kept stands for the history beside it, of which no record was cut off, no refund waits, and
+-- where it was made ready there is room for the next record
 pub record StateStands {S : Type 0} (chains : S → Chains Version) (parts : Parts S) (refunds : Vec Refund) (ready : Bool) : Type 0 where
   pub kept : IsKept chains parts
+  pub whole : parts.history.first ≡ 0
   pub none : refunds.items ≡ []
   pub room : ready ≡ true → HasRoom chains parts refunds
 

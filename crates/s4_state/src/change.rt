@@ -4,7 +4,7 @@ ghost use Rattle.std.specs.Prelude.{◌≡◌, true, OnOk, OnErr, ◌++◌, ◌�
 ghost use Rattle.s4_types.specs.Versions.{lives_at};
 ghost use Rattle.s4_tracks.specs.Chain.{IsSmall};
 ghost use Rattle.s4_state.specs.Sound.{IsSound, IsNext};
-ghost use Rattle.s4_state.specs.Stands.{base_in, freed_in, IsKept, Stands, PutsOn};
+ghost use Rattle.s4_state.specs.Stands.{base_in, IsKept, PutsOn, StandsWith, StandsStill};
 
 use crate::parts::Parts;
 use s4_objects::Which;
@@ -25,8 +25,8 @@ pub fn put<S: Store<Version>>(
     requires small { IsSmall item }
     requires puts { PutsOn (base_in parts.old) parts.old.history.records added.now object.now which item }
     requires sound { IsSound (base_in parts.old) (parts.old.history.records ++ added.now ∷ []) }
-    ensures ok { OnOk result (Stands S.chains parts.new (freed_in S.chains parts.old) (parts.old.history.records ++ added.now ∷ [])) }
-    ensures err { OnErr result (Stands S.chains parts.new (freed_in S.chains parts.old) parts.old.history.records) }
+    ensures ok { OnOk result (StandsWith S.chains parts.old parts.new added.now) }
+    ensures err { OnErr result (StandsStill S.chains parts.old parts.new) }
     ensures history { parts.new.history ≡ parts.old.history }
     ensures window { parts.new.window ≡ parts.old.window }
 {

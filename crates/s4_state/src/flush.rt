@@ -7,7 +7,7 @@ ghost use Rattle.s4_types.specs.declared.object.Purse.{Purse};
 ghost use Rattle.s4_types.specs.Kinds.{is_refused};
 ghost use Rattle.s4_state.specs.Flushes.{IsNothingBy, IsCharged};
 ghost use Rattle.s4_state.specs.Sound.{IsSound, IsNext};
-ghost use Rattle.s4_state.specs.Stands.{base_in, freed_in, horizon_now, IsKept, Stands};
+ghost use Rattle.s4_state.specs.Stands.{base_in, horizon_now, IsKept, StandsWith, StandsStill};
 
 use crate::parts::Parts;
 use s4_objects::Refund;
@@ -29,11 +29,11 @@ pub fn apply<S: Store<Version>>(
     requires granted { is_refused added.now.reply ≡ false }
     requires sound { IsSound (base_in parts.old) (parts.old.history.records ++ added.now ∷ []) }
     requires empty { refunds.old.items ≡ [] }
-    ensures ok { OnOk result (Stands S.chains parts.new (freed_in S.chains parts.old) (parts.old.history.records ++ added.now ∷ [])) }
+    ensures ok { OnOk result (StandsWith S.chains parts.old parts.new added.now) }
     ensures charged { OnOk result ((weight : ℕ → ℕ → ℕ) (p : Purse)
         → IsNothingBy (horizon_now (base_in parts.old) parts.old.history.records) weight
         → IsCharged (base_in parts.old) weight p parts.old.history.records added.now refunds.new.items) }
-    ensures err { OnErr result (Stands S.chains parts.new (freed_in S.chains parts.old) parts.old.history.records) }
+    ensures err { OnErr result (StandsStill S.chains parts.old parts.new) }
     ensures none { OnErr result (refunds.new.items ≡ []) }
     ensures capacity { vec_capacity refunds.old ≤ vec_capacity refunds.new }
     ensures enough { item_count (S.chains parts.old.store) ≤ vec_capacity refunds.old → IsOk result }
@@ -60,11 +60,11 @@ pub fn apply_to_one<S: Store<Version>>(
     requires granted { is_refused added.now.reply ≡ false }
     requires sound { IsSound (base_in parts.old) (parts.old.history.records ++ added.now ∷ []) }
     requires empty { refunds.old.items ≡ [] }
-    ensures ok { OnOk result (Stands S.chains parts.new (freed_in S.chains parts.old) (parts.old.history.records ++ added.now ∷ [])) }
+    ensures ok { OnOk result (StandsWith S.chains parts.old parts.new added.now) }
     ensures charged { OnOk result ((weight : ℕ → ℕ → ℕ) (p : Purse)
         → IsNothingBy (horizon_now (base_in parts.old) parts.old.history.records) weight
         → IsCharged (base_in parts.old) weight p parts.old.history.records added.now refunds.new.items) }
-    ensures err { OnErr result (Stands S.chains parts.new (freed_in S.chains parts.old) parts.old.history.records) }
+    ensures err { OnErr result (StandsStill S.chains parts.old parts.new) }
     ensures none { OnErr result (refunds.new.items ≡ []) }
     ensures capacity { vec_capacity refunds.old ≤ vec_capacity refunds.new }
     ensures history { parts.new.history ≡ parts.old.history }

@@ -6,7 +6,7 @@ ghost use Rattle.s4_types.specs.declared.object.Purse.{Purse};
 ghost use Rattle.s4_types.specs.Kinds.{is_refused, is_wide};
 ghost use Rattle.s4_state.specs.Flushes.{is_flush, IsNothingBy, IsCharged};
 ghost use Rattle.s4_state.specs.Sound.{IsSound, IsNext};
-ghost use Rattle.s4_state.specs.Stands.{base_in, freed_in, horizon_now, IsKept, Stands};
+ghost use Rattle.s4_state.specs.Stands.{base_in, horizon_now, IsKept, StandsWith, StandsStill};
 
 use crate::parts::Parts;
 use crate::{acl, append, attributes, create, delete, flush, partitions, truncate, write};
@@ -28,12 +28,12 @@ pub fn follow<S: Store<Version>>(
     requires next { IsNext (base_in parts.old) parts.old.history.records added.now }
     requires sound { IsSound (base_in parts.old) (parts.old.history.records ++ added.now ∷ []) }
     requires empty { refunds.old.items ≡ [] }
-    ensures ok { OnOk result (Stands S.chains parts.new (freed_in S.chains parts.old) (parts.old.history.records ++ added.now ∷ [])) }
+    ensures ok { OnOk result (StandsWith S.chains parts.old parts.new added.now) }
     ensures charged { OnOk result ((weight : ℕ → ℕ → ℕ) (p : Purse)
         → IsNothingBy (horizon_now (base_in parts.old) parts.old.history.records) weight
         → IsCharged (base_in parts.old) weight p parts.old.history.records added.now refunds.new.items) }
     ensures refused { is_refused added.now.reply ≡ true → refunds.new.items ≡ [] }
-    ensures err { OnErr result (Stands S.chains parts.new (freed_in S.chains parts.old) parts.old.history.records) }
+    ensures err { OnErr result (StandsStill S.chains parts.old parts.new) }
     ensures none { OnErr result (refunds.new.items ≡ []) }
     ensures capacity { vec_capacity refunds.old ≤ vec_capacity refunds.new }
     ensures enough { is_wide added.now.caller added.now.request ≡ true
@@ -64,8 +64,8 @@ fn change<S: Store<Version>>(
     requires granted { is_refused added.now.reply ≡ false }
     requires plain { is_flush added.now.request ≡ false }
     requires sound { IsSound (base_in parts.old) (parts.old.history.records ++ added.now ∷ []) }
-    ensures ok { OnOk result (Stands S.chains parts.new (freed_in S.chains parts.old) (parts.old.history.records ++ added.now ∷ [])) }
-    ensures err { OnErr result (Stands S.chains parts.new (freed_in S.chains parts.old) parts.old.history.records) }
+    ensures ok { OnOk result (StandsWith S.chains parts.old parts.new added.now) }
+    ensures err { OnErr result (StandsStill S.chains parts.old parts.new) }
     ensures wide { is_wide added.now.caller added.now.request ≡ true → IsOk result }
     ensures history { parts.new.history ≡ parts.old.history }
     ensures window { parts.new.window ≡ parts.old.window }

@@ -1,6 +1,6 @@
 //! Names of objects: bound, bound no longer, and listed.
 
-ghost use Rattle.std.specs.Prelude.{◌≡◌, ◌≤◌, ◌+◌, false, take, flat_map, length, nat_lt, IfOk, OnOk, OnErr, ◌++◌, ◌∷◌, []};
+ghost use Rattle.std.specs.Prelude.{◌≡◌, ◌≤◌, false, take, length, nat_lt, IfOk, OnOk, OnErr, ◌++◌, ◌∷◌, []};
 ghost use Rattle.s4_types.specs.declared.request.Request.TheVariants as request;
 ghost use Rattle.s4_types.specs.Answer.{lines_in, purse_numbers};
 ghost use Rattle.s4_types.specs.Kinds.{is_refused};
@@ -9,7 +9,7 @@ ghost use Rattle.s4_tracks.specs.Swept.{IsFrom};
 ghost use Rattle.s4_state.specs.Shown.{granted};
 ghost use Rattle.s4_state.specs.Sound.{IsSound, IsNext};
 ghost use Rattle.s4_state.specs.Log.{lines_told};
-ghost use Rattle.s4_state.specs.Stands.{base_in, log_in, freed_in, horizon_now, IsKept, Stands};
+ghost use Rattle.s4_state.specs.Stands.{base_in, log_in, horizon_now, IsKept, StandsWith, StandsStill};
 
 use crate::parts::Parts;
 use s4_parts::{Page, Visible};
@@ -31,8 +31,8 @@ pub fn bind<S: Store<Version>>(
     requires next { IsNext (base_in parts.old) parts.old.history.records added.now }
     requires granted { is_refused added.now.reply ≡ false }
     requires sound { IsSound (base_in parts.old) (parts.old.history.records ++ added.now ∷ []) }
-    ensures ok { OnOk result (Stands S.chains parts.new (freed_in S.chains parts.old) (parts.old.history.records ++ added.now ∷ [])) }
-    ensures err { OnErr result (Stands S.chains parts.new (freed_in S.chains parts.old) parts.old.history.records) }
+    ensures ok { OnOk result (StandsWith S.chains parts.old parts.new added.now) }
+    ensures err { OnErr result (StandsStill S.chains parts.old parts.new) }
     ensures history { parts.new.history ≡ parts.old.history }
     ensures window { parts.new.window ≡ parts.old.window }
 {
@@ -50,7 +50,7 @@ pub fn unbind<S: Store<Version>>(parts: &mut Parts<S>, added: &Record, purse: &P
     requires next { IsNext (base_in parts.old) parts.old.history.records added.now }
     requires granted { is_refused added.now.reply ≡ false }
     requires sound { IsSound (base_in parts.old) (parts.old.history.records ++ added.now ∷ []) }
-    ensures stands { Stands S.chains parts.new (freed_in S.chains parts.old) (parts.old.history.records ++ added.now ∷ []) }
+    ensures stands { StandsWith S.chains parts.old parts.new added.now }
     ensures history { parts.new.history ≡ parts.old.history }
     ensures window { parts.new.window ≡ parts.old.window }
 {

@@ -5,7 +5,7 @@ ghost use Rattle.s4_types.specs.declared.request.Request.TheVariants as request;
 ghost use Rattle.s4_types.specs.Versions.{written as written_of};
 ghost use Rattle.s4_types.specs.Kinds.{is_refused};
 ghost use Rattle.s4_state.specs.Sound.{IsSound, IsNext};
-ghost use Rattle.s4_state.specs.Stands.{base_in, freed_in, IsKept, Stands};
+ghost use Rattle.s4_state.specs.Stands.{base_in, IsKept, StandsWith, StandsStill};
 
 use crate::change::put;
 use crate::parts::Parts;
@@ -43,8 +43,8 @@ pub fn apply<S: Store<Version>>(
     requires next { IsNext (base_in parts.old) parts.old.history.records added.now }
     requires granted { is_refused added.now.reply ≡ false }
     requires sound { IsSound (base_in parts.old) (parts.old.history.records ++ added.now ∷ []) }
-    ensures ok { OnOk result (Stands S.chains parts.new (freed_in S.chains parts.old) (parts.old.history.records ++ added.now ∷ [])) }
-    ensures err { OnErr result (Stands S.chains parts.new (freed_in S.chains parts.old) parts.old.history.records) }
+    ensures ok { OnOk result (StandsWith S.chains parts.old parts.new added.now) }
+    ensures err { OnErr result (StandsStill S.chains parts.old parts.new) }
     ensures history { parts.new.history ≡ parts.old.history }
     ensures window { parts.new.window ≡ parts.old.window }
 {

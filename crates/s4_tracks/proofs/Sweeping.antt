@@ -1,5 +1,5 @@
 -- What is done to what is held is done to all values, and what is held tells what all of them tell.
-use Rattle.std.proofs.Common.{◌≡◌, ℕ, zero, suc, ◌+◌, ◌≤◌, Bool, true, false, cond, nat_le, Option, Some, None, List, [], ◌∷◌, ◌++◌, refl, sym, ◌∙◌, ap, arith, fold, drop, length, ◌-◌, append_assoc}
+use Rattle.std.proofs.Common.{◌≡◌, ℕ, zero, suc, ◌+◌, ◌≤◌, Bool, true, false, cond, nat_le, Option, Some, None, List, [], ◌∷◌, ◌++◌, refl, sym, ◌∙◌, ap, subst, arith, fold, drop, length, ◌-◌, append_assoc}
 use Rattle.std.specs.Prelude.{◌&&◌, slice_get, is_some, if◌then◌else◌}
 use Rattle.std.specs.List.{list_all, prefix_len}
 use Rattle.std.proofs.lemmas.List.Sums.{fold-append}
@@ -10,7 +10,7 @@ use Rattle.s4_types.specs.Versions.{ends_by}
 use Rattle.s4_types.proofs.Booleans.{by_test, both}
 use Rattle.s4_store.specs.Chains.{newest_of}
 use Rattle.s4_tracks.specs.Chain.{begun, end_at, ended, with_end, with_put, newer, unended, in_force, endless, current_of, version_in, is_within, erased, flushed_one, flushed, is_expired}
-use Rattle.s4_tracks.specs.Swept.{IsSwept, IsFrom}
+use Rattle.s4_tracks.specs.Swept.{IsSwept, unexpired, AgreesWith, IsFrom}
 
 -- A SWEEP, AND A LATER ONE
 
@@ -174,3 +174,89 @@ swept_current hz held all s =
 pub swept_version_in : (hz : ℕ) (at : Option ℕ) (held all : List Version) → IsFrom hz at → IsSwept hz held all → version_in at held ≡ version_in at all
 swept_version_in hz None held all l s = swept_current hz held all s
 swept_version_in hz (Some m) held all l s = swept_in_force hz m held all l s
+
+-- FROM THE FIRST VALUE ON THAT ISN'T EXPIRED
+
+-- by whether the first value is expired
+unexpired-past : (hz : ℕ) (v : Version) (vs : List Version) → is_expired hz v ≡ true → unexpired hz (v ∷ vs) ≡ unexpired hz vs
+unexpired-past hz v vs e = ap (λ b. if b then unexpired hz vs else v ∷ vs) e
+
+unexpired-here : (hz : ℕ) (v : Version) (vs : List Version) → is_expired hz v ≡ false → unexpired hz (v ∷ vs) ≡ v ∷ vs
+unexpired-here hz v vs e = ap (λ b. if b then unexpired hz vs else v ∷ vs) e
+
+-- they are all but some of the oldest, which are expired
+pub unexpired_swept : (hz : ℕ) (vs : List Version) → IsSwept hz (unexpired hz vs) vs
+unexpired_swept hz [] = swept_none hz []
+unexpired_swept hz (v ∷ vs) = by_test (is_expired hz v)
+    (λ e. let rest = unexpired_swept hz vs in
+    subst (λ us. IsSwept hz us (v ∷ vs)) (sym (unexpired-past hz v vs e))
+    (record { gone = v ∷ rest.gone; whole = ap (λ us. v ∷ us) rest.whole; expired = ap (λ b. b && list_all (is_expired hz) rest.gone) e ∙ rest.expired }))
+    (λ e. subst (λ us. IsSwept hz us (v ∷ vs)) (sym (unexpired-here hz v vs e)) (swept_none hz (v ∷ vs)))
+
+unexpired-gone : (hz : ℕ) (gone held : List Version) → list_all (is_expired hz) gone ≡ true → unexpired hz (gone ++ held) ≡ unexpired hz held
+unexpired-gone hz [] held e = refl
+unexpired-gone hz (v ∷ gone) held e =
+    let parts = both (is_expired hz v) (list_all (is_expired hz) gone) e in
+    unexpired-past hz v (gone ++ held) parts.0 ∙ unexpired-gone hz gone held parts.1
+
+-- what a sweep leaves agrees with what was there
+pub swept_agrees : (hz : ℕ) (held all : List Version) → IsSwept hz held all → AgreesWith hz held all
+swept_agrees hz held all s = record { same = sym (ap (unexpired hz) s.whole ∙ unexpired-gone hz s.gone held s.expired) }
+
+pub agrees_as : {hz : ℕ} {old new all whole : List Version} → new ≡ old → whole ≡ all → AgreesWith hz old all → AgreesWith hz new whole
+agrees_as {hz} e f s = record { same = ap (unexpired hz) e ∙ s.same ∙ sym (ap (unexpired hz) f) }
+
+pub agrees_self : (hz : ℕ) (vs : List Version) → AgreesWith hz vs vs
+agrees_self hz vs = record { same = refl }
+
+pub agrees_through : (hz : ℕ) (less held all : List Version) → AgreesWith hz less held → AgreesWith hz held all → AgreesWith hz less all
+agrees_through hz less held all s t = record { same = s.same ∙ t.same }
+
+pub unexpired_twice : (m n : ℕ) (vs : List Version) → m ≤ n → unexpired n (unexpired m vs) ≡ unexpired n vs
+unexpired_twice m n [] l = refl
+unexpired_twice m n (v ∷ vs) l = by_test (is_expired m v)
+    (λ e. ap (unexpired n) (unexpired-past m v vs e) ∙ unexpired_twice m n vs l ∙ sym (unexpired-past n v vs (by-up m n v.end l e)))
+    (λ e. ap (unexpired n) (unexpired-here m v vs e))
+
+-- the horizon went up
+pub agrees_up : (m n : ℕ) (held all : List Version) → m ≤ n → AgreesWith m held all → AgreesWith n held all
+agrees_up m n held all l s = record { same = sym (unexpired_twice m n held l) ∙ ap (unexpired n) s.same ∙ unexpired_twice m n all l }
+
+pub unexpired_end : (hz m : ℕ) (vs : List Version) → unexpired hz (with_end m vs) ≡ unexpired hz (with_end m (unexpired hz vs))
+unexpired_end hz m [] = refl
+unexpired_end hz m (v ∷ []) = by_test (is_expired hz v)
+    (λ e. ap (λ w. unexpired hz (w ∷ [])) (ended-expired hz m v e) ∙ unexpired-past hz v [] e ∙ sym (ap (λ us. unexpired hz (with_end m us)) (unexpired-past hz v [] e)))
+    (λ e. sym (ap (λ us. unexpired hz (with_end m us)) (unexpired-here hz v [] e)))
+unexpired_end hz m (v ∷ w ∷ vs) = by_test (is_expired hz v)
+    (λ e. unexpired-past hz v (with_end m (w ∷ vs)) e ∙ unexpired_end hz m (w ∷ vs) ∙ sym (ap (λ us. unexpired hz (with_end m us)) (unexpired-past hz v (w ∷ vs) e)))
+    (λ e. sym (ap (λ us. unexpired hz (with_end m us)) (unexpired-here hz v (w ∷ vs) e)))
+
+pub agrees_end : (hz m : ℕ) (held all : List Version) → AgreesWith hz held all → AgreesWith hz (with_end m held) (with_end m all)
+agrees_end hz m held all s = record { same = unexpired_end hz m held ∙ ap (λ us. unexpired hz (with_end m us)) s.same ∙ sym (unexpired_end hz m all) }
+
+unexpired-more : (hz : ℕ) (more vs : List Version) → unexpired hz (vs ++ more) ≡ unexpired hz (unexpired hz vs ++ more)
+unexpired-more hz more [] = refl
+unexpired-more hz more (v ∷ vs) = by_test (is_expired hz v)
+    (λ e. unexpired-past hz v (vs ++ more) e ∙ unexpired-more hz more vs ∙ sym (ap (λ us. unexpired hz (us ++ more)) (unexpired-past hz v vs e)))
+    (λ e. sym (ap (λ us. unexpired hz (us ++ more)) (unexpired-here hz v vs e)))
+
+-- another value begins
+pub agrees_more : (hz : ℕ) (v : Version) (held all : List Version) → AgreesWith hz held all → AgreesWith hz (held ++ v ∷ []) (all ++ v ∷ [])
+agrees_more hz v held all s = record { same = unexpired-more hz (v ∷ []) held ∙ ap (λ us. unexpired hz (us ++ v ∷ [])) s.same ∙ sym (unexpired-more hz (v ∷ []) all) }
+
+pub agrees_put : (hz m : ℕ) (item : Item) (held all : List Version) → AgreesWith hz held all → AgreesWith hz (with_put m item held) (with_put m item all)
+agrees_put hz m item held all s = agrees_more hz (begun m item) (with_end m held) (with_end m all) (agrees_end hz m held all s)
+
+unexpired-flushed : (hz from to : ℕ) (vs : List Version) → unexpired hz (flushed from to vs) ≡ flushed from to (unexpired hz vs)
+unexpired-flushed hz from to [] = refl
+unexpired-flushed hz from to (v ∷ vs) = by_test (is_expired hz v)
+    (λ e. unexpired-past hz (flushed_one from to v) (flushed from to vs) (expired-flushed hz from to v ∙ e) ∙ unexpired-flushed hz from to vs ∙ sym (ap (flushed from to) (unexpired-past hz v vs e)))
+    (λ e. unexpired-here hz (flushed_one from to v) (flushed from to vs) (expired-flushed hz from to v ∙ e) ∙ sym (ap (flushed from to) (unexpired-here hz v vs e)))
+
+pub agrees_flush : (hz from to : ℕ) (held all : List Version) → AgreesWith hz held all → AgreesWith hz (flushed from to held) (flushed from to all)
+agrees_flush hz from to held all s = record { same = unexpired-flushed hz from to held ∙ ap (flushed from to) s.same ∙ sym (unexpired-flushed hz from to all) }
+
+-- now, and at a moment that isn't before the horizon, both tell the same
+pub agrees_version_in : (hz : ℕ) (at : Option ℕ) (held all : List Version) → IsFrom hz at → AgreesWith hz held all → version_in at held ≡ version_in at all
+agrees_version_in hz at held all l s =
+    sym (swept_version_in hz at (unexpired hz held) held l (unexpired_swept hz held)) ∙ ap (version_in at) s.same ∙ swept_version_in hz at (unexpired hz all) all l (unexpired_swept hz all)

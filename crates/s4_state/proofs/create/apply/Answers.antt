@@ -4,7 +4,7 @@ use Rattle.s4_types.specs.declared.object.Purse.{Purse}
 use Rattle.s4_types.specs.declared.object.ObjectId.{ObjectId}
 use Rattle.s4_types.specs.Names.{same_purse}
 use Rattle.s4_names.specs.Drawn.{drawn_in}
-use Rattle.s4_state.specs.Stands.{base_in, freed_in, StandsFor}
+use Rattle.s4_state.specs.Stands.{base_in, size_in, StandsFor}
 use Rattle.s4_state.proofs.Standing.{MakesOnly, unkept, stands_made}
 use Rattle.s4_state.proofs.Effects.{create_makes, new_object}
 use Rattle.s4_state.proofs.create.apply.Given.{Over}
@@ -28,8 +28,8 @@ returns-clause-ok g c =
     let r = c.args.added.now in
     let before = c.args.parts.now in
     let o : ObjectId = c.unwrap-object.result in
-    let s : StandsFor (base_in before) (freed_in g.S.Store.chains before) (g.S.Store.chains c.reserve-2.new.self) before.objects (drawn_in before.names) before.partitions before.history.records
-    = subst (λ m. StandsFor (base_in before) (freed_in g.S.Store.chains before) m before.objects (drawn_in before.names) before.partitions before.history.records) (sym c.in_ok-reserve-2.ensures.chains) c.requires.kept in
+    let s : StandsFor (base_in before) (size_in g.S.Store.chains before) (g.S.Store.chains c.reserve-2.new.self) before.objects (drawn_in before.names) before.partitions before.history.records
+    = subst (λ m. StandsFor (base_in before) (size_in g.S.Store.chains before) m before.objects (drawn_in before.names) before.partitions before.history.records) (sym c.in_ok-reserve-2.ensures.chains) c.requires.kept in
     let e = c.in_ok-create.ensures in
     let at = (goal.at.returns-clause-ok g c).After-object-1 in
     let q : Purse = record { creator = r.caller.who; number = c.args.number } in

@@ -1,6 +1,6 @@
 use Rattle.std.proofs.Common.{refl}
 use Rattle.s4_names.specs.Drawn.{drawn_in}
-use Rattle.s4_state.specs.Stands.{base_in, freed_in, StandsFor}
+use Rattle.s4_state.specs.Stands.{base_in, size_in, StandsFor}
 use Rattle.s4_state.proofs.Reading.{current-held}
 use Rattle.s4_state.proofs.Standing.{ends_then, stands_room, stands_end}
 use Rattle.s4_state.proofs.Effects.{delete_ends, changed_lives}
@@ -9,7 +9,7 @@ use Rattle.s4_state.proofs.delete.apply.Goals as goal
 use Rattle.s4_state.proofs.delete.apply.Goals.{In_ok-reserve}
 
 -- what is kept stands once there is room for the ends
-ready : (g : Over) (c : In_ok-reserve g) → StandsFor (base_in c.args.parts.now) (freed_in g.S.Store.chains c.args.parts.now) (g.S.Store.chains c.args.parts.now.store) c.reserve.new.self (drawn_in c.args.parts.now.names) c.args.parts.now.partitions c.args.parts.now.history.records
+ready : (g : Over) (c : In_ok-reserve g) → StandsFor (base_in c.args.parts.now) (size_in g.S.Store.chains c.args.parts.now) (g.S.Store.chains c.args.parts.now.store) c.reserve.new.self (drawn_in c.args.parts.now.names) c.args.parts.now.partitions c.args.parts.now.history.records
 ready g c = stands_room c.requires.kept c.reserve.ensures.kept c.reserve.ensures.ends (c.reserve.ensures.holds (g.S.Store.chains c.args.parts.now.store) c.requires.kept.objects.holds)
 
 pub end_all-requires-clause-current : goal.end_all-requires-clause-current

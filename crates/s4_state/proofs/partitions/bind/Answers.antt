@@ -1,17 +1,17 @@
 use Rattle.std.proofs.Common.{sym, subst}
 use Rattle.std.specs.Prelude.{Result, Ok, Err, OnErr}
 use Rattle.s4_names.specs.Drawn.{drawn_in}
-use Rattle.s4_state.specs.Stands.{base_in, freed_in, StandsFor}
+use Rattle.s4_state.specs.Stands.{base_in, size_in, StandsFor}
 use Rattle.s4_state.proofs.Binding.{stands_reserved, stands_bound, unbound_before}
 use Rattle.s4_state.proofs.partitions.bind.Given.{Over}
 use Rattle.s4_state.proofs.partitions.bind.Goals as goal
 use Rattle.s4_state.proofs.partitions.bind.Goals.{In_ok-reserve-2}
 
 -- what is kept stands once there is room for the name
-reserved : (g : Over) (c : In_ok-reserve-2 g) → StandsFor (base_in c.args.parts.now) (freed_in g.S.Store.chains c.args.parts.now) (g.S.Store.chains c.reserve-2.new.store) c.args.parts.now.objects (drawn_in c.args.parts.now.names) c.reserve-2.new.self c.args.parts.now.history.records
+reserved : (g : Over) (c : In_ok-reserve-2 g) → StandsFor (base_in c.args.parts.now) (size_in g.S.Store.chains c.args.parts.now) (g.S.Store.chains c.reserve-2.new.store) c.args.parts.now.objects (drawn_in c.args.parts.now.names) c.reserve-2.new.self c.args.parts.now.history.records
 reserved g c =
     let e = c.in_ok-reserve-2.ensures in
-    stands_reserved (subst (λ m. StandsFor (base_in c.args.parts.now) (freed_in g.S.Store.chains c.args.parts.now) m c.args.parts.now.objects (drawn_in c.args.parts.now.names) c.args.parts.now.partitions c.args.parts.now.history.records) (sym c.in_ok-reserve.ensures.chains) c.requires.kept)
+    stands_reserved (subst (λ m. StandsFor (base_in c.args.parts.now) (size_in g.S.Store.chains c.args.parts.now) m c.args.parts.now.objects (drawn_in c.args.parts.now.names) c.args.parts.now.partitions c.args.parts.now.history.records) (sym c.in_ok-reserve.ensures.chains) c.requires.kept)
     (g.S.Store.chains c.reserve-2.new.store) c.reserve-2.new.self e.holds e.waits e.waiting e.names e.bindings e.others e.still e.own e.leaves e.used
 
 pub bind-requires-clause-unbound : goal.bind-requires-clause-unbound
@@ -30,5 +30,5 @@ pub returns-in_err-reserve-2-clause-err : goal.returns-in_err-reserve-2-clause-e
 returns-in_err-reserve-2-clause-err g c =
     let before = c.args.parts.now in
     let e = c.reserve-2.ensures in
-    on_err _ (stands_reserved (subst (λ m. StandsFor (base_in before) (freed_in g.S.Store.chains before) m before.objects (drawn_in before.names) before.partitions before.history.records) (sym c.in_ok-reserve.ensures.chains) c.requires.kept)
+    on_err _ (stands_reserved (subst (λ m. StandsFor (base_in before) (size_in g.S.Store.chains before) m before.objects (drawn_in before.names) before.partitions before.history.records) (sym c.in_ok-reserve.ensures.chains) c.requires.kept)
     (g.S.Store.chains c.reserve-2.new.store) c.reserve-2.new.self e.holds e.waits e.waiting e.names e.bindings e.others e.still e.own e.leaves e.used)

@@ -1,13 +1,16 @@
-use Rattle.std.proofs.Common.{◌+◌, subst}
+use Rattle.std.proofs.Common.{◌-◌, subst}
 use Rattle.s4_names.specs.Drawn.{drawn_in}
-use Rattle.s4_state.specs.Stands.{base_in, freed_in, StandsFor}
+use Rattle.s4_state.specs.Counts.{made_count}
+use Rattle.s4_state.specs.Stands.{base_in, size_in, StandsFor}
+use Rattle.s4_state.proofs.Beginning.{all_made}
+use Rattle.s4_state.proofs.Fitted.{ended_made}
 use Rattle.s4_state.proofs.Sweeping.{stands_expired, stands_unnamed, still_ended, freed_both, one_after_other}
 use Rattle.s4_state.proofs.sweep.sweep.Given.{Over}
 use Rattle.s4_state.proofs.sweep.sweep.Goals as goal
 use Rattle.s4_state.proofs.sweep.sweep.Goals.{After-expire-arg-3-1}
 
 -- what is kept stands once values of objects are freed
-expired : (g : Over) (c : After-expire-arg-3-1 g) → StandsFor (base_in c.args.parts.now) (freed_in g.S.Store.chains c.args.parts.now + c.expire-values.result) (g.S.Store.chains c.expire-values.new.store) c.expire-values.new.self (drawn_in c.args.parts.now.names)
+expired : (g : Over) (c : After-expire-arg-3-1 g) → StandsFor (base_in c.args.parts.now) (size_in g.S.Store.chains c.args.parts.now - c.expire-values.result) (g.S.Store.chains c.expire-values.new.store) c.expire-values.new.self (drawn_in c.args.parts.now.names)
     c.args.parts.now.partitions c.args.parts.now.history.records
 expired g c =
     let e = c.expire-values.ensures in
@@ -21,13 +24,14 @@ expire-bindings-requires-clause-waits g c = (expired g c).partitions.waits
 
 pub returns-clause-freed : goal.returns-clause-freed
 returns-clause-freed g c =
-    freed_both c.args.most _ _ c.expire-values.result c.expire-bindings.result _ (freed_in g.S.Store.chains c.args.parts.now) c.expire-values.ensures.freed c.expire-bindings.ensures.freed
-    (still_ended c.requires.kept c.args.horizon c.requires.now)
+    let before = c.args.parts.now in
+    freed_both c.args.most _ _ c.expire-values.result c.expire-bindings.result _ _ (made_count before.history.records) (size_in g.S.Store.chains before) c.expire-values.ensures.freed c.expire-bindings.ensures.freed
+    (still_ended c.requires.kept c.args.horizon c.requires.now) (ended_made c.requires.kept c.args.horizon) (all_made before.window c.requires.kept.balance.keeps (made_count before.history.records))
 
 pub returns-clause-stands : goal.returns-clause-stands
 returns-clause-stands g c =
     let before = c.args.parts.now in
     let e = c.expire-bindings.ensures in
-    subst (λ freed. StandsFor (base_in before) freed (g.S.Store.chains c.expire-bindings.new.store) c.expire-values.new.self (drawn_in before.names) c.expire-bindings.new.self before.history.records)
-    (one_after_other (freed_in g.S.Store.chains before) c.expire-values.result c.expire-bindings.result)
+    subst (λ size. StandsFor (base_in before) size (g.S.Store.chains c.expire-bindings.new.store) c.expire-values.new.self (drawn_in before.names) c.expire-bindings.new.self before.history.records)
+    (one_after_other (size_in g.S.Store.chains before) c.expire-values.result c.expire-bindings.result)
     (stands_unnamed (expired g (goal.at.returns-clause-stands g c).After-expire-arg-3-1) c.args.horizon c.requires.now c.expire-bindings.result _ e.freed e.holds e.waits e.sweeps)
