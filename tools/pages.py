@@ -43,21 +43,30 @@ class Finding:
 
 @dataclass(frozen=True)
 class Block:
-    """A paragraph, an item of a list or a row of a table: its first line, its text, the heading above it, and whether it is fenced."""
+    """A paragraph, an item of a list or a row of a table: its first line, its text, the heading and the items that it stands under, and
+    whether it is fenced."""
 
     line: int
     text: str
     heading: str
+    above: str
     is_fenced: bool
+
+    def crates(self):
+        """The crates that are named here, or above."""
+        return list(dict.fromkeys(CRATE.findall(f"{self.heading} {self.above} {self.text}")))
 
 
 def blocks_of(text):
     """The blocks of a page."""
-    found, heading, rows, first, is_fenced = [], "", [], 1, False
+    found, heading, rows, first, is_fenced, items = [], "", [], 1, False, []
 
     def end():
         if rows:
-            found.append(Block(first, "\n".join(rows), heading, is_fenced))
+            indent, whole = len(rows[0]) - len(rows[0].lstrip()), "\n".join(rows)
+            items[:] = [it for it in items if it[0] < indent]
+            found.append(Block(first, whole, heading, "\n".join(it[1] for it in items), is_fenced))
+            items.append((indent, whole))
         rows.clear()
 
     for number, row in enumerate(text.split("\n"), 1):
@@ -156,21 +165,19 @@ def links(checkout, page, block):
 
 def files(checkout, block):
     """The names of files in a block's code that are none's."""
-    crates = list(dict.fromkeys(CRATE.findall(block.heading) + CRATE.findall(block.text)))
     spans = [(0, block.text)] if block.is_fenced else [(it.start(), it[1]) for it in SPAN.finditer(block.text)]
     for start, text in spans:
         for word in re.findall(r"[^\s,;()<>'\"]+", text):
             is_path = word.startswith(TOPS) or (not block.is_fenced and FILE_NAME.fullmatch(word) and word[0] not in ".*/")
             if (is_path or re.match(r"\./[a-z]", word)) and not word.startswith("docs/"):
-                yield start, checkout.file_fault(word, crates)
+                yield start, checkout.file_fault(word, block.crates())
 
 
 def clauses(checkout, block):
     """The clauses in italics that are none of what is named beside them."""
-    crates = dict.fromkeys(CRATE.findall(block.heading) + CRATE.findall(block.text))
     names = {name for span in SPAN.findall(block.text) for name in NAME.findall(span)}
     for it in ITALIC.finditer(block.text):
-        yield it.start(), checkout.clause_fault(it[1], list(crates), names)
+        yield it.start(), checkout.clause_fault(it[1], block.crates(), names)
 
 
 def faults_of_examples(checkout, page):
