@@ -1,10 +1,13 @@
 """Which definitions contracts reach: what a reader of a theorem has to believe, and what is inner."""
 import functools
 import re
+import subprocess
 from collections import defaultdict
+from itertools import takewhile
 from pathlib import Path
 
 from tools.clauses import contracts_of
+from tools.pages import Finding
 
 PAGE = "docs/TRUST.md"
 BEGIN, END = "<!-- definitions -->", "<!-- end of definitions -->"
@@ -166,6 +169,45 @@ def table(root):
         third = [it for it in modules if it not in first and it not in second]
         lines.append(f"| `{crate}` | {words(specs, first, believed)} | {words(specs, second, cited)} | {words(specs, third, set(specs.lines))} |")
     return "\n".join(lines)
+
+
+def ported(root):
+    """The crates of the kit that crates of the repository name, each with those that aren't crates of tests."""
+    below = {}
+    for line in (Path(root) / "crates.txt").read_text(encoding="utf-8").split("\n"):
+        name, found, named = line.partition("#")[0].partition(":")
+        if found:
+            below[name.split()[0]] = named.split()
+    used = defaultdict(set)
+    for name, named in below.items():
+        for it in named:
+            if it not in below and it != "core" and not it.startswith("std"):
+                used[it] |= set() if name.endswith("_tests") else {name}
+    return used
+
+
+def faults_of_ported(root, page):
+    """What the page of trust says wrongly of who uses the kit's ported crates."""
+    rows = {it[1]: set(re.findall(r"`(s4\w+)`", it[2])) for it in re.finditer(r"^\| (`\w+`(?:, `\w+`)*) \|(.*)", page, re.M)}
+    told = {name: crates for names, crates in rows.items() for name in re.findall(r"\w+", names) if not name.startswith("s4")}
+    used = ported(root)
+    for name in sorted(told.keys() | used.keys()):
+        if told.get(name) != used.get(name):
+            yield f"{name} of the kit is used by {', '.join(sorted(used.get(name, ()))) or 'no crate but tests'}"
+
+
+def wrong_trust(root):
+    """What the page of trust says wrongly of the definitions, of the kit's ported crates and, as README too, of the kit."""
+    page = (Path(root) / PAGE).read_text(encoding="utf-8")
+    kit = subprocess.run(["rt", "version"], capture_output=True, text=True, check=True).stdout.strip()
+    for it in ("README.md", PAGE):
+        if f"`{kit}`" not in (Path(root) / it).read_text(encoding="utf-8"):
+            yield Finding(it, 1, f"the kit is {kit}")
+    yield from (Finding(PAGE, 1, it) for it in faults_of_ported(root, page))
+    counted = with_table(root, page)
+    if counted != page:
+        same = sum(1 for _ in takewhile(lambda it: it[0] == it[1], zip(page.split("\n"), counted.split("\n"))))
+        yield Finding(PAGE, 1 + same, "this table is older than the definitions: call ./references --count, and commit what it writes")
 
 
 def with_table(root, page):
