@@ -56,7 +56,7 @@ def owner_at(lines, row):
 
 def contracts_of(text):
     """The contracts of a file, by the names of functions, alone and with their types, and of types: the clauses' names, and their text."""
-    lines, owner, names, is_open = text.split("\n"), "", [], False
+    lines, owner, names, depth = text.split("\n"), "", [], 0
     found = defaultdict(lambda: (set(), []))
     for row, line in enumerate(lines):
         owner = owner_at(lines, row) or owner
@@ -67,14 +67,12 @@ def contracts_of(text):
                 found[it]
         if invariant:
             names = [owner]
-        if clause or invariant:
-            is_open = True
-        if is_open:
+        if clause or invariant or depth > 0:
             name = clause[3] if clause else invariant[1] if invariant else None
             for it in names:
                 found[it][0].update({name} - {None})
                 found[it][1].append(line)
-            is_open = not line.rstrip().endswith(("}", "};"))
+            depth = (0 if clause or invariant else depth) + line.count("{") - line.count("}")
     return found
 
 
