@@ -6,6 +6,7 @@ use s4_arena::Arena;
 use s4_store::{Chain, NoMemory, Store};
 use std::alloc::Global;
 use std::cell::Cell;
+use std::process::Abort;
 use std::test::Fail;
 
 /// An item that counts how many were dropped.
@@ -47,17 +48,18 @@ fn open<'a>(
 }
 
 // Opens a chain without items, and closes it.
-fn open_and_close(arena: &mut Arena<Counted<'_>>) -> Result<(), NoMemory> {
+fn open_and_close(rt: &impl Abort, arena: &mut Arena<Counted<'_>>) -> Result<(), NoMemory> {
     let chain = arena.open()?;
+    assert_eq!(rt; arena.len(chain), 0);
     arena.close(chain);
     Ok(())
 }
 
 // An arena ends with three chains of 70 items. The second has the row of one that was closed.
-fn leave(alloc: Global, dropped: &Cell<u64>) -> Result<(), NoMemory> {
+fn leave(rt: &impl Abort, alloc: Global, dropped: &Cell<u64>) -> Result<(), NoMemory> {
     let mut arena = Arena::new(alloc);
     open(&mut arena, dropped, 70)?;
-    open_and_close(&mut arena)?;
+    open_and_close(rt, &mut arena)?;
     open(&mut arena, dropped, 70)?;
     open(&mut arena, dropped, 70)
 }
@@ -65,7 +67,7 @@ fn leave(alloc: Global, dropped: &Cell<u64>) -> Result<(), NoMemory> {
 #[test]
 fn items_that_are_left_are_dropped_once(rt: HostRuntime) -> Result<(), Fail> {
     let dropped = Cell::new(0);
-    leave(rt.alloc(), &dropped)?;
+    leave(&rt, rt.alloc(), &dropped)?;
     assert_eq!(rt; dropped.get(), 210);
     Ok(())
 }
