@@ -16,10 +16,13 @@ fn pass_of_another(alloc: Global) -> Result<Vec<Pass>, Fail> {
 
 // Makes the first call of a front, by the first of its passes.
 fn serve_first<R: Wait>(rt: &R, front: &Front<OpenGate>, passes: &mut [Pass]) -> Result<(), Fail> {
-    if !passes.is_empty() && is_made(rt, front, &mut passes[0], (7, 5), 1)? {
-        return Ok(());
+    if passes.is_empty() {
+        return Err("pass 0".into());
     }
-    Err("no first call".into())
+    if !is_made(rt, front, &mut passes[0], (7, 5), 1)? {
+        return Err("no first call".into());
+    }
+    Ok(())
 }
 
 // A front of one cell with one record, whose receipt is gone.
@@ -30,13 +33,12 @@ fn front_without_its_pass<R: Wait>(rt: &R, alloc: Global) -> Result<Front<OpenGa
 }
 
 // The reason of a fault, and how many records and passes it hands back.
-fn handed_back(fault: CloseFault<OpenGate>) -> (Why, Option<usize>, usize) {
-    let CloseFault { why, left, passes } = fault;
-    let records = match left {
+fn handed_back(fault: &CloseFault<OpenGate>) -> (Why, Option<usize>, usize) {
+    let records = match &fault.left {
         Left::Cells(cells) => cells.first().map(|cell| cell.history().len()),
         Left::Front(_) => None,
     };
-    (why, records, passes.len())
+    (fault.why, records, fault.passes.len())
 }
 
 // Why the passes don't close the front, and what is handed back.
@@ -45,7 +47,10 @@ fn unclosed(
     front: Front<OpenGate>,
     passes: Vec<Pass>,
 ) -> Option<(Why, Option<usize>, usize)> {
-    front.close(alloc, passes).map_err(handed_back).err()
+    match front.close(alloc, passes) {
+        Ok(_closed) => None,
+        Err(fault) => Some(handed_back(&fault)),
+    }
 }
 
 #[test]

@@ -93,10 +93,12 @@ fn serve_first<R: Wait>(
     a: &mut Pass,
     b: &mut Pass,
 ) -> Result<(), Fail> {
-    if is_made(rt, front, a, (7, 5), 1)? && is_made(rt, front, b, (8, 5), 1)? {
-        return Ok(());
+    let one = is_made(rt, front, a, (7, 5), 1)?;
+    let zero = is_made(rt, front, b, (8, 5), 1)?;
+    if !(one && zero) {
+        return Err("no first call in each cell".into());
     }
-    Err("no first call in each cell".into())
+    Ok(())
 }
 
 /// Makes a first call in each cell, and then arms the gate.
