@@ -26,6 +26,8 @@ def ended_well(ran):
     """Whether the run came to its end; else it has to say that there was no memory."""
     if ran.status < 0:
         raise Wrong(f"it is ended by signal {-ran.status}")
+    if not ran.told:
+        raise Wrong("it ended so that its allocations aren't told")
     if (ran.status, ran.errors) == (1, ENDED):
         return False
     if (ran.status, ran.errors) != (0, b""):
@@ -81,6 +83,7 @@ class Judge:
 
     def judge(self, ran):
         """Raises why the run isn't right, where it isn't."""
+        ended_well(ran)
         refused = self.refused(ran.output)
         if len(refused) > ran.met():
             raise Wrong(f"{len(refused)} requests are refused, and only {ran.met()} allocations were")

@@ -44,6 +44,10 @@ class Ran:
     def met(self):
         return self.told.get("refusals", 0)
 
+    def met_none(self):
+        """Whether the library told that nothing was refused. It tells nothing of a run that a signal ended."""
+        return self.told.get("refusals") == 0
+
 
 def compiled(source, to, *flags):
     """Compiles a C file to this path."""
@@ -66,7 +70,7 @@ class Program:
     def __init__(self, path, room):
         self.path, self.room, self.own = Path(path).resolve(), Path(room), threading.local()
         self.library = compiled(HERE / "refuse.c", self.room / "refuse.so", "-shared", "-fPIC")
-        self.runs, self.alone = 0, threading.Lock()
+        self.seconds, self.runs, self.alone = SECONDS, 0, threading.Lock()
 
     def place(self):
         """The folder of this thread's runs."""
@@ -84,7 +88,7 @@ class Program:
 
     def environment(self, tells, words):
         kept = {it: os.environ[it] for it in ("PATH", "HOME", "LANG") if it in os.environ}
-        return kept | {"LD_PRELOAD": str(self.library), "REFUSE_TELL": str(tells), "REFUSE_SECONDS": str(SECONDS)} | words
+        return kept | {"LD_PRELOAD": str(self.library), "REFUSE_TELL": str(tells), "REFUSE_SECONDS": str(self.seconds)} | words
 
     def start(self, words, given, environment, place):
         """Starts the program with this file as its input, and returns its number."""

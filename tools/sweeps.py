@@ -61,13 +61,14 @@ class Sweeper:
         """Refuses so many allocations at a time."""
         numbers, whole = self.numbers(row, swept.allocations)
         runs = self.pool.map(lambda it: self.tried(judge, given, Refusal(it, count)), numbers)
-        swept.tried[count], swept.met[count] = len(numbers), 0
+        swept.tried[count], swept.met[count], unmet = len(numbers), 0, 0
         for ran, why, refusal in runs:
             swept.met[count] += ran.met() > 0
+            unmet += ran.met_none()
             if why:
                 swept.wrong.append(f"{swept.name}, {refusal} refused: {why}")
-        if swept.met[count] < len(numbers):
-            swept.wrong.append(f"{swept.name}: only {swept.met[count]} of {len(numbers)} refusals were met")
+        if unmet:
+            swept.wrong.append(f"{swept.name}: {unmet} of {len(numbers)} refusals weren't met")
         while whole and ran_on(self, judge, given, count, swept):
             pass
 
