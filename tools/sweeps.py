@@ -1,13 +1,15 @@
 """Each allocation of a row's run refused in turn, alone and with the next one."""
+import os
 from concurrent.futures import ThreadPoolExecutor
 from dataclasses import dataclass, field
 
 from tools.judging import JUDGES, Wrong
 from tools.refusing import Refusal
 
-# Of how many allocations of a large row each kind of refusal is tried, and of how many of each row when it is to be quick.
-SPREAD = 500
-QUICK = 6
+# Of how many allocations of a large row each kind of refusal is tried, and of how many of each row when it is to be quick; of fewer where
+# all runs together would take more lines than these.
+SPREAD, SPREAD_LINES = 500, 1_500_000
+QUICK, QUICK_LINES = 6, 100_000
 
 
 @dataclass
@@ -29,7 +31,7 @@ def spread(most, count):
     """So many numbers from 1 to the most, evenly spread; all where there are no more."""
     if most <= count:
         return list(range(1, most + 1))
-    return sorted({1 + it * (most - 1) // (count - 1) for it in range(count)})
+    return sorted({1 + (2 * it + 1) * (most - 1) // (2 * count) for it in range(count)})
 
 
 class Sweeper:
@@ -39,11 +41,15 @@ class Sweeper:
         self.program, self.quick = program, quick
         self.pool = ThreadPoolExecutor(jobs)
 
-    def numbers(self, row, allocations):
-        """Which allocations are refused, and whether these are all."""
+    def numbers(self, row, judge, allocations):
+        """Which allocations are refused, and whether these are all. A quick sweep leaves out those of an empty text's run, where there are others."""
+        lines = 1 + row.given.count(b"\n")
         if self.quick:
-            return spread(allocations, QUICK), allocations <= QUICK
-        return spread(allocations, SPREAD if row.is_large() else allocations), not row.is_large() or allocations <= SPREAD
+            first = self.program.run(judge.words(), os.devnull).told.get("allocations", 0) % allocations
+            chosen = spread(allocations - first, max(1, min(QUICK, QUICK_LINES // lines)))
+            return [first + it for it in chosen], False
+        count = min(SPREAD, SPREAD_LINES // lines) if row.is_large() else allocations
+        return spread(allocations, count), allocations <= count
 
     def sweep(self, row):
         """Sweeps a row."""
@@ -52,6 +58,9 @@ class Sweeper:
         judge, swept = JUDGES[row.kind](self.program, row, logins), Swept(str(row))
         ample = self.program.run(judge.words(), given)
         swept.allocations = ample.told.get("allocations", 0)
+        if not swept.allocations:
+            swept.wrong.append(f"{swept.name}: the program asks for no memory that the library sees")
+            return swept
         self.tell(swept, "with ample memory", lambda: judge.judge(ample))
         for count in (1, 2):
             self.sweep_by(count, row, judge, given, swept)
@@ -59,7 +68,7 @@ class Sweeper:
 
     def sweep_by(self, count, row, judge, given, swept):
         """Refuses so many allocations at a time."""
-        numbers, whole = self.numbers(row, swept.allocations)
+        numbers, whole = self.numbers(row, judge, swept.allocations)
         runs = self.pool.map(lambda it: self.tried(judge, given, Refusal(it, count)), numbers)
         swept.tried[count], swept.met[count], unmet = len(numbers), 0, 0
         for ran, why, refusal in runs:
