@@ -3,8 +3,7 @@
 //   REFUSE_FROM=N     refuses the Nth allocation, counted from 1 once the program begins; 0 or nothing refuses none
 //   REFUSE_COUNT=K    and the K - 1 that come next
 //   REFUSE_THREAD=T   counts and refuses those of one thread alone: 0 is the first, the others in the order in which they're made
-//   REFUSE_AFTER=FILE counts and refuses only once this file is there
-//   REFUSE_SECONDS=S  ends the program by a signal after so many seconds
+//   REFUSE_SECONDS=S  ends the program by SIGALRM after so many seconds
 //   REFUSE_TELL=FILE  writes to this file at the program's end what was counted, a line 'NAME VALUE' for each
 //   REFUSE_MEASURE=1  measures bytes too
 #define _GNU_SOURCE
@@ -12,6 +11,7 @@
 #include <errno.h>
 #include <fcntl.h>
 #include <pthread.h>
+#include <signal.h>
 #include <stdint.h>
 #include <stdlib.h>
 #include <string.h>
@@ -32,8 +32,9 @@ typedef unsigned long long number;
 static int ready, told, measuring;
 static number from, count = 1;
 static int only_thread = -1;
-static const char *tell_to, *after;
-static number allocations, all_allocations, met, asked, held, most_held, growths, worst_asked, worst_needed;
+static const char *tell_to;
+static number allocations, by_thread[THREADS], met, asked, held, most_held, growths, worst_asked, worst_needed;
+static number not_made;
 static int next_thread = 1;
 static __thread int thread __attribute__((tls_model("initial-exec")));
 
@@ -100,16 +101,9 @@ static int refused(void)
     number it;
     if (!__atomic_load_n(&ready, __ATOMIC_ACQUIRE))
         return 0;
-    __atomic_add_fetch(&all_allocations, 1, __ATOMIC_RELAXED);
+    __atomic_add_fetch(&by_thread[thread], 1, __ATOMIC_RELAXED);
     if (only_thread >= 0 && thread != only_thread)
         return 0;
-    if (after) {
-        int saved = errno;
-        if (access(after, F_OK)) {
-            errno = saved;
-            return 0;
-        }
-    }
     it = __atomic_add_fetch(&allocations, 1, __ATOMIC_RELAXED);
     if (!from || it < from || it >= from + count)
         return 0;
@@ -217,12 +211,12 @@ static char *written(char *to, const char *name, number value)
 // Writes what was counted, once.
 static void tell(void)
 {
-    char text[512], *to = text;
+    static char text[1024 + 48 * THREADS];
+    char name[] = "thread_000", *to = text;
     int file;
     if (!tell_to || __atomic_exchange_n(&told, 1, __ATOMIC_ACQ_REL))
         return;
     to = written(to, "allocations", allocations);
-    to = written(to, "all_allocations", all_allocations);
     to = written(to, "refusals", met);
     to = written(to, "asked", asked);
     to = written(to, "most_held", most_held);
@@ -230,7 +224,13 @@ static void tell(void)
     to = written(to, "growths", growths);
     to = written(to, "worst_growth_asked", worst_asked);
     to = written(to, "worst_growth_had", worst_needed);
-    to = written(to, "threads", (number)next_thread);
+    to = written(to, "threads_not_made", not_made);
+    for (int it = 0; it < next_thread && it < THREADS; it++) {
+        name[7] = (char)('0' + it / 100);
+        name[8] = (char)('0' + it / 10 % 10);
+        name[9] = (char)('0' + it % 10);
+        to = written(to, name, by_thread[it]);
+    }
     file = open(tell_to, O_WRONLY | O_CREAT | O_TRUNC | O_CLOEXEC, 0600);
     if (file < 0 || write(file, text, (size_t)(to - text)) != to - text)
         abort();
@@ -242,6 +242,14 @@ void _exit(int status)
     tell();
     syscall(SYS_exit_group, status);
     __builtin_unreachable();
+}
+
+// A signal ends the program: what was counted by then is told.
+static void end_by(int signal_number)
+{
+    tell();
+    signal(signal_number, SIG_DFL);
+    raise(signal_number);
 }
 
 // Threads are numbered as they're made.
@@ -264,7 +272,10 @@ int pthread_create(pthread_t *made, const pthread_attr_t *with, void *(*start)(v
         abort();
     starts[it].start = start;
     starts[it].given = given;
-    return create(made, with, begin, (void *)(intptr_t)it);
+    it = create(made, with, begin, (void *)(intptr_t)it);
+    if (it)
+        __atomic_add_fetch(&not_made, 1, __ATOMIC_RELAXED);
+    return it;
 }
 
 static number number_in(const char *name, number standard)
@@ -280,7 +291,8 @@ __attribute__((constructor)) static void start(void)
     only_thread = (int)number_in("REFUSE_THREAD", (number)-1);
     measuring = number_in("REFUSE_MEASURE", 0) != 0;
     tell_to = getenv("REFUSE_TELL");
-    after = getenv("REFUSE_AFTER");
+    signal(SIGALRM, end_by);
+    signal(SIGTERM, end_by);
     alarm((unsigned)number_in("REFUSE_SECONDS", 0));
     __atomic_store_n(&ready, 1, __ATOMIC_RELEASE);
 }

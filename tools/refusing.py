@@ -1,4 +1,5 @@
 """Runs of a program in which allocations are refused, from outside."""
+import contextlib
 import os
 import shutil
 import subprocess
@@ -43,6 +44,14 @@ class Ran:
 
     def met(self):
         return self.told.get("refusals", 0)
+
+    def by_thread(self):
+        """How many allocations each thread asked for."""
+        return {int(name[7:]): count for name, count in self.told.items() if name.startswith("thread_")}
+
+    def threads_made(self):
+        """How many threads were made beside the first."""
+        return len(self.by_thread()) - 1 - self.told.get("threads_not_made", 0)
 
     def met_none(self):
         """Whether the library told that nothing was refused. It tells nothing of a run that a signal ended."""
@@ -109,6 +118,44 @@ class Program:
         with self.alone:
             self.runs += 1
         return Ran(os.waitstatus_to_exitcode(ended), (place / "output").read_bytes(), (place / "errors").read_bytes(), told_in(tells))
+
+
+    def open(self, words, refusal):
+        """Starts the program, with nothing as its input, and gives what it writes as it comes."""
+        return Opened(self, words, refusal)
+
+
+class Opened:
+    """A program that runs, and whose output is read meanwhile."""
+
+    def __init__(self, program, words, refusal):
+        self.program, self.place = program, program.place()
+        self.tells = self.place / "tells"
+        self.tells.unlink(missing_ok=True)
+        with open(self.place / "errors", "wb") as errors:
+            self.process = subprocess.Popen(
+                [program.path, *words], stdin=subprocess.DEVNULL, stdout=subprocess.PIPE, stderr=errors, env=program.environment(self.tells, refusal.words())
+            )
+        self.output = b""
+
+    def line(self):
+        """The next line; nothing at the output's end."""
+        line = self.process.stdout.readline()
+        self.output += line
+        return line
+
+    def end(self, by_force=False):
+        """How it ended, once it has, or is made to."""
+        if by_force:
+            with contextlib.suppress(subprocess.TimeoutExpired):
+                self.process.wait(timeout=1)
+            self.process.terminate()
+        with self.process.stdout:
+            self.output += self.process.stdout.read()
+        status = self.process.wait()
+        with self.program.alone:
+            self.program.runs += 1
+        return Ran(status, self.output, (self.place / "errors").read_bytes(), told_in(self.tells))
 
 
 def built_program(root):

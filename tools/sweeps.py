@@ -21,6 +21,7 @@ class Swept:
     met: dict = field(default_factory=dict)
     tried: dict = field(default_factory=dict)
     wrong: list = field(default_factory=list)
+    known: dict = field(default_factory=dict)
 
     def line(self):
         runs = " and ".join(f"{self.met[it]} refusals met {'alone' if it == 1 else 'in pairs'}" for it in sorted(self.met))
