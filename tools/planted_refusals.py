@@ -2,6 +2,7 @@
 import tempfile
 from pathlib import Path
 
+from tools.growth import KINDS, grown
 from tools.refusing import HERE, Program, compiled
 from tools.rows import Row
 from tools.sweeps import Sweeper
@@ -38,15 +39,42 @@ def faults_of(name, wanted, seen, swept):
     return []
 
 
+# How the vector of wrong_growth.c grows, by its number there, and a word of what has to be said of it.
+GROWTHS = {
+    "twofold": None,
+    "by a hundred": "are asked for in all",
+    "fourfold": "asks for twice as many",
+    "fourfold by new blocks": "asks for twice as many",
+    "twofold by new blocks": None,
+}
+
+
+def compiled_to(room, source, name, number):
+    """A planted program, in a folder of its own."""
+    place = Path(room) / f"{name}-{number}"
+    place.mkdir()
+    return Program(compiled(HERE / source, place / "program", f"-D{name}={number}", "-fno-builtin"), place)
+
+
+def faults_of_growths(room):
+    """What isn't said of a planted growth, though it should be, or is said though it shouldn't."""
+    faults = []
+    for number, (name, wanted) in enumerate(GROWTHS.items()):
+        said = grown(compiled_to(room, "wrong_growth.c", "GROWTH", number), KINDS[0]).wrong
+        if bool(wanted) != bool(said) or not all(wanted in it for it in said):
+            faults.append(f"of a vector that grows {name} is said: {said}")
+    return faults
+
+
 def self_test(jobs):
     """Tries what is planted. Returns whether each mistake is found, and nothing in the program without one."""
     faults = []
     with tempfile.TemporaryDirectory(prefix="refusals-") as room:
         for number, (name, (wanted, seen)) in enumerate(PLANTS.items()):
-            place = Path(room) / str(number)
-            place.mkdir()
-            program = Program(compiled(HERE / "wrong_program.c", place / "program", f"-DMISTAKE={number}", "-fno-builtin-malloc"), place)
+            program = compiled_to(room, "wrong_program.c", "MISTAKE", number)
             program.seconds = 1
             faults += faults_of(name, wanted, seen, Sweeper(program, jobs).sweep(planted_row(name)))
-    print("\n".join(f"refusals: {it}" for it in faults) or f"refusals: {len(PLANTS) - 1} planted mistakes are found, and none in a right program")
+        faults += faults_of_growths(room)
+    count = len(PLANTS) - 1 + sum(wanted is not None for wanted in GROWTHS.values())
+    print("\n".join(f"refusals: {it}" for it in faults) or f"refusals: {count} planted mistakes are found, and none in right programs")
     return not faults

@@ -33,7 +33,7 @@ static int ready, told, measuring;
 static number from, count = 1;
 static int only_thread = -1;
 static const char *tell_to;
-static number allocations, by_thread[THREADS], met, asked, held, most_held, growths, worst_asked, worst_needed;
+static number allocations, by_thread[THREADS], met, asked, held, most_held, growths, most_beyond, beyond_had;
 static number not_made;
 static int next_thread = 1;
 static __thread int thread __attribute__((tls_model("initial-exec")));
@@ -42,6 +42,10 @@ static __thread int thread __attribute__((tls_model("initial-exec")));
 static struct { uintptr_t at; size_t size; } blocks[PLACES];
 static number used_places;
 static int lock;
+// The block that was asked for last, where none was given back since. One of at least so many bytes that is given back then is one that grew.
+static void *newest;
+static size_t newest_size;
+#define LARGE 1024
 
 static void enter(void)
 {
@@ -92,6 +96,8 @@ static void measure(void *block, size_t size)
         return;
     enter();
     hold(block, size);
+    newest = block;
+    newest_size = size;
     leave();
 }
 
@@ -126,15 +132,15 @@ void *calloc(size_t items, size_t size)
     return block;
 }
 
-// A vector that grows asks for a block in the place of its own. How many bytes it asks for is compared with how many it had.
+// Something grows: it asks for a block in the place of its own, by realloc or by a new block just before it gives back its own. How many bytes
+// it asks for is compared with twice those that it had.
 static void grown(size_t old, size_t size)
 {
     if (old && size > old) {
         growths++;
-        // (the first with the greatest share, by multiplication)
-        if (!worst_needed || (__uint128_t)size * worst_needed > (__uint128_t)worst_asked * old) {
-            worst_asked = size;
-            worst_needed = old;
+        if (size > 2 * old && size - 2 * old > most_beyond) {
+            most_beyond = size - 2 * old;
+            beyond_had = old;
         }
     }
 }
@@ -183,8 +189,12 @@ int posix_memalign(void **block, size_t align, size_t size)
 void free(void *block)
 {
     if (measuring && block) {
+        size_t size;
         enter();
-        let_go(block);
+        size = let_go(block);
+        if (newest && newest != block && size >= LARGE)
+            grown(size, newest_size);
+        newest = NULL;
         __libc_free(block);
         leave();
         return;
@@ -222,8 +232,8 @@ static void tell(void)
     to = written(to, "most_held", most_held);
     to = written(to, "held", held);
     to = written(to, "growths", growths);
-    to = written(to, "worst_growth_asked", worst_asked);
-    to = written(to, "worst_growth_had", worst_needed);
+    to = written(to, "most_beyond_twice", most_beyond);
+    to = written(to, "most_beyond_twice_of", beyond_had);
     to = written(to, "threads_not_made", not_made);
     for (int it = 0; it < next_thread && it < THREADS; it++) {
         name[7] = (char)('0' + it / 100);

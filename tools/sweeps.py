@@ -22,8 +22,11 @@ class Swept:
     tried: dict = field(default_factory=dict)
     wrong: list = field(default_factory=list)
     known: dict = field(default_factory=dict)
+    told: str = ""
 
     def line(self):
+        if self.told:
+            return f"{self.name}: {self.told}"
         runs = " and ".join(f"{self.met[it]} refusals met {'alone' if it == 1 else 'in pairs'}" for it in sorted(self.met))
         return f"{self.name}: {runs or 'no refusals met'}, of {self.allocations} allocations"
 
