@@ -72,7 +72,7 @@ def self_test(jobs):
     with tempfile.TemporaryDirectory(prefix="refusals-") as room:
         for number, (name, (wanted, seen)) in enumerate(PLANTS.items()):
             program = compiled_to(room, "wrong_program.c", "MISTAKE", number)
-            program.seconds = 1
+            program.seconds = 3 if name == "it never ends" else program.seconds
             faults += faults_of(name, wanted, seen, Sweeper(program, jobs).sweep(planted_row(name)))
         faults += faults_of_growths(room)
     count = len(PLANTS) - 1 + sum(wanted is not None for wanted in GROWTHS.values())

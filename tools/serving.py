@@ -1,5 +1,6 @@
 """Each allocation of each thread of a server refused in turn, while clients ask it."""
 import itertools
+import random
 import socket
 import struct
 from concurrent.futures import ThreadPoolExecutor
@@ -15,8 +16,9 @@ WINDOW = 1_000_000_000
 WELCOME = bytes.fromhex("000000021001")
 # How long a client waits for an answer, in seconds.
 PATIENCE = 10
-PORT = 24_710
-ADDRESSES = itertools.count(1)
+# Where servers listen: each has an address of its own on this machine, and two commands that run at once another port.
+PORT = random.randrange(20_000, 30_000)
+ADDRESSES = itertools.count(random.randrange(1, 1 << 23))
 
 
 def object_of(who):
