@@ -115,13 +115,16 @@ impl Charges {
             ≡ spending purse.now (charges_of self.now.entries) }
     {
         let mut ended = 0;
-        for entry in self.queue.iter() {
+        let mut index = 0;
+        while index < self.queue.len() {
+            let entry = &self.queue[index];
             if entry.end > horizon {
                 return ended;
             }
             if entry.payer.purse == *purse {
                 ended += entry.cost;
             }
+            index += 1;
         }
         ended
     }
@@ -144,11 +147,11 @@ impl Charges {
     {
         let mut index = self.queue.partition_point(|entry| entry.end < charge.end);
         while index < self.queue.len() {
-            let entry = self.queue[index];
+            let entry = &self.queue[index];
             if entry.end > charge.end {
                 return None;
             }
-            if is_charge(&entry, charge) {
+            if is_charge(entry, charge) {
                 return Some(index);
             }
             index += 1;

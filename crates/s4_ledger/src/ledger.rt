@@ -97,11 +97,7 @@ impl Ledger {
         ensures charges { self.new.charges ≡ self.old.charges }
         ensures room { self.new.room ≡ self.old.room }
     {
-        let place = self.accounts.open(purse)?;
-        Ok(Payer {
-            purse: *purse,
-            place,
-        })
+        self.accounts.open(purse)
     }
 
     /// The charges whose end is at most the horizon no longer count, and their room serves again. Takes
@@ -114,7 +110,7 @@ impl Ledger {
         ensures room { self.old.room ≤ self.new.room }
     {
         while let Some(entry) = self.charges.take_ended(horizon) {
-            self.accounts.subtract(entry.payer, entry.cost);
+            self.accounts.subtract(&entry.payer, entry.cost);
         }
         self.horizon = horizon;
     }
@@ -176,13 +172,13 @@ impl Ledger {
 
     /// Adds a charge of the payer's purse, in the room that was made for it. One whose end is at most the
     /// horizon doesn't count, needs no room and changes nothing. Takes no memory.
-    pub fn charge(&mut self, payer: Payer, end: Moment, cost: u32)
+    pub fn charge(&mut self, payer: &Payer, end: Moment, cost: u32)
         requires costs { 0 < cost }
-        requires account { HasAccount payer self.old.budgets }
+        requires account { HasAccount payer.now self.old.budgets }
         requires reserved { self.old.horizon < end → 0 < self.old.room }
-        requires room { spending payer.purse self.old.charges + cost ≤ budget_of payer.purse self.old.budgets }
+        requires room { spending payer.now.purse self.old.charges + cost ≤ budget_of payer.now.purse self.old.budgets }
         ensures counts { self.old.horizon < end
-            → IsPermutation (record { purse = payer.purse; end = end; cost = cost } ∷ self.old.charges) self.new.charges }
+            → IsPermutation (record { purse = payer.now.purse; end = end; cost = cost } ∷ self.old.charges) self.new.charges }
         ensures idle { end ≤ self.old.horizon → self.new.charges ≡ self.old.charges }
         ensures horizon { self.new.horizon ≡ self.old.horizon }
         ensures budgets { self.new.budgets ≡ self.old.budgets }
@@ -192,7 +188,11 @@ impl Ledger {
             return;
         }
         self.accounts.add(payer, cost);
-        self.charges.put(Entry { end, payer, cost });
+        self.charges.put(Entry {
+            end,
+            payer: *payer,
+            cost,
+        });
     }
 
     /// Takes out one charge of this purse, end and cost. Where the end is at most the horizon none
@@ -215,7 +215,7 @@ impl Ledger {
             end,
             cost,
         });
-        self.accounts.subtract(payer, cost);
+        self.accounts.subtract(&payer, cost);
     }
 
     /// The purse may spend this from now on, in bytes. It may be less than it spends. Where memory is
@@ -234,8 +234,8 @@ impl Ledger {
         ensures charges { self.new.charges ≡ self.old.charges }
         ensures reserved { self.new.room ≡ self.old.room }
     {
-        let payer = self.open(purse)?;
-        self.accounts.set_budget(payer, budget);
+        let payer = self.accounts.open(purse)?;
+        self.accounts.set_budget(&payer, budget);
         Ok(())
     }
 
