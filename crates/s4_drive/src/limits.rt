@@ -43,12 +43,13 @@ impl Limits {
         }
     }
 
-    /// Makes room for what an accepted record changes here: for the charges of what it makes past, and
-    /// for the budget that it sets. It tells who is charged, if anyone is. A refused one changes nothing
-    /// here, and a wide request's needs no room.
+    /// Makes room for what an accepted record changes here, the charges of what it makes past and the
+    /// budget that it sets, and tells who is charged, if anyone is. A refused one changes nothing here,
+    /// and a wide request's needs no room.
     pub fn reserve(&mut self, added: &Record, past: Past) -> Result<Option<Payer>, NoMemory>
         ensures payer { is_refused added.now.reply ≡ false
-            → IfOk result (λ payer. Pays payer (purse_of added.now.caller added.now.request) (costs_of past) self.new.ledger) }
+            → IfOk result (λ payer. Pays payer (purse_of added.now.caller added.now.request)
+            (costs_of past) self.new.ledger) }
         ensures budget { is_refused added.now.reply ≡ false → OnOk result (HasBudget added.now.request self.new.ledger.budgets) }
         ensures stand { (base : Base) (h : List Record) → LimitsStand base h self.old → LimitsStand base h self.new }
         ensures wide { is_wide added.now.caller added.now.request ≡ true → IsOk result }
@@ -121,7 +122,8 @@ fn open_budget(ledger: &mut Ledger, request: &Request) -> Result<(), NoMemory>
     ensures wide { (caller : Caller) → is_wide caller request.now ≡ true → IsOk result }
     ensures horizon { ledger.new.horizon ≡ ledger.old.horizon }
     ensures charges { ledger.new.charges ≡ ledger.old.charges }
-    ensures budgets { (p : Purse) → books.budget_of p ledger.new.budgets ≡ books.budget_of p ledger.old.budgets }
+    ensures budgets { (p : Purse) → books.budget_of p ledger.new.budgets
+        ≡ books.budget_of p ledger.old.budgets }
 {
     match request {
         Request::SetBudget { purse, .. } => {
@@ -137,8 +139,10 @@ fn reserve(ledger: &mut Ledger, purse: &Purse, past: Past) -> Result<Option<Paye
     ensures payer { IfOk result (λ payer. Pays payer (Some purse.now) (costs_of past) ledger.new) }
     ensures horizon { ledger.new.horizon ≡ ledger.old.horizon }
     ensures charges { ledger.new.charges ≡ ledger.old.charges }
-    ensures budgets { (p : Purse) → books.budget_of p ledger.new.budgets ≡ books.budget_of p ledger.old.budgets }
-    ensures accounts { (p : Purse) → books.has_budget p ledger.old.budgets ≡ true → books.has_budget p ledger.new.budgets ≡ true }
+    ensures budgets { (p : Purse) → books.budget_of p ledger.new.budgets
+        ≡ books.budget_of p ledger.old.budgets }
+    ensures accounts { (p : Purse) → books.has_budget p ledger.old.budgets ≡ true
+        → books.has_budget p ledger.new.budgets ≡ true }
 {
     let count = past.count();
     if count == 0 {

@@ -13,7 +13,7 @@ use std::marker::Model;
 /// What a purse may spend until `Ledger::set_budget` tells another budget, in bytes.
 pub const DEFAULT_BUDGET: u32 = 65536;
 
-/// A purse that has an account, and the place of it among the accounts of its ledger. It stays there.
+/// A purse that has an account, and the place of it among those of its ledger. It stays there.
 #[derive(Clone, Copy, Debug)]
 pub struct Payer {
     pub purse: Purse,
@@ -33,8 +33,8 @@ const FRESH: Account = Account {
     budget: DEFAULT_BUDGET,
 };
 
-/// The accounts of the purses, in the order in which they were opened. A purse that has none has spent
-/// nothing, and may spend the default.
+/// The accounts of the purses, in the order in which they were opened. A purse that has none has
+/// spent nothing, and may spend the default.
 #[derive(Drop)]
 pub struct Accounts {
     places: BTreeMap<Purse, usize>,
@@ -138,9 +138,11 @@ impl Accounts {
     pub fn set_budget(&mut self, payer: &Payer, budget: u32)
         requires open { HasAccount payer.now (budgets_of self.old) }
         ensures set { (p : Purse) → budget_of p (budgets_of self.new)
-            ≡ (if same_purse payer.now.purse p then budget else budget_of p (budgets_of self.old)) }
+            ≡ (if same_purse payer.now.purse p then budget
+            else budget_of p (budgets_of self.old)) }
         ensures spent { (p : Purse) → spent_in p self.new ≡ spent_in p self.old }
-        ensures places { (p : Purse) → place_of p (budgets_of self.new) ≡ place_of p (budgets_of self.old) }
+        ensures places { (p : Purse) → place_of p (budgets_of self.new)
+            ≡ place_of p (budgets_of self.old) }
     {
         self.accounts[payer.place].1.budget = budget;
     }

@@ -16,8 +16,8 @@ use std::alloc::Global;
 use std::collections::VecDeque;
 use std::marker::Model;
 
-/// The charges in the order of their ends, with those among them that were forgiven and wait for their
-/// end.
+/// The charges in the order of their ends, with those among them that were forgiven and wait for
+/// their end.
 #[derive(Drop)]
 pub struct Charges {
     queue: VecDeque<Entry>,
@@ -65,7 +65,8 @@ impl Charges {
     pub fn put(&mut self, entry: Entry)
         requires costs { 0 < entry.cost }
         requires room { 0 < self.old.room }
-        ensures charges { IsPermutation (charge_of entry ∷ charges_of self.old.entries) (charges_of self.new.entries) }
+        ensures charges { IsPermutation (charge_of entry ∷ charges_of self.old.entries)
+            (charges_of self.new.entries) }
         ensures payers { (p : Payer) → Contains (payers_of self.new.entries) p
             → Contains (entry.payer ∷ payers_of self.old.entries) p }
         ensures room { self.old.room ≤ self.new.room + 1 }
@@ -82,7 +83,8 @@ impl Charges {
     /// Takes out one such charge, and tells who paid for it.
     pub fn take_out(&mut self, charge: &Charge) -> Payer
         requires { Contains (charges_of self.old.entries) charge.now }
-        ensures charges { IsPermutation (charges_of self.old.entries) (charge.now ∷ charges_of self.new.entries) }
+        ensures charges { IsPermutation (charges_of self.old.entries)
+            (charge.now ∷ charges_of self.new.entries) }
         ensures payers { payers_of self.new.entries ≡ payers_of self.old.entries }
         ensures payer { Contains (payers_of self.old.entries) result }
         ensures purse { result.purse ≡ charge.now.purse }
@@ -98,7 +100,8 @@ impl Charges {
         ensures taken { IfSome result (λ e. self.old.entries ≡ e ∷ self.new.entries) }
         ensures ended { IfSome result (λ e. e.end ≤ horizon) }
         ensures none { IfNone result (self.new ≡ self.old) }
-        ensures lasting { IfNone result (lasting horizon (charges_of self.old.entries) ≡ charges_of self.old.entries) }
+        ensures lasting { IfNone result (lasting horizon (charges_of self.old.entries)
+            ≡ charges_of self.old.entries) }
         ensures room { self.old.room ≤ self.new.room }
     {
         let first = self.queue.front()?;
@@ -143,7 +146,8 @@ impl Charges {
     fn find(&self, charge: &Charge) -> Option<usize>
         ensures found { IsSome result ↔ Contains (charges_of self.now.entries) charge.now }
         ensures within { IfSome result (λ i. i < length self.now.entries) }
-        ensures here { IfSome result (HoldsAt (λ e. counts_as charge.now e ≡ true) self.now.entries) }
+        ensures here { IfSome result
+            (HoldsAt (λ e. counts_as charge.now e ≡ true) self.now.entries) }
     {
         let mut index = self.queue.partition_point(|entry| entry.end < charge.end);
         while index < self.queue.len() {

@@ -45,8 +45,8 @@ impl Model for Ledger {
 }
 
 impl Ledger {
-    /// The horizon is at moment 0, there are no charges and no accounts, and each budget is the default.
-    /// Takes no memory.
+    /// The horizon is at moment 0, there are no charges and no accounts, and each budget is the
+    /// default. Takes no memory.
     pub fn new(alloc: Global) -> Ledger
         ensures horizon { result.horizon ≡ 0 }
         ensures charges { result.charges ≡ [] }
@@ -79,20 +79,23 @@ impl Ledger {
         self.charges.reserve(more)
     }
 
-    /// Opens an account for the purse, if it has none, and tells its place: so a purse is looked for once
-    /// to be charged several times. Its budget stays as it is, and setting it takes no memory then.
-    /// Where memory is refused, nothing changes.
+    /// Opens an account for the purse, if it has none, and tells its place: so it is looked for once,
+    /// and charged several times. Its budget stays as it is, and setting it takes no memory then. Where
+    /// memory is refused, nothing changes.
     pub fn open(&mut self, purse: &Purse) -> Result<Payer, NoMemory>
         ensures payer { IfOk result (λ payer. payer.purse ≡ purse.now) }
         ensures place { IfOk result (λ payer. HasAccount payer self.new.budgets) }
         ensures ok { OnOk result (has_budget purse.now self.new.budgets ≡ true) }
         ensures there { has_budget purse.now self.old.budgets ≡ true → IsOk result }
         ensures err { OnErr result (self.new.budgets ≡ self.old.budgets) }
-        ensures budgets { (p : Purse) → budget_of p self.new.budgets ≡ budget_of p self.old.budgets }
-        ensures accounts { (p : Purse) → has_budget p self.old.budgets ≡ true → has_budget p self.new.budgets ≡ true }
+        ensures budgets { (p : Purse) → budget_of p self.new.budgets
+            ≡ budget_of p self.old.budgets }
+        ensures accounts { (p : Purse) → has_budget p self.old.budgets ≡ true
+            → has_budget p self.new.budgets ≡ true }
         ensures others { (p : Purse) → same_purse purse.now p ≡ false
             → has_budget p self.new.budgets ≡ has_budget p self.old.budgets }
-        ensures places { (p : Payer) → HasAccount p self.old.budgets → HasAccount p self.new.budgets }
+        ensures places { (p : Payer) → HasAccount p self.old.budgets
+            → HasAccount p self.new.budgets }
         ensures horizon { self.new.horizon ≡ self.old.horizon }
         ensures charges { self.new.charges ≡ self.old.charges }
         ensures room { self.new.room ≡ self.old.room }
@@ -100,8 +103,8 @@ impl Ledger {
         self.accounts.open(purse)
     }
 
-    /// The charges whose end is at most the horizon no longer count, and their room serves again. Takes
-    /// no memory.
+    /// The charges whose end is at most the horizon no longer count, and their room serves again.
+    /// Takes no memory.
     pub fn advance(&mut self, horizon: Moment)
         requires { self.old.horizon ≤ horizon }
         ensures charges { self.new.charges ≡ lasting horizon self.old.charges }
@@ -170,15 +173,17 @@ impl Ledger {
         })
     }
 
-    /// Adds a charge of the payer's purse, in the room that was made for it. One whose end is at most the
-    /// horizon doesn't count, needs no room and changes nothing. Takes no memory.
+    /// Adds a charge of the payer's purse, in the room that was made for it. One whose end is at most
+    /// the horizon doesn't count, needs no room and changes nothing. Takes no memory.
     pub fn charge(&mut self, payer: &Payer, end: Moment, cost: u32)
         requires costs { 0 < cost }
         requires account { HasAccount payer.now self.old.budgets }
         requires reserved { self.old.horizon < end → 0 < self.old.room }
-        requires room { spending payer.now.purse self.old.charges + cost ≤ budget_of payer.now.purse self.old.budgets }
+        requires room { spending payer.now.purse self.old.charges + cost
+            ≤ budget_of payer.now.purse self.old.budgets }
         ensures counts { self.old.horizon < end
-            → IsPermutation (record { purse = payer.now.purse; end = end; cost = cost } ∷ self.old.charges) self.new.charges }
+            → IsPermutation
+            (record { purse = payer.now.purse; end = end; cost = cost } ∷ self.old.charges) self.new.charges }
         ensures idle { end ≤ self.old.horizon → self.new.charges ≡ self.old.charges }
         ensures horizon { self.new.horizon ≡ self.old.horizon }
         ensures budgets { self.new.budgets ≡ self.old.budgets }
@@ -201,7 +206,8 @@ impl Ledger {
         requires { self.old.horizon < end
             → Contains self.old.charges (record { purse = purse.now; end = end; cost = cost }) }
         ensures taken { self.old.horizon < end
-            → IsPermutation self.old.charges (record { purse = purse.now; end = end; cost = cost } ∷ self.new.charges) }
+            → IsPermutation
+            self.old.charges (record { purse = purse.now; end = end; cost = cost } ∷ self.new.charges) }
         ensures idle { end ≤ self.old.horizon → self.new.charges ≡ self.old.charges }
         ensures horizon { self.new.horizon ≡ self.old.horizon }
         ensures budgets { self.new.budgets ≡ self.old.budgets }
@@ -226,10 +232,12 @@ impl Ledger {
         ensures ok { OnOk result ((p : Purse) → budget_of p self.new.budgets
             ≡ (if same_purse purse.now p then budget else budget_of p self.old.budgets)) }
         ensures err { OnErr result (self.new.budgets ≡ self.old.budgets) }
-        ensures accounts { (p : Purse) → has_budget p self.old.budgets ≡ true → has_budget p self.new.budgets ≡ true }
+        ensures accounts { (p : Purse) → has_budget p self.old.budgets ≡ true
+            → has_budget p self.new.budgets ≡ true }
         ensures others { (p : Purse) → same_purse purse.now p ≡ false
             → has_budget p self.new.budgets ≡ has_budget p self.old.budgets }
-        ensures places { (p : Payer) → HasAccount p self.old.budgets → HasAccount p self.new.budgets }
+        ensures places { (p : Payer) → HasAccount p self.old.budgets
+            → HasAccount p self.new.budgets }
         ensures horizon { self.new.horizon ≡ self.old.horizon }
         ensures charges { self.new.charges ≡ self.old.charges }
         ensures reserved { self.new.room ≡ self.old.room }
