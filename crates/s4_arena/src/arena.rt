@@ -1,9 +1,12 @@
 //! The arena: its calls as a store, its blocks, and a walk along a chain.
 
-ghost use Rattle.std.specs.Prelude.{◌≡◌, ℕ, ◌+◌, ◌-◌, ◌*◌, ◌/◌, ◌<◌, ◌≤◌, [], ◌∷◌, ◌++◌, length, Some, None, OnOk, OnErr, IsTrue, reverse, ⊤};
+ghost use Rattle.std.specs.Prelude.{◌≡◌, ℕ, ◌+◌, ◌-◌, ◌*◌, ◌/◌, ◌<◌, ◌≤◌, [], ◌∷◌, ◌++◌, length, drop, max, slice_get, slice_set, Some, None, IfOk, OnOk, OnErr, IsTrue, reverse, ⊤};
 ghost use Rattle.std.specs.Map.Iter.{ShowsInOrder, deref};
 ghost use Rattle.std.specs.FinMap as finmap;
-ghost use Rattle.s4_store.specs.Chains.{Chains, items_of, IsOpen, StillOpen, item_count};
+ghost use Rattle.s4_store.specs.Chains.{Chains, items_of, IsOpen, StillOpen, item_count, oldest_of};
+ghost use Rattle.s4_arena.specs.declared.arena.ArenaPlace.{ArenaPlace};
+ghost use Rattle.s4_arena.specs.Seen.{open_count};
+ghost use Rattle.s4_arena.specs.Standing.{IsPlace};
 
 use crate::block::{Block, add_blocks, release_blocks};
 use crate::chain::Ends;
@@ -82,6 +85,7 @@ impl<T> Arena<T> {
         ensures chains { result.chains ≡ finmap.empty }
         ensures room { result.room ≡ 0 }
         ensures blocks { result.blocks ≡ 0 }
+        ensures rows { result.rows ≡ 0 }
     {
         Arena {
             alloc,
@@ -138,7 +142,18 @@ impl<T: Drop> Store<T> for Arena<T> {
 
     ghost room = { λ store. store.room };
 
-    fn open(&mut self) -> Result<Chain, NoMemory> {
+    /// Opens a new chain without items. It has the row of a chain that was closed, where there is one:
+    /// so rows are as many as the greatest number of chains that were open at once.
+    fn open(&mut self) -> Result<Chain, NoMemory>
+        ensures fresh { IfOk result (λ chain. finmap.get self.old.chains chain ≡ None) }
+        ensures opened { IfOk result (λ chain. self.new.chains ≡ finmap.insert self.old.chains chain []) }
+        ensures is_open { IfOk result (λ chain. IsOpen self.new.chains chain) }
+        ensures refused { OnErr result (self.new.chains ≡ self.old.chains) }
+        ensures still { StillOpen self.old.chains self.new.chains }
+        ensures room { self.new.room ≡ self.old.room }
+        ensures rows { OnOk result (self.new.rows ≡ max self.old.rows (open_count self.new.chains)) }
+        ensures no_row { OnErr result (self.new.rows ≡ self.old.rows) }
+    {
         if let Some(number) = self.closed {
             self.closed = closed_before(&self.rows, number);
             self.rows[number] = Row::Open(Ends::new());
@@ -160,6 +175,7 @@ impl<T: Drop> Store<T> for Arena<T> {
         ensures still { StillOpen self.old.chains self.new.chains }
         ensures least { OnOk result (self.new.blocks ≡ self.old.blocks + (count - self.old.room + 63) / 64) }
         ensures none { OnErr result (self.new.blocks ≡ self.old.blocks) }
+        ensures rows { self.new.rows ≡ self.old.rows }
     {
         if count <= self.room {
             return Ok(());
@@ -186,7 +202,15 @@ impl<T: Drop> Store<T> for Arena<T> {
         self.room
     }
 
-    fn push(&mut self, chain: Chain, item: T) {
+    fn push(&mut self, chain: Chain, item: T)
+        requires open { IsOpen self.old.chains chain }
+        requires room { 0 < self.old.room }
+        ensures chains { self.new.chains ≡ finmap.insert self.old.chains chain
+            (items_of self.old.chains chain ++ item ∷ []) }
+        ensures still { StillOpen self.old.chains self.new.chains }
+        ensures room { self.new.room + 1 ≡ self.old.room }
+        ensures rows { self.new.rows ≡ self.old.rows }
+    {
         let number = chain.number();
         let ends = ends_at(&self.rows, number);
         let Some(at) = self.free else {
@@ -267,7 +291,16 @@ impl<T: Drop> Store<T> for Arena<T> {
         item_at(&self.heap, place.at)
     }
 
-    fn set_at(&mut self, place: ArenaPlace<T>, item: T) -> T {
+    fn set_at(&mut self, place: ArenaPlace<T>, item: T) -> T
+        requires { IsPlace self.old place }
+        ensures old { slice_get (items_of self.old.chains place.chain) place.index ≡ Some result }
+        ensures chains { self.new.chains ≡ finmap.insert self.old.chains place.chain
+            (slice_set (items_of self.old.chains place.chain) place.index item) }
+        ensures still { StillOpen self.old.chains self.new.chains }
+        ensures places { (other : ArenaPlace T) → IsPlace self.old other → IsPlace self.new other }
+        ensures room { self.new.room ≡ self.old.room }
+        ensures rows { self.new.rows ≡ self.old.rows }
+    {
         set_item(&mut self.heap, place.at, item)
     }
 
@@ -275,14 +308,32 @@ impl<T: Drop> Store<T> for Arena<T> {
         self.used
     }
 
-    fn set(&mut self, chain: Chain, index: usize, item: T) -> T {
+    fn set(&mut self, chain: Chain, index: usize, item: T) -> T
+        requires open { IsOpen self.old.chains chain }
+        requires within { index < length (items_of self.old.chains chain) }
+        ensures old { slice_get (items_of self.old.chains chain) index ≡ Some result }
+        ensures chains { self.new.chains ≡ finmap.insert self.old.chains chain
+            (slice_set (items_of self.old.chains chain) index item) }
+        ensures still { StillOpen self.old.chains self.new.chains }
+        ensures room { self.new.room ≡ self.old.room }
+        ensures rows { self.new.rows ≡ self.old.rows }
+    {
         let number = chain.number();
         let ends = ends_at(&self.rows, number);
         let at = ends.find(&self.heap, number, index);
         set_item(&mut self.heap, at, item)
     }
 
-    fn drop_oldest(&mut self, chain: Chain) -> Option<T> {
+    fn drop_oldest(&mut self, chain: Chain) -> Option<T>
+        requires { IsOpen self.old.chains chain }
+        ensures oldest { result ≡ oldest_of (items_of self.old.chains chain) }
+        ensures chains { self.new.chains ≡ finmap.insert self.old.chains chain
+            (drop 1 (items_of self.old.chains chain)) }
+        ensures still { StillOpen self.old.chains self.new.chains }
+        ensures room { self.new.room + length (drop 1 (items_of self.old.chains chain))
+            ≡ self.old.room + length (items_of self.old.chains chain) }
+        ensures rows { self.new.rows ≡ self.old.rows }
+    {
         let number = chain.number();
         let ends = ends_at(&self.rows, number);
         let Some(at) = ends.oldest else {
@@ -296,7 +347,13 @@ impl<T: Drop> Store<T> for Arena<T> {
         item
     }
 
-    fn close(&mut self, chain: Chain) {
+    fn close(&mut self, chain: Chain)
+        requires open { IsOpen self.old.chains chain }
+        requires empty { items_of self.old.chains chain ≡ [] }
+        ensures chains { self.new.chains ≡ finmap.remove self.old.chains chain }
+        ensures room { self.new.room ≡ self.old.room }
+        ensures rows { self.new.rows ≡ self.old.rows }
+    {
         let number = chain.number();
         self.rows[number] = Row::Closed(self.closed);
         self.closed = Some(number);

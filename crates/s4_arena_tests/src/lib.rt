@@ -6,6 +6,8 @@
 #[cfg(test)]
 mod blocks;
 #[cfg(test)]
+mod ends;
+#[cfg(test)]
 mod many;
 #[cfg(test)]
 mod nodes;

@@ -1,6 +1,6 @@
 //! A pass.
 
-ghost use Rattle.std.specs.Prelude.{◌≡◌, ◌<◌, [], ◌∷◌, ◌++◌, OnOk, length};
+ghost use Rattle.std.specs.Prelude.{◌≡◌, ◌<◌, [], ◌∷◌, ◌++◌, OnOk, OnErr, length};
 ghost use Rattle.s4_calls.specs.Calls.{call_of, calls_of, last_call, receipts_of};
 
 use crate::call::{Asked, Receipt};
@@ -64,11 +64,14 @@ impl Pass {
         self.calls.sides()
     }
 
-    /// Makes room for one more call, or answers `NoMemory` where a growth was refused.
+    /// Makes room for one more call, or answers `NoMemory` where there was none and a growth was refused:
+    /// then there is as much as before.
     pub fn reserve(&mut self) -> Result<(), NoMemory>
         ensures calls { self.new.calls ≡ self.old.calls }
         ensures number { self.new.number ≡ self.old.number }
         ensures room { OnOk result (0 < self.new.room) }
+        ensures refused { OnErr result (self.new.room ≡ self.old.room) }
+        ensures wanting { OnErr result (self.old.room ≡ 0) }
     {
         self.calls.reserve()
     }

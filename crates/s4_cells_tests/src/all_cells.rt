@@ -4,11 +4,11 @@ ghost use Rattle.std.specs.Prelude.{◌≤◌, ℕ};
 ghost use Rattle.s4_types.specs.Play.{last_of};
 ghost use Rattle.s4_cells.specs.Many.{Each};
 
-use crate::given::{caller, create, object, read, write};
-use crate::one_cell::step_at;
+use crate::given::caller;
+use crate::one_cell::{check_create, check_refused, check_write};
 use s4_cells::{Cell, wide};
 use s4_types::{Moment, Refusal, Reply, Request};
-use std::alloc::Global;
+use std::alloc::{AllocError, Global};
 use std::process::Abort;
 use std::test::Fail;
 
@@ -40,6 +40,22 @@ fn ask_all(
 }
 
 // Asks all cells, and again where a growth was refused: then no cell has changed.
+fn ask_again(
+    rt: &impl Abort,
+    cells: &mut [Cell],
+    moment: u64,
+    request: &Request,
+    count: usize,
+) -> Result<Reply, Fail> {
+    let reply = ask_all(rt, cells, moment, request)?;
+    if reply != Reply::Refused(Refusal::NoMemory) {
+        return Ok(reply);
+    }
+    check_counts(rt, cells, count);
+    ask_all(rt, cells, moment, request)
+}
+
+// That all cells do what is asked, and have one record more.
 fn check_all(
     rt: &impl Abort,
     cells: &mut [Cell],
@@ -47,11 +63,7 @@ fn check_all(
     request: &Request,
     count: usize,
 ) -> Result<(), Fail> {
-    let mut reply = ask_all(rt, cells, moment, request)?;
-    if reply == Reply::Refused(Refusal::NoMemory) {
-        check_counts(rt, cells, count);
-        reply = ask_all(rt, cells, moment, request)?;
-    }
+    let reply = ask_again(rt, cells, moment, request, count)?;
     assert_eq!(rt; reply, Reply::Done);
     check_counts(rt, cells, count.saturating_add(1));
     Ok(())
@@ -64,44 +76,61 @@ fn check_counts(rt: &impl Abort, cells: &[Cell], count: usize) {
     }
 }
 
-// Writes in the first cell, sets the window of all, and erases what is past in all.
-fn check_wide(rt: &impl Abort, alloc: Global, cells: &mut [Cell]) -> Result<(), Fail> {
+// Writes in each cell, once and once more.
+fn write_each(rt: &impl Abort, alloc: Global, cells: &mut [Cell]) -> Result<(), Fail> {
     for place in 0..cells.len() {
         let cell = &mut cells[place];
-        assert_eq!(rt; step_at(rt, cell, 5, &create()?)?, Reply::Made(object()?));
-        assert_eq!(rt; step_at(rt, cell, 6, &write(alloc, b"old")?)?, Reply::Done);
-        assert_eq!(rt; step_at(rt, cell, 7, &write(alloc, b"new")?)?, Reply::Done);
-    }
-    let (from, to) = (Moment::new(6), Moment::new(7));
-    check_all(rt, cells, 8, &Request::Flush { from, to }, 3)?;
-    check_all(rt, cells, 9, &Request::SetWindow { ticks: 50 }, 4)?;
-    for place in 0..cells.len() {
-        let cell = &mut cells[place];
-        let old = read(Some(Moment::new(6)))?;
-        let flushed = Reply::Refused(Refusal::Flushed);
-        assert_eq!(rt; step_at(rt, cell, 10, &old)?, flushed);
-        let expired = Reply::Refused(Refusal::TooOld {
-            horizon: Moment::new(50),
-        });
-        assert_eq!(rt; step_at(rt, cell, 100, &old)?, expired);
+        check_create(rt, cell, 5)?;
+        check_write(rt, alloc, cell, 6, b"old")?;
+        check_write(rt, alloc, cell, 7, b"new")?;
     }
     Ok(())
 }
 
-#[test]
-fn two_cells_are_asked_at_once(rt: HostRuntime) -> Result<(), Fail> {
-    let alloc = rt.alloc();
-    let mut cells = [Cell::open(alloc, 100)?, Cell::open(alloc, 100)?];
-    check_wide(&rt, alloc, &mut cells)
+// That what was written first was erased in each cell, and is too old then.
+fn check_erased(rt: &impl Abort, cells: &mut [Cell]) -> Result<(), Fail> {
+    let horizon = Moment::new(50);
+    for place in 0..cells.len() {
+        let cell = &mut cells[place];
+        check_refused(rt, cell, 10, Refusal::Flushed)?;
+        check_refused(rt, cell, 100, Refusal::TooOld { horizon })?;
+    }
+    Ok(())
+}
+
+// Erases what is past in all.
+fn flush_all(rt: &impl Abort, cells: &mut [Cell]) -> Result<(), Fail> {
+    let (from, to) = (Moment::new(6), Moment::new(7));
+    check_all(rt, cells, 8, &Request::Flush { from, to }, 3)
+}
+
+// Sets the window of all.
+fn set_window(rt: &impl Abort, cells: &mut [Cell]) -> Result<(), Fail> {
+    check_all(rt, cells, 9, &Request::SetWindow { ticks: 50 }, 4)
+}
+
+// Writes in each cell, erases what is past in all, and sets the window of all.
+fn check_wide(rt: &impl Abort, alloc: Global, cells: &mut [Cell]) -> Result<(), Fail> {
+    write_each(rt, alloc, cells)?;
+    flush_all(rt, cells)?;
+    set_window(rt, cells)?;
+    check_erased(rt, cells)
+}
+
+// So many cells with a window of a hundred ticks.
+fn open_cells(alloc: Global, count: usize) -> Result<Vec<Cell>, AllocError> {
+    let mut cells = Vec::new(alloc);
+    for _ in 0..count {
+        cells.push(Cell::open(alloc, 100)?)?;
+    }
+    Ok(cells)
 }
 
 #[test]
-fn three_cells_are_asked_at_once(rt: HostRuntime) -> Result<(), Fail> {
-    let alloc = rt.alloc();
-    let mut cells = [
-        Cell::open(alloc, 100)?,
-        Cell::open(alloc, 100)?,
-        Cell::open(alloc, 100)?,
-    ];
-    check_wide(&rt, alloc, &mut cells)
+fn two_and_three_cells_are_asked_at_once(rt: HostRuntime) -> Result<(), Fail> {
+    for count in [2, 3] {
+        let mut cells = open_cells(rt.alloc(), count)?;
+        check_wide(&rt, rt.alloc(), &mut cells)?;
+    }
+    Ok(())
 }

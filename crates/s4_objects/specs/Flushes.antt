@@ -65,6 +65,11 @@ abbrev pub erasable_count : Chains Version → ℕ → ℕ → Kept → ℕ
 erasable_count chains from to k =
     count_by (is_erasable from to) (items_of chains k.data.chain) + count_by (is_erasable from to) (items_of chains k.attributes.chain)
 
+-- how many values of an object a flush erases, where one is kept
+abbrev pub erasable_of : Chains Version → ℕ → ℕ → Option Kept → ℕ
+erasable_of chains from to None = 0
+erasable_of chains from to (Some k) = erasable_count chains from to k
+
 -- how many values of all these objects
 abbrev pub erasable_in : Chains Version → ℕ → ℕ → List (ObjectId × Kept) → ℕ
 erasable_in chains from to entries = sum_by (λ e. erasable_count chains from to e.1) entries

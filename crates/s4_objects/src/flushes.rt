@@ -8,7 +8,7 @@ ghost use Rattle.s4_store.specs.Chains.{items_of, item_count, IsOpen, StillOpen}
 ghost use Rattle.s4_tracks.specs.Chain.{flushed, is_erasable as can_be_erased};
 ghost use Rattle.s4_objects.specs.Keys.{object_cmp};
 ghost use Rattle.s4_objects.specs.Chains.{Chained};
-ghost use Rattle.s4_objects.specs.Flushes.{Flushes, refunds_of, erasable_count, erasable_in};
+ghost use Rattle.s4_objects.specs.Flushes.{Flushes, refunds_of, erasable_count, erasable_in, erasable_of};
 
 use crate::kept::Kept;
 use s4_store::Store;
@@ -56,7 +56,8 @@ pub fn flush<S: Store<Version>>(
 
 /// Erases the past values of one object's data and attributes that begin at or after `from` and end
 /// at or before `to`, and puts what that takes back of its purse's charges into a list that is empty.
-/// It looks at each value that is held of the object.
+/// It looks at each value that is held of the object. It takes no memory where the list has room for as
+/// many as it erases.
 pub fn flush_object<S: Store<Version>>(
     store: &mut S,
     objects: &BTreeMap<ObjectId, Kept>,
@@ -72,6 +73,8 @@ pub fn flush_object<S: Store<Version>>(
     ensures err { OnErr result (S.chains store.new ≡ S.chains store.old) }
     ensures none { OnErr result (refunds.new.items ≡ []) }
     ensures capacity { vec_capacity refunds.old ≤ vec_capacity refunds.new }
+    ensures enough { erasable_of (S.chains store.old) from to (get object_cmp objects.now object.now)
+        ≤ vec_capacity refunds.old → IsOk result }
     ensures room { S.room store.new ≡ S.room store.old }
 {
     let Some(kept) = objects.get(object) else {

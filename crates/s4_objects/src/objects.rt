@@ -15,7 +15,7 @@ ghost use Rattle.s4_objects.specs.Chains.{same_which};
 ghost use Rattle.s4_objects.specs.Keys.{object_cmp};
 ghost use Rattle.s4_objects.specs.Ends.{is_gone, all_by};
 ghost use Rattle.s4_objects.specs.Opening.{first_on};
-ghost use Rattle.s4_objects.specs.Flushes.{Flushes};
+ghost use Rattle.s4_objects.specs.Flushes.{Flushes, erasable_of};
 ghost use Rattle.s4_objects.specs.Table.{found_in, kept_in, held_in, ends_in, room_in, Holds, KeepsOthers, LeavesNoChain};
 
 use crate::begin::{begin, close, open};
@@ -253,7 +253,8 @@ impl Objects {
 
     /// Erases the past values of one object's data and attributes that begin at or after `from` and
     /// end at or before `to`, and puts what that takes back of its purse's charges into a list that is
-    /// empty. It looks at each value that is held of the object.
+    /// empty. It looks at each value that is held of the object. It takes no memory where the list has
+    /// room for as many as it erases.
     pub fn flush_object<S: Store<Version>>(
         &self,
         store: &mut S,
@@ -269,6 +270,8 @@ impl Objects {
         ensures err { OnErr result (S.chains store.new ≡ S.chains store.old) }
         ensures none { OnErr result (refunds.new.items ≡ []) }
         ensures capacity { vec_capacity refunds.old ≤ vec_capacity refunds.new }
+        ensures enough { erasable_of (S.chains store.old) from to (found_in self.now object.now)
+            ≤ vec_capacity refunds.old → IsOk result }
         ensures holds { Holds (S.chains store.new) self.now }
         ensures leaves { LeavesNoChain (S.chains store.old) (S.chains store.new) self.now self.now }
         ensures room { S.room store.new ≡ S.room store.old }

@@ -68,12 +68,14 @@ impl Ends {
         }
     }
 
-    /// Makes room for one more than are awaited. Where there is none it asks for twice what all need,
-    /// so that the ends that wait are seldom moved, and where that is refused for what they need.
+    /// Makes room for one more than are awaited. Where there is room it stays as it was. Where there is
+    /// none it asks for twice what all need, so that the ends that wait are seldom moved, and where
+    /// that is refused for what they need.
     pub fn make_room(&mut self) -> Result<(), NoMemory>
         ensures ok { OnOk result (0 < self.new.spare) }
         ensures there { 0 < self.old.spare → IsOk result }
         ensures grown { self.old.spare ≤ self.new.spare }
+        ensures still { 0 < self.old.spare → self.new.spare ≡ self.old.spare }
         ensures ended { self.new.ended ≡ self.old.ended }
         ensures awaited { self.new.awaited ≡ self.old.awaited }
     {

@@ -1,13 +1,14 @@
 //! A gate holds a call in one cell until a call in another was answered.
 
-use crate::given::{Ask, closed, made, two_of};
+use crate::given::{Ask, count_closed, is_made, two_of};
 use s4_cells::Cell;
 use s4_pool::{Front, Gate, Pass};
 use std::alloc::Global;
+use std::process::Abort;
 use std::sync::atomic::{AtomicU64, Ordering};
 use std::sync::{Arc, Wait};
 use std::test::Fail;
-use std::thread;
+use std::thread::{self, Threads};
 
 /// What the gate and the calls tell one another.
 #[derive(Drop)]
@@ -56,29 +57,56 @@ pub struct Guarded {
     pub b: Pass,
 }
 
-/// Makes a first call in each cell, and then arms the gate.
-pub fn make_guarded<R: Wait>(rt: &R, alloc: Global) -> Result<Guarded, Fail> {
-    let in_cell_one = Ask::create(7, 5)?;
-    let in_cell_zero = Ask::create(8, 5)?;
-    let (one, zero) = (made(7, 1)?, made(8, 1)?);
+// Marks of what hasn't been yet.
+fn make_marks(alloc: Global) -> Result<Arc<Marks, Global>, Fail> {
     let marks = Marks {
         armed: AtomicU64::new(0),
         entered: AtomicU64::new(0),
         served: AtomicU64::new(0),
         marked: AtomicU64::new(0),
     };
-    let marks = Arc::new(alloc, marks)?;
-    let gate = Holding {
-        marks: Arc::try_clone(&marks)?,
-    };
-    let (front, passes) = Front::open(alloc, 100, 2, 2, gate)?;
-    let (mut a, mut b) = two_of(passes)?;
-    let is_first = in_cell_one.serve(rt, &front, &mut a) == one;
-    if !is_first || in_cell_zero.serve(rt, &front, &mut b) != zero {
+    Ok(Arc::new(alloc, marks)?)
+}
+
+// A front of two cells and its two passes, whose gate has these marks.
+fn open_held(
+    alloc: Global,
+    marks: &Arc<Marks, Global>,
+) -> Result<(Front<Holding>, Pass, Pass), Fail> {
+    let marks = Arc::try_clone(marks)?;
+    let (front, passes) = Front::open(alloc, 100, 2, 2, Holding { marks })?;
+    let (a, b) = two_of(passes)?;
+    Ok((front, a, b))
+}
+
+// All that is guarded, before any call.
+fn open_guarded(alloc: Global) -> Result<Guarded, Fail> {
+    let marks = make_marks(alloc)?;
+    let (front, a, b) = open_held(alloc, &marks)?;
+    Ok(Guarded { front, marks, a, b })
+}
+
+// Makes a first call in each cell.
+fn serve_first<R: Wait>(
+    rt: &R,
+    front: &Front<Holding>,
+    a: &mut Pass,
+    b: &mut Pass,
+) -> Result<(), Fail> {
+    let one = is_made(rt, front, a, (7, 5), 1)?;
+    let zero = is_made(rt, front, b, (8, 5), 1)?;
+    if !(one && zero) {
         return Err("no first call in each cell".into());
     }
-    marks.armed.store(1, Ordering::SeqCst);
-    Ok(Guarded { front, marks, a, b })
+    Ok(())
+}
+
+/// Makes a first call in each cell, and then arms the gate.
+pub fn make_guarded<R: Wait>(rt: &R, alloc: Global) -> Result<Guarded, Fail> {
+    let mut guarded = open_guarded(alloc)?;
+    serve_first(rt, &guarded.front, &mut guarded.a, &mut guarded.b)?;
+    guarded.marks.armed.store(1, Ordering::SeqCst);
+    Ok(guarded)
 }
 
 // Calls in cell 1, where the gate holds it.
@@ -102,22 +130,39 @@ fn second<R: Wait>(rt: &R, front: &Front<Holding>, marks: &Marks, pass: Pass, as
     pass
 }
 
+// Makes both calls at once.
+fn call_at_once<R: Threads + Wait + Sync>(
+    rt: &R,
+    guarded: Guarded,
+    in_cell_one: &Ask,
+    in_cell_zero: &Ask,
+) -> Guarded {
+    let Guarded { front, marks, a, b } = guarded;
+    let shared = &front;
+    let told: &Marks = &marks;
+    let (a, b) = thread::join(
+        rt,
+        || first(rt, shared, a, in_cell_one),
+        || second(rt, shared, told, b, in_cell_zero),
+    );
+    Guarded { front, marks, a, b }
+}
+
+/// That the gate marked nothing, and that all four calls have their records.
+pub fn check_guarded<R: Abort>(rt: &R, alloc: Global, guarded: Guarded) -> Result<(), Fail> {
+    let Guarded { front, marks, a, b } = guarded;
+    assert_eq!(rt; marks.marked.load(Ordering::SeqCst), 0);
+    assert_eq!(rt; count_closed(alloc, front, a, b)?, 4);
+    Ok(())
+}
+
 #[test]
 fn held_in_one_cell(rt: HostRuntime) -> Result<(), Fail> {
     let in_cell_one = Ask::create(7, 5)?;
     let in_cell_zero = Ask::create(8, 5)?;
-    let Guarded { front, marks, a, b } = make_guarded(&rt, rt.alloc())?;
-    let handle = &rt;
-    let shared = &front;
-    let told: &Marks = &marks;
-    let (a, b) = thread::join(
-        handle,
-        || first(handle, shared, a, &in_cell_one),
-        || second(handle, shared, told, b, &in_cell_zero),
-    );
-    assert_eq!(rt; a.receipts().len(), 2);
-    assert_eq!(rt; b.receipts().len(), 2);
-    assert_eq!(rt; marks.marked.load(Ordering::SeqCst), 0);
-    assert_eq!(rt; closed(rt.alloc(), front, a, b)?.history.len(), 4);
-    Ok(())
+    let guarded = make_guarded(&rt, rt.alloc())?;
+    let guarded = call_at_once(&rt, guarded, &in_cell_one, &in_cell_zero);
+    assert_eq!(rt; guarded.a.receipts().len(), 2);
+    assert_eq!(rt; guarded.b.receipts().len(), 2);
+    check_guarded(&rt, rt.alloc(), guarded)
 }

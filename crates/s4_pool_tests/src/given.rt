@@ -66,6 +66,19 @@ impl Ask {
     }
 }
 
+/// Whether a create makes the object with that serial.
+pub fn is_made<G: Gate, R: Wait>(
+    rt: &R,
+    front: &Front<G>,
+    pass: &mut Pass,
+    (who, tick): (u32, u64),
+    serial: u16,
+) -> Result<bool, Fail> {
+    let object = object(who, serial)?;
+    let create = Ask::create(who, tick)?;
+    Ok(create.serve(rt, front, pass) == Reply::Made(object))
+}
+
 /// The moment, the cell and the place of a pass's receipt.
 pub fn receipt(pass: &Pass, place: usize) -> Option<(u64, usize, u64)> {
     let receipt = pass.receipts().get(place)?;
@@ -90,12 +103,20 @@ pub fn open_two(alloc: Global, cells: usize) -> Result<(Front<OpenGate>, Pass, P
     Ok((front, a, b))
 }
 
-/// Closes a front that has to close, by two passes.
-pub fn closed<G: Gate>(alloc: Global, front: Front<G>, a: Pass, b: Pass) -> Result<Closed, Fail> {
-    let mut passes = Vec::new(alloc);
-    passes.push(a)?;
-    passes.push(b)?;
+/// Closes a front that has to close.
+pub fn closed<G: Gate>(alloc: Global, front: Front<G>, passes: Vec<Pass>) -> Result<Closed, Fail> {
     front
         .close(alloc, passes)
         .map_err(|_fault| "not closed".into())
+}
+
+/// How many records a front has that is closed by two passes.
+pub fn count_closed<G: Gate>(
+    alloc: Global,
+    front: Front<G>,
+    a: Pass,
+    b: Pass,
+) -> Result<usize, Fail> {
+    let passes = Vec::from_array(alloc, [a, b])?;
+    Ok(closed(alloc, front, passes)?.history.len())
 }

@@ -2,15 +2,16 @@
 
 ghost use Rattle.std.specs.Prelude.{◌≡◌, All};
 
-use crate::gate::{Guarded, Holding, Marks, make_guarded};
-use crate::given::{Ask, closed};
+use crate::gate::{Guarded, Holding, Marks, check_guarded, make_guarded};
+use crate::given::Ask;
 use s4_jobs::{Job, Jobs, NoMemory, Numbered, Seat, work};
 use s4_pool::{Front, Pass};
 use std::alloc::Global;
+use std::process::Abort;
 use std::sync::Wait;
 use std::sync::atomic::Ordering;
 use std::test::Fail;
-use std::thread;
+use std::thread::{self, Threads};
 
 /// A call to be made, and what is to be told once it was answered.
 #[derive(Drop)]
@@ -89,8 +90,8 @@ fn put_jobs<R: Wait>(rt: &R, marks: &Marks, place: Place<'_>, held: Call, next: 
     put && queue.put(rt, &mut seat, Job::Stop).is_ok()
 }
 
-#[test]
-fn held_by_one_worker(rt: HostRuntime) -> Result<(), Fail> {
+// The call that is held, and the one that releases it.
+fn two_calls() -> Result<(Call, Call), Fail> {
     let held = Call {
         ask: Ask::create(7, 5)?,
         releases: false,
@@ -99,28 +100,82 @@ fn held_by_one_worker(rt: HostRuntime) -> Result<(), Fail> {
         ask: Ask::create(8, 5)?,
         releases: true,
     };
-    let (queue, seats) = Queue::open(rt.alloc(), 4, 3)?;
-    let mut places = places(rt.alloc(), &queue, seats)?;
-    let third = places.pop().ok_or("place 2")?;
-    let second = places.pop().ok_or("place 1")?;
-    let first = places.pop().ok_or("place 0")?;
-    let Guarded { front, marks, a, b } = make_guarded(&rt, rt.alloc())?;
-    let handle = &rt;
+    Ok((held, next))
+}
+
+// The places of one who puts and of two who work.
+#[derive(Drop)]
+struct Three<'a> {
+    first: Place<'a>,
+    second: Place<'a>,
+    third: Place<'a>,
+}
+
+fn three_of<'a>(places: Vec<Place<'a>>) -> Option<Three<'a>> {
+    let mut places = places;
+    let third = places.pop()?;
+    let second = places.pop()?;
+    let first = places.pop()?;
+    Some(Three {
+        first,
+        second,
+        third,
+    })
+}
+
+// All that is guarded, and the two calls.
+fn begin<R: Wait>(rt: &R, alloc: Global) -> Result<(Guarded, Call, Call), Fail> {
+    let (held, next) = two_calls()?;
+    let guarded = make_guarded(rt, alloc)?;
+    Ok((guarded, held, next))
+}
+
+// Puts the calls and makes them, all at once. Tells whether all were put.
+fn work_at_once<R: Threads + Wait + Sync>(
+    rt: &R,
+    guarded: Guarded,
+    places: Three<'_>,
+    held: Call,
+    next: Call,
+) -> (bool, Guarded) {
+    let Guarded { front, marks, a, b } = guarded;
+    let Three {
+        first,
+        second,
+        third,
+    } = places;
     let shared = &front;
     let told: &Marks = &marks;
     let (put, (a, b)) = thread::join(
-        handle,
-        || put_jobs(handle, told, first, held, next),
+        rt,
+        || put_jobs(rt, told, first, held, next),
         || {
             thread::join(
-                handle,
-                || serve_jobs(handle, shared, told, second, a),
-                || serve_jobs(handle, shared, told, third, b),
+                rt,
+                || serve_jobs(rt, shared, told, second, a),
+                || serve_jobs(rt, shared, told, third, b),
             )
         },
     );
+    (put, Guarded { front, marks, a, b })
+}
+
+// That the calls are put and made.
+fn check_places<R: Abort + Threads + Wait + Sync>(
+    rt: &R,
+    alloc: Global,
+    places: Three<'_>,
+) -> Result<(), Fail> {
+    let (guarded, held, next) = begin(rt, alloc)?;
+    let (put, guarded) = work_at_once(rt, guarded, places, held, next);
     assert!(rt; put);
-    assert_eq!(rt; marks.marked.load(Ordering::SeqCst), 0);
-    assert_eq!(rt; closed(rt.alloc(), front, a, b)?.history.len(), 4);
-    Ok(())
+    check_guarded(rt, alloc, guarded)
+}
+
+#[test]
+fn held_by_one_worker(rt: HostRuntime) -> Result<(), Fail> {
+    let (queue, seats) = Queue::open(rt.alloc(), 4, 3)?;
+    let places = places(rt.alloc(), &queue, seats)?;
+    let three = three_of(places).ok_or("three places")?;
+    check_places(&rt, rt.alloc(), three)
 }

@@ -22,7 +22,7 @@ const FOR_7: &[u32] = &[7];
 
 const FOR_9: &[u32] = &[9];
 
-pub const CAMPAIGNS: [Campaign; 4] = [
+pub const CAMPAIGNS: &[Campaign] = &[
     FILLING_A_BUDGET,
     PROBING_NAMES,
     PROBING_MOMENTS,
@@ -127,9 +127,31 @@ pub fn script(alloc: Global, window: &str, lines: &[Asked]) -> Result<String, Fa
     Ok(script)
 }
 
+/// The script without the strangers of this principal.
+pub fn struck_script(
+    alloc: Global,
+    window: &str,
+    lines: &[Asked],
+    who: u32,
+) -> Result<String, Fail> {
+    let stay = kept(alloc, lines, Some(who))?;
+    script(alloc, window, &stay)
+}
+
+/// The scripts of these lines with one of those lines more.
+pub fn scripts_of(
+    alloc: Global,
+    window: &str,
+    lines: &[Asked],
+    more: &[&str],
+) -> Result<Vec<String>, Fail> {
+    let whole = script(alloc, window, lines)?;
+    scripts_with(alloc, &whole, more)
+}
+
 /// The same script with one of these lines more, for each of them and for each place behind its
 /// first line.
-pub fn scripts_with(alloc: Global, script: &str, more: &[&str]) -> Result<Vec<String>, Fail> {
+fn scripts_with(alloc: Global, script: &str, more: &[&str]) -> Result<Vec<String>, Fail> {
     let mut scripts = Vec::new(alloc);
     for line in more {
         for place in 1..=script.lines().count() {
@@ -167,14 +189,19 @@ pub fn principal(number: u32) -> Result<Principal, Fail> {
     Ok(Principal::new(number).ok_or("a principal")?)
 }
 
+/// What a line has a drive do.
+fn step_of(alloc: Global, text: &str) -> Result<Step, Fail> {
+    match parse_line(alloc, text.as_bytes())? {
+        Line::Step(step) => Ok(step),
+        Line::Used => Err(Fail::from("a step")),
+    }
+}
+
 /// What the lines of a script after its first have a drive do.
 pub fn steps_of(alloc: Global, script: &str) -> Result<Vec<Step>, Fail> {
     let mut steps = Vec::new(alloc);
     for text in script.lines().skip(1) {
-        match parse_line(alloc, text.as_bytes())? {
-            Line::Step(step) => steps.push(step)?,
-            Line::Used => return Err(Fail::from("a step")),
-        }
+        steps.push(step_of(alloc, text)?)?;
     }
     Ok(steps)
 }

@@ -1,13 +1,15 @@
 //! Ways to run a script without a fault: by the program, as a list of steps that a drive is given
 //! at once, and as calls of a front of two cells.
 
+ghost use Rattle.std.specs.Prelude.{◌≡◌};
+
 use crate::campaigns::{steps_of, window_of};
 use s4_drive::{Drive, never_down};
-use s4_pool::{Front, OpenGate};
+use s4_pool::{Front, OpenGate, Pass};
 use s4_run::run_script;
 use s4_script::ReplyText;
-use s4_store::{PlainStore, Store};
-use s4_types::{Reply, Step, Version};
+use s4_store::PlainStore;
+use s4_types::{NoMemory, Reply, Step};
 use std::alloc::Global;
 use std::process::Abort;
 use std::sync::Wait;
@@ -27,16 +29,6 @@ pub fn check_program<A: Abort>(
     Ok(())
 }
 
-/// The replies of a drive that is given these steps at once.
-fn replies<A: Abort, S: Store<Version>>(
-    rt: &A,
-    drive: &mut Drive<S>,
-    steps: &[Step],
-) -> Result<Vec<Reply>, Fail> {
-    assert!(rt; never_down(drive.last(), steps));
-    Ok(drive.run(steps)?)
-}
-
 /// The texts of replies, a line for each.
 fn texts_of(alloc: Global, replies: &[Reply]) -> Result<String, Fail> {
     let mut texts = String::new(alloc);
@@ -46,6 +38,26 @@ fn texts_of(alloc: Global, replies: &[Reply]) -> Result<String, Fail> {
     Ok(texts)
 }
 
+/// The replies of a fresh drive that is given these steps at once.
+fn replied<A: Abort>(
+    rt: &A,
+    alloc: Global,
+    window: u64,
+    steps: &[Step],
+) -> Result<Vec<Reply>, NoMemory> {
+    let mut drive = Drive::new(alloc, PlainStore::new(alloc), window);
+    assert!(rt; never_down(drive.last(), steps));
+    drive.run(steps)
+}
+
+/// What a fresh drive tells that is given the script's steps at once.
+fn told_at_once<A: Abort>(rt: &A, alloc: Global, script: &str) -> Result<String, Fail> {
+    let window = window_of(alloc, script)?;
+    let steps = steps_of(alloc, script)?;
+    let replies = replied(rt, alloc, window, &steps)?;
+    texts_of(alloc, &replies)
+}
+
 /// That a fresh drive tells this that is given the script's steps at once.
 pub fn check_at_once<A: Abort>(
     rt: &A,
@@ -53,12 +65,55 @@ pub fn check_at_once<A: Abort>(
     script: &str,
     wanted: &str,
 ) -> Result<(), Fail> {
-    let window = window_of(alloc, script)?;
-    let steps = steps_of(alloc, script)?;
-    let mut drive = Drive::new(alloc, PlainStore::new(alloc), window);
-    let told = texts_of(alloc, &replies(rt, &mut drive, &steps)?)?;
+    let told = told_at_once(rt, alloc, script)?;
     assert_eq!(rt; told.as_str(), wanted, "at once: {script}");
     Ok(())
+}
+
+/// The replies of a front of two cells that is asked for these steps.
+fn serve_all<R: Wait>(
+    rt: &R,
+    alloc: Global,
+    front: &Front<OpenGate>,
+    pass: &mut Pass,
+    steps: &[Step],
+) -> Result<Vec<Reply>, NoMemory>
+    requires { front.now.cells ≡ 2 }
+{
+    let mut replies = Vec::new(alloc);
+    for step in steps {
+        match step {
+            Step::Request {
+                moment,
+                caller,
+                request,
+            } => replies.push(front.serve(rt, pass, *caller, *moment, request))?,
+            Step::Sweep { n } => {
+                front.sweep(rt, 0, *n);
+                front.sweep(rt, 1, *n);
+            }
+        }
+    }
+    Ok(replies)
+}
+
+/// The replies of a fresh front that is asked for these steps.
+fn served<R: Wait>(
+    rt: &R,
+    alloc: Global,
+    window: u64,
+    steps: &[Step],
+) -> Result<Vec<Reply>, NoMemory> {
+    let (front, mut passes) = Front::open(alloc, window, 2, 1, OpenGate)?;
+    serve_all(rt, alloc, &front, &mut passes[0], steps)
+}
+
+/// What a fresh front of two cells tells that is asked for the script's steps one by one.
+fn told_by_front<R: Wait>(rt: &R, alloc: Global, script: &str) -> Result<String, Fail> {
+    let window = window_of(alloc, script)?;
+    let steps = steps_of(alloc, script)?;
+    let replies = served(rt, alloc, window, &steps)?;
+    texts_of(alloc, &replies)
 }
 
 /// That a fresh front of two cells tells this that is asked for the script's steps one by one, each
@@ -69,31 +124,7 @@ pub fn check_front<A: Abort + Wait>(
     script: &str,
     wanted: &str,
 ) -> Result<(), Fail> {
-    let window = window_of(alloc, script)?;
-    let steps = steps_of(alloc, script)?;
-    let replies = served(rt, alloc, window, &steps)?;
-    let told = texts_of(alloc, &replies)?;
+    let told = told_by_front(rt, alloc, script)?;
     assert_eq!(rt; told.as_str(), wanted, "by a front: {script}");
     Ok(())
-}
-
-/// The replies of a front that is asked for these steps.
-fn served<R: Wait>(rt: &R, alloc: Global, window: u64, steps: &[Step]) -> Result<Vec<Reply>, Fail> {
-    let mut replies = Vec::new(alloc);
-    let (front, mut passes) = Front::open(alloc, window, 2, 1, OpenGate)?;
-    let mut pass = passes.pop().ok_or("a pass")?;
-    for step in steps {
-        match step {
-            Step::Request {
-                moment,
-                caller,
-                request,
-            } => replies.push(front.serve(rt, &mut pass, *caller, *moment, request))?,
-            Step::Sweep { n } => {
-                front.sweep(rt, 0, *n);
-                front.sweep(rt, 1, *n);
-            }
-        }
-    }
-    Ok(replies)
 }
