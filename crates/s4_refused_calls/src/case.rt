@@ -10,8 +10,9 @@ pub struct Case<'a> {
     pub name: &'a str,
     /// Whether it is about the calls that come now.
     pub is_marking: bool,
-    /// How many of its calls answered that there was no memory.
-    pub refused: usize,
+    /// How many of its calls told by a reply that there was no memory, and how many by an error.
+    replies: usize,
+    errors: usize,
     /// How much wasn't as it has to be.
     pub faults: usize,
 }
@@ -22,7 +23,8 @@ impl<'a> Case<'a> {
             rt,
             name,
             is_marking: true,
-            refused: 0,
+            replies: 0,
+            errors: 0,
             faults: 0,
         }
     }
@@ -45,9 +47,14 @@ impl<'a> Case<'a> {
         }
     }
 
-    /// A call answered that there was no memory.
-    pub fn refuse(&mut self) {
-        self.refused = self.refused.saturating_add(1);
+    /// A call told by a reply that there was no memory.
+    pub fn refuse_by_reply(&mut self) {
+        self.replies = self.replies.saturating_add(1);
+    }
+
+    /// A call told it by an error.
+    pub fn refuse_by_error(&mut self) {
+        self.errors = self.errors.saturating_add(1);
     }
 
     /// That something holds; else it is told what doesn't.
@@ -66,8 +73,8 @@ impl<'a> Case<'a> {
             "NOT as expected"
         };
         println!(self.rt;
-            "{}: {word}, calls without memory: {}",
-            self.name, self.refused
+            "{}: {word}, without memory: {} replies, {} errors",
+            self.name, self.replies, self.errors
         )
     }
 }

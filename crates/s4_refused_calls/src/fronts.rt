@@ -95,7 +95,7 @@ fn serve_one<R: Wait>(
     let mut reply = front.serve(rt, pass, caller, clock, &request);
     case.ends();
     if is_no_memory(&reply) {
-        case.refuse();
+        case.refuse_by_reply();
         case.check(
             pass.receipts().len() == before,
             "without memory there is a receipt",
@@ -138,7 +138,7 @@ fn closed(case: &mut Case, front: Front<OpenGate>, passes: Vec<Pass>) -> io::Res
     match closed {
         Ok(closed) => Ok(closed),
         Err(fault) => {
-            case.refuse();
+            case.refuse_by_error();
             closed_again(case, fault)
         }
     }

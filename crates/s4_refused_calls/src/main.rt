@@ -1,7 +1,7 @@
 //! Nothing but a test: calls of the library that can want memory, each on a worked case. It is run
 //! with plenty of memory, and by `./refusals calls` with each allocation of these calls refused in
-//! turn. For each case it writes whether all was as expected, and how many calls answered that there
-//! was no memory. The first argument names the one case that is carried out; without it all are.
+//! turn. For each case it writes whether all was as expected, and how many calls told that there was
+//! no memory. The first argument names the one case that is carried out; without it all are.
 #![tactic(auto)]
 
 mod case;
@@ -26,7 +26,7 @@ enum Called {
     Reserve(u64, u64, u64),
     /// A session hears a stream in pieces of so many bytes.
     Feed(usize),
-    /// A hall hears a stream, a frame at a time.
+    /// A hall hears a stream, a frame at a time. Its requests are those of the row three_calls_at_five.
     Arrive,
     /// A front of two cells serves five requests.
     Serve,
@@ -34,7 +34,7 @@ enum Called {
     Close,
 }
 
-const CASES: [(&str, Called); 20] = [
+const CASES: [(&str, Called); 21] = [
     (
         "step_plain_first_moments",
         Called::OverPlainStore("first_moments"),
@@ -68,6 +68,10 @@ const CASES: [(&str, Called); 20] = [
     ),
     ("step_arena_bound_object", Called::OverArena("bound_object")),
     ("step_arena_audit", Called::OverArena("audit")),
+    (
+        "step_arena_three_calls_at_five",
+        Called::OverArena("three_calls_at_five"),
+    ),
     ("reserve_empty", Called::Reserve(0, 0, 4)),
     ("reserve_with_60_items", Called::Reserve(60, 1, 5)),
     ("feed_pieces_of_1", Called::Feed(1)),

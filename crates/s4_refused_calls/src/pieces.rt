@@ -107,7 +107,7 @@ fn hear(
     case.ends();
     let heard = match heard {
         Err(FeedError::NoMemory) => {
-            case.refuse();
+            case.refuse_by_error();
             session.feed(logins, piece)
         }
         heard => heard,
@@ -169,14 +169,14 @@ pub fn arrive(case: &mut Case) -> io::Result<()> {
 fn is_sent(case: &mut Case, hall: &mut Hall, row: &Row) -> io::Result<bool> {
     let before = hall.used();
     let Some(sent) = arrived(case, hall, row)? else {
-        case.refuse();
+        case.refuse_by_error();
         return Ok(false);
     };
     if sent.as_slice() != NO_MEMORY {
         case.check(sent.as_slice() == row.2, "something else was sent");
         return Ok(true);
     }
-    case.refuse();
+    case.refuse_by_reply();
     case.check(hall.used() == before, "without memory the hall changed");
     case.is_marking = false;
     let sent = arrived(case, hall, row)?;

@@ -43,7 +43,7 @@ fn check_reserve(
     let reserved = arena.reserve(200);
     case.ends();
     if reserved.is_err() {
-        case.refuse();
+        case.refuse_by_error();
         check_stand(case, arena, chain, items, before);
         arena.reserve(200)?;
     }

@@ -91,15 +91,18 @@ fn replied<S: Store<Version>>(
     asked: (Moment, Caller),
     request: &Request,
 ) -> io::Result<Reply> {
-    let before = stand(drive)?;
+    let before = stand_of(drive)?;
     let reply = step(case, drive, asked, request)?;
     if !is_no_memory(&reply) {
         let is_longer = drive.history().len() > before.records;
         case.check(is_longer, "a request left no record");
         return Ok(reply);
     }
-    case.refuse();
-    case.check(stand(drive)? == before, "without memory the drive changed");
+    case.refuse_by_reply();
+    case.check(
+        stand_of(drive)? == before,
+        "without memory the drive changed",
+    );
     case.is_marking = false;
     let reply = step(case, drive, asked, request);
     case.is_marking = true;
@@ -138,7 +141,7 @@ struct Stand {
     last: Moment,
 }
 
-fn stand<S: Store<Version>>(drive: &Drive<S>) -> io::Result<Stand> {
+fn stand_of<S: Store<Version>>(drive: &Drive<S>) -> io::Result<Stand> {
     let [one, two, three] = PURSES;
     Ok(Stand {
         records: drive.history().len(),
