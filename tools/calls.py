@@ -34,72 +34,100 @@ class Calling(Program):
 
 @dataclass
 class Called:
-    """What came of a case: how many calls there are and how many allocations they make with ample memory, how many refusals were met in them,
-    and how many were told by replies."""
+    """What came of a case: how many calls there are and how many allocations they make with ample memory; how many refusals fell into the
+    calls, and how many were told by replies and by errors; and how many pairs of refusals were tried."""
 
     name: str
     calls: int = 0
     allocations: int = 0
     met: int = 0
     replies: int = 0
+    errors: int = 0
+    pairs: int = 0
     wrong: list = field(default_factory=list)
 
     def line(self):
-        return f"{self.name}: {self.met} refusals in the calls, {self.replies} of them told by a reply, of {self.allocations} allocations of {self.calls} calls"
+        told = f"{self.replies} are told by a reply, {self.errors} by an error, {self.met - self.replies - self.errors} are done without"
+        return f"{self.name}: {self.met} refusals in the calls, of {self.allocations} allocations of {self.calls} calls; {told}; {self.pairs} in pairs"
 
 
-def replies_in(ran, name):
-    """How many calls told by a reply that there was no memory, and why the run isn't right, or none."""
-    told, end = CASE.match(ran.output), END % 1
-    marks = ran.errors.splitlines(keepends=True)
+class Wrong(Exception):
+    """Why a run isn't right."""
+
+
+def told_in(name, ran):
+    """How many calls told by a reply that there was no memory, and how many by an error."""
+    told, marks = CASE.match(ran.output), ran.errors.splitlines(keepends=True)
     if ran.status != 0:
-        return 0, f"it ended with status {ran.status}" if ran.status > 0 else f"it was ended by signal {-ran.status}"
-    if not told or told[1].decode() != name or ran.output[told.end() :] != end:
-        return 0, f"it says {ran.output.decode(errors='replace')!r}"
-    if not marks or any(it != MARKS[place % 2] for place, it in enumerate(marks)) or len(marks) % 2 or ran.told.get("calls_ended", 0) != len(marks) // 2:
-        return 0, "its calls don't begin and end in turn"
-    if int(told[2]) + int(told[3]) != ran.met():
-        return 0, f"{ran.met()} refusals were met, and {int(told[2])} replies and {int(told[3])} errors told them"
-    return int(told[2]), None
+        raise Wrong(f"it ended with status {ran.status}" if ran.status > 0 else f"it was ended by signal {-ran.status}")
+    if not told or told[1].decode() != name or ran.output[told.end() :] != END % 1:
+        raise Wrong(f"it says {ran.output.decode(errors='replace')!r}")
+    if not marks or len(marks) % 2 or any(it != MARKS[place % 2] for place, it in enumerate(marks)) or ran.told.get("calls_ended") != len(marks) // 2:
+        raise Wrong("its calls don't begin and end in turn")
+    replies, errors = int(told[2]), int(told[3])
+    if replies + errors > ran.met():
+        raise Wrong(f"{ran.met()} refusals were met, and {replies} replies and {errors} errors told them")
+    return replies, errors
 
 
-def swept(program, name, pool):
-    """Refuses each allocation of a case's calls, up to the first run that meets no refusal."""
-    ample, called = program.call(name), Called(name)
-    called.calls, called.allocations = ample.told.get("calls_ended", 0), ample.told.get("allocations", 0)
-    judge(called, "with ample memory", ample)
-    if not called.allocations:
-        called.wrong.append(f"{name}: its calls ask for no memory")
-    first = pool.map(lambda it: (it, program.call(name, Refusal(it))), range(1, called.allocations + 1))
-    if all([tell(called, it, ran) for it, ran in first]):
-        while called.met < 2 * called.allocations and tell(called, called.met + 1, program.call(name, Refusal(called.met + 1))):
-            pass
-    if called.met < called.allocations:
-        called.wrong.append(f"{name}: {called.met} refusals fell into its calls, which make {called.allocations} allocations with ample memory")
-    return called
+class Caller:
+    """Sweeps the cases of a program, so many runs side by side."""
+
+    def __init__(self, program, jobs):
+        self.program, self.pool = program, ThreadPoolExecutor(jobs)
+
+    def sweep(self, name):
+        """Refuses each allocation of a case's calls, alone and with the next one, up to the first run that meets no refusal."""
+        ample, called = self.program.call(name), Called(name)
+        called.calls, called.allocations = ample.told.get("calls_ended", 0), ample.told.get("allocations", 0)
+        self.told(called, "with ample memory", ample)
+        if not called.allocations:
+            called.wrong.append(f"{name}: its calls ask for no memory")
+        if all([self.refuse(called, *it) for it in self.runs(name, called.allocations, 1)]):
+            while called.met < 2 * called.allocations and self.refuse(called, *self.ran(name, Refusal(called.met + 1))):
+                pass
+        if called.met < called.allocations:
+            called.wrong.append(f"{name}: {called.met} refusals fell into its calls, which make {called.allocations} allocations with ample memory")
+        for refusal, ran in self.runs(name, called.allocations, 2):
+            self.refuse_two(called, refusal, ran)
+        return called
+
+    def ran(self, name, refusal):
+        return refusal, self.program.call(name, refusal)
+
+    def runs(self, name, most, count):
+        return self.pool.map(lambda it: self.ran(name, Refusal(it, count)), range(1, most + 1))
+
+    def told(self, called, when, ran):
+        try:
+            return told_in(called.name, ran)
+        except Wrong as why:
+            called.wrong.append(f"{called.name}, {when}: {why}")
+            return None
+
+    def refuse(self, called, refusal, ran):
+        """Takes a run with a refusal, and tells whether it was met. The library tells nothing of a run that a signal ended."""
+        replies, errors = self.told(called, f"{refusal} of its calls refused", ran) or (0, 0)
+        called.replies += replies
+        called.errors += errors
+        called.met += ran.met() > 0
+        return ran.met() > 0
+
+    def refuse_two(self, called, refusal, ran):
+        """Takes a run with two refusals. A call may do without an allocation, where it asks for a smaller one then; without both it can't."""
+        told = self.told(called, f"{refusal} of its calls refused", ran)
+        called.pairs += 1
+        if told == (0, 0):
+            called.wrong.append(f"{called.name}, {refusal} of its calls refused: no call tells it")
 
 
-def tell(called, number, ran):
-    """Tells a run with this refusal, and whether it was met. The library tells nothing of a run that a signal ended."""
-    judge(called, f"with {Refusal(number)} of its calls refused", ran)
-    called.met += ran.met()
-    return ran.met() > 0
-
-
-def judge(called, when, ran):
-    replies, why = replies_in(ran, called.name)
-    called.replies += replies
-    if why:
-        called.wrong.append(f"{called.name}, {when}: {why}")
-
-
-def swept_all(program, jobs):
+def sweep_all(program, jobs):
     """What came of all cases, in turn."""
-    found = {}
-    with ThreadPoolExecutor(jobs) as pool:
-        for name in program.names():
-            found[name] = swept(program, name, pool)
+    caller, names = Caller(program, jobs), program.names()
+    if not names:
+        return [Called("all cases", wrong=["all cases, with ample memory: they aren't as expected, each once"])]
+    found = {name: caller.sweep(name) for name in names}
     for name, other in REPLIES.items():
-        if name in found and other in found and found[name].replies != found[other].allocations:
-            found[name].wrong.append(f"{name}: {found[name].replies} refusals are told by a reply, and not the {found[other].allocations} of {other}")
+        if name in found and (other not in found or found[name].replies != found[other].allocations):
+            found[name].wrong.append(f"{name}: {found[name].replies} refusals are told by a reply, and not as many as {other} has allocations")
     return list(found.values())
