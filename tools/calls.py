@@ -1,4 +1,4 @@
-"""Each allocation of the library's calls refused in turn, on the worked cases of the program s4_refused_calls."""
+"""Each allocation of the library's calls refused in turn, on the worked cases of the program s4_refusal_tests."""
 import os
 import re
 from concurrent.futures import ThreadPoolExecutor

@@ -1,4 +1,4 @@
-// A small program in the place of s4_refused_calls, in which mistakes are planted that show only where an allocation is refused. It is
+// A small program in the place of s4_refusal_tests, in which mistakes are planted that show only where an allocation is refused. It is
 // compiled for each mistake by -DMISTAKE=K. Each of its two cases makes three calls, each of which takes a block of its own.
 #include <stdio.h>
 #include <stdlib.h>
