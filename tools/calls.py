@@ -35,7 +35,7 @@ class Calling(Program):
 @dataclass
 class Called:
     """What came of a case: how many calls there are and how many allocations they make with ample memory; how many refusals fell into the
-    calls, and how many were told by replies and by errors; and how many pairs of refusals were tried."""
+    calls, how many were told by replies and by errors, and how many calls did without; and how many pairs of refusals were tried."""
 
     name: str
     calls: int = 0
@@ -43,11 +43,12 @@ class Called:
     met: int = 0
     replies: int = 0
     errors: int = 0
+    without: int = 0
     pairs: int = 0
     wrong: list = field(default_factory=list)
 
     def line(self):
-        told = f"{self.replies} are told by a reply, {self.errors} by an error, {self.met - self.replies - self.errors} are done without"
+        told = f"{self.replies} are told by a reply, {self.errors} by an error, {self.without} are done without"
         return f"{self.name}: {self.met} refusals in the calls, of {self.allocations} allocations of {self.calls} calls; {told}; {self.pairs} in pairs"
 
 
@@ -107,10 +108,12 @@ class Caller:
 
     def refuse(self, called, refusal, ran):
         """Takes a run with a refusal, and tells whether it was met. The library tells nothing of a run that a signal ended."""
-        replies, errors = self.told(called, f"{refusal} of its calls refused", ran) or (0, 0)
+        told = self.told(called, f"{refusal} of its calls refused", ran)
+        replies, errors = told or (0, 0)
         called.replies += replies
         called.errors += errors
         called.met += ran.met() > 0
+        called.without += ran.met() > 0 and told == (0, 0)
         return ran.met() > 0
 
     def refuse_two(self, called, refusal, ran):
