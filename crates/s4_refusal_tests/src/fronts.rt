@@ -115,9 +115,12 @@ fn check_receipt(
     ((moment, cell, place), reply): ((u64, usize, u64), &Reply),
 ) {
     let is_one = pass.receipts().len() == before.saturating_add(1);
-    let is_same = pass.receipts().get(before).is_some_and(|it| {
-        (it.moment.tick(), it.cell, it.place) == (moment, cell, place) && it.reply == *reply
-    });
+    let is_same = match pass.receipts().get(before) {
+        Some(it) => {
+            (it.moment.tick(), it.cell, it.place) == (moment, cell, place) && it.reply == *reply
+        }
+        None => false,
+    };
     case.check(is_one && is_same, "another receipt");
 }
 

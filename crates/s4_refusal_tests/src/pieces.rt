@@ -158,7 +158,7 @@ pub fn arrive(case: &mut Case) -> io::Result<()> {
     let mut hall = Hall::open(alloc, 100, logins(alloc)?);
     for (index, row) in ROWS.iter().enumerate() {
         if !is_sent(case, &mut hall, row)? {
-            return check_after(case, &mut hall, &ROWS[index..]);
+            return check_after(case, &mut hall, index);
         }
     }
     Ok(())
@@ -181,10 +181,8 @@ fn is_sent(case: &mut Case, hall: &mut Hall, row: &Row) -> io::Result<bool> {
     case.is_marking = false;
     let sent = arrived(case, hall, row)?;
     case.is_marking = true;
-    case.check(
-        sent.is_some_and(|sent| sent.as_slice() == row.2),
-        "something else was sent then",
-    );
+    let is_same = matches!(&sent, Some(sent) if sent.as_slice() == row.2);
+    case.check(is_same, "something else was sent then");
     Ok(true)
 }
 
@@ -200,19 +198,20 @@ fn arrived_on(
     row: &Row,
 ) -> io::Result<Option<Vec<u8>>> {
     let moment = Moment::new(row.0);
-    if moment < hall.last() {
-        return Err(io::Error::from(ErrorKind::InvalidData));
+    if hall.last() <= moment {
+        case.begins();
+        let sent = hall.arrive(connection, moment, row.1);
+        case.ends();
+        Ok(sent.ok())
+    } else {
+        Err(io::Error::from(ErrorKind::InvalidData))
     }
-    case.begins();
-    let sent = hall.arrive(connection, moment, row.1);
-    case.ends();
-    Ok(sent.ok())
 }
 
-/// That a hall that answered so once answers so ever after, on each connection.
-fn check_after(case: &mut Case, hall: &mut Hall, rows: &[Row]) -> io::Result<()> {
+/// That a hall that had no memory at a frame has none ever after, on each connection.
+fn check_after(case: &mut Case, hall: &mut Hall, index: usize) -> io::Result<()> {
     case.is_marking = false;
-    for row in rows {
+    for row in ROWS.iter().skip(index) {
         for connection in [1, 2] {
             let sent = arrived_on(case, hall, connection, row)?;
             case.check(sent.is_none(), "it went on without memory");

@@ -120,13 +120,14 @@ fn step<S: Store<Version>>(
     (moment, caller): (Moment, Caller),
     request: &Request,
 ) -> io::Result<Reply> {
-    if moment < drive.last() {
-        return Err(io::Error::from(ErrorKind::InvalidData));
+    if drive.last() <= moment {
+        case.begins();
+        let reply = drive.step(moment, caller, request);
+        case.ends();
+        Ok(reply)
+    } else {
+        Err(io::Error::from(ErrorKind::InvalidData))
     }
-    case.begins();
-    let reply = drive.step(moment, caller, request);
-    case.ends();
-    Ok(reply)
 }
 
 /// The purses of the rows.
