@@ -55,7 +55,7 @@ fn serve_all<R: Wait>(
 ) -> io::Result<()> {
     for call in &CALLS {
         match passes.get_mut(call.0) {
-            Some(pass) => serve_one(case, rt, (front, pass), call)?,
+            Some(pass) => serve_one(case, rt, front, pass, call)?,
             None => return Err(io::Error::from(ErrorKind::InvalidData)),
         }
     }
@@ -85,14 +85,15 @@ fn asked(call: &Call) -> Option<(Caller, Request, Reply)> {
 fn serve_one<R: Wait>(
     case: &mut Case,
     rt: &R,
-    (front, pass): (&Front<OpenGate>, &mut Pass),
+    front: &Front<OpenGate>,
+    pass: &mut Pass,
     call: &Call,
 ) -> io::Result<()> {
-    let (caller, request, wanted) = asked(call).ok_or(io::Error::from(ErrorKind::InvalidData))?;
+    let asked = asked(call).ok_or(io::Error::from(ErrorKind::InvalidData))?;
     let clock = Moment::new(call.2);
     let before = pass.receipts().len();
     case.begins();
-    let mut reply = front.serve(rt, pass, caller, clock, &request);
+    let reply = ask(rt, front, pass, clock, &asked);
     case.ends();
     if is_no_memory(&reply) {
         case.refuse_by_reply();
@@ -100,11 +101,24 @@ fn serve_one<R: Wait>(
             pass.receipts().len() == before,
             "without memory there is a receipt",
         );
-        reply = front.serve(rt, pass, caller, clock, &request);
+        let again = ask(rt, front, pass, clock, &asked);
+        case.check(again == asked.2, "another reply");
+    } else {
+        case.check(reply == asked.2, "another reply");
     }
-    case.check(reply == wanted, "another reply");
-    check_receipt(case, pass, before, (call.4, &wanted));
+    check_receipt(case, pass, before, call.4, &asked.2);
     Ok(())
+}
+
+/// The call that the case is about.
+fn ask<R: Wait>(
+    rt: &R,
+    front: &Front<OpenGate>,
+    pass: &mut Pass,
+    clock: Moment,
+    asked: &(Caller, Request, Reply),
+) -> Reply {
+    front.serve(rt, pass, asked.0, clock, &asked.1)
 }
 
 /// That the receipt of a call stands behind so many others, and tells its reply.
@@ -112,7 +126,8 @@ fn check_receipt(
     case: &mut Case,
     pass: &Pass,
     before: usize,
-    ((moment, cell, place), reply): ((u64, usize, u64), &Reply),
+    (moment, cell, place): (u64, usize, u64),
+    reply: &Reply,
 ) {
     let is_one = pass.receipts().len() == before.saturating_add(1);
     let is_same = match pass.receipts().get(before) {
