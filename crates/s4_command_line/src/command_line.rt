@@ -1,19 +1,20 @@
 //! The command that a command line spells, or the fault of one that spells none.
 
-ghost use Rattle.std.specs.Prelude.{◌≡◌, ◌≢◌, ◌≤◌, ◌⊎◌, IfOk, Err, codes};
+ghost use Rattle.std.specs.Prelude.{◌≡◌, ◌≢◌, ◌≤◌, ◌⊎◌, IfOk, Some, Err, codes};
 ghost use Rattle.clap.specs.Matches.{found_of};
 ghost use Rattle.std.specs.IoError.{error_kind};
 ghost use Rattle.std.specs.declared.io.ErrorKind.TheVariants as io_kind;
 ghost use Rattle.clap.specs.Values.{kind_of};
-ghost use Rattle.s4_session.specs.LoginText.{principal_in};
+ghost use Rattle.s4_session.specs.LoginText.{principal_in, secret_in};
 ghost use Rattle.s4_commands.specs.Faults.{IsFaultOf};
 ghost use Rattle.s4_commands.specs.declared.fault.Fault.TheVariants as fault;
 ghost use Rattle.s4_run.specs.declared.fault.RunFault.TheVariants as run_fault;
-ghost use Rattle.s4_command_line.specs.Words.{IsCallOf, IsForTenant, IsHelloOf, client_in, fault_of_request, word_of};
+ghost use Rattle.s4_command_line.specs.Words.{IsCallOf, IsForTenant, client_in, fault_of_request, word_of};
 
+use crate::meaning::{all_meant, meant};
 use crate::parser::{
-    ADDRESS, CELLS, CLIENT, CONNECTIONS, IDLE, LOGINS, OPEN, SECRET, WHO, WINDOW, WORD, WORKERS,
-    parser,
+    ADDRESS, CELLS, CLIENT, CONNECTIONS, IDLE, LOGINS, OPEN, SECRET, WAIT, WHO, WINDOW, WORD,
+    WORKERS, parser,
 };
 use clap::error::ErrorKind;
 use clap::{ArgMatches, Error};
@@ -25,34 +26,35 @@ use s4_server::Settings;
 use s4_session::{Hello, principal_in, secret_in};
 use s4_types::{Caller, Principal, Request};
 use std::alloc::Global;
-use std::rt::Env;
+use std::rt::{Env, Files};
 use std::{env, io};
 
-/// The command that the program's arguments spell.
-pub fn given<R: Env + AllocGlobal>(rt: &R) -> Result<Command, Fault> {
+/// The command that the program's arguments spell. Files that these name are read.
+pub fn given<E: Env + AllocGlobal, R: Files + AllocGlobal>(env: &E, rt: &R) -> Result<Command, Fault> {
     let alloc = rt.alloc();
-    let words: Vec<String> = match env::args(rt) {
+    let words: Vec<String> = match env::args(env) {
         Ok(arguments) => arguments.collect(alloc)?,
         Err(error) => return Err(unread(alloc, &error)),
     };
-    parse(alloc, &words)
+    parse(rt, &words)
 }
 
 /// The command that the words spell, of which the first is the program's name.
-pub fn parse(alloc: Global, words: &[String]) -> Result<Command, Fault> {
-    match parser(alloc)?.try_get_matches_from(words) {
-        Ok(matches) => chosen(alloc, &matches),
-        Err(error) => told(alloc, &error),
+pub fn parse<R: Files + AllocGlobal>(rt: &R, words: &[String]) -> Result<Command, Fault> {
+    match parser(rt.alloc())?.try_get_matches_from(words) {
+        Ok(matches) => chosen(rt, &matches),
+        Err(error) => told(rt.alloc(), &error),
     }
 }
 
-fn chosen(alloc: Global, matches: &ArgMatches) -> Result<Command, Fault> {
+fn chosen<R: Files + AllocGlobal>(rt: &R, matches: &ArgMatches) -> Result<Command, Fault> {
+    let alloc = rt.alloc();
     match matches.subcommand() {
         Some(("run", _)) => Ok(Command::Run),
         Some(("hall", words)) => hall(alloc, words.get_str(LOGINS)),
         Some(("strike", words)) => strike(alloc, words.get_str(WHO).unwrap_or_default()),
         Some(("serve", words)) => serve(alloc, words),
-        Some(("call", words)) => call(alloc, words),
+        Some(("call", words)) => call(rt, words),
         _ => Err(Fault::of_words(alloc, "error: a command is wanted, as run")),
     }
 }
@@ -121,17 +123,29 @@ fn number(
     }
 }
 
-fn call(alloc: Global, words: &ArgMatches) -> Result<Command, Fault>
+fn call<R: Files + AllocGlobal>(rt: &R, words: &ArgMatches) -> Result<Command, Fault>
     ensures { IfOk result (IsCallOf (found_of words.now)) }
 {
-    let hello = hello(alloc, words)?;
-    let request = request(alloc, words.get_strs(WORD).unwrap_or_default())?;
+    let alloc = rt.alloc();
+    let wait = number(alloc, words, WAIT, 0, u64::MAX)?;
+    let secret = meant(rt, word(words, SECRET))?;
+    let hello = hello(alloc, words, secret.as_str())?;
+    let request = request(rt, words.get_strs(WORD).unwrap_or_default())?;
     let call = Call::new(alloc, word(words, ADDRESS), hello, request)?;
-    Ok(Command::Call(call))
+    Ok(Command::Call(call.waiting(wait)))
 }
 
 /// The request that the words spell, of which the first is its verb.
-fn request(alloc: Global, words: &[&str]) -> Result<Request, CallFault> {
+fn request<R: Files + AllocGlobal>(rt: &R, words: &[&str]) -> Result<Request, Fault> {
+    let texts = all_meant(rt, words)?;
+    let mut words = Vec::new(rt.alloc());
+    for text in &texts {
+        words.push(text.as_str())?;
+    }
+    Ok(request_of(rt.alloc(), words.as_slice())?)
+}
+
+fn request_of(alloc: Global, words: &[&str]) -> Result<Request, CallFault> {
     match words {
         [verb, words @ ..] => parse_request(alloc, verb, words).map_err(of_request),
         [] => Err(CallFault::BadRequest),
@@ -148,9 +162,11 @@ fn of_request(error: ParseError) -> CallFault
     }
 }
 
-/// The Hello of a call.
-fn hello(alloc: Global, words: &ArgMatches) -> Result<Hello, Fault>
-    ensures { IfOk result (IsHelloOf (found_of words.now)) }
+/// The Hello of a call with the secret that this text spells.
+fn hello(alloc: Global, words: &ArgMatches, secret: &str) -> Result<Hello, Fault>
+    ensures who { IfOk result (λ hello. principal_in (word_of (found_of words.now) (codes "WHO")) ≡ Some hello.caller.who) }
+    ensures client { IfOk result (λ hello. client_in (word_of (found_of words.now) (codes "CLIENT")) ≡ Some hello.caller.client) }
+    ensures secret { IfOk result (λ hello. secret_in secret.now ≡ Some hello.secret) }
 {
     let Some(who) = who_in(word(words, WHO)) else {
         return Err(misfit(alloc, WHO, "a number from 0 to 4294967294"));
@@ -158,7 +174,7 @@ fn hello(alloc: Global, words: &ArgMatches) -> Result<Hello, Fault>
     let Some(client) = client_in(word(words, CLIENT)) else {
         return Err(misfit(alloc, CLIENT, "a number from 0 to 4294967295"));
     };
-    let Some(secret) = secret_in(word(words, SECRET).as_bytes()) else {
+    let Some(secret) = secret_in(secret.as_bytes()) else {
         return Err(misfit(alloc, SECRET, "32 hexadecimal digits"));
     };
     let caller = Caller { who, client };

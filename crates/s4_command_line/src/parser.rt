@@ -65,6 +65,9 @@ pub const SECRET: &str = "SECRET";
 
 pub const WORD: &str = "WORD";
 
+/// The flag of a call.
+pub const WAIT: &str = "wait";
+
 /// The flags of a server.
 pub const WINDOW: &str = "window";
 
@@ -202,9 +205,15 @@ fn call_parser<'a>(alloc: Global) -> Result<Parser<'a>, AllocError> {
     let word = wanted(
         alloc,
         WORD,
-        "The request, as in a line of a script from its verb on",
+        "The request, as in a line of a script from its verb on; @ and a file for what it has",
     );
-    parser.arg(word.num_args(1..))
+    let wait = flag(
+        alloc,
+        WAIT,
+        "How many milliseconds it is tried to connect again",
+        "0",
+    );
+    parser.arg(word.num_args(1..))?.arg(wait)
 }
 
 /// Adds the arguments that say who calls.
@@ -222,7 +231,7 @@ fn with_caller<'a>(alloc: Global, parser: Parser<'a>) -> Result<Parser<'a>, Allo
     let secret = wanted(
         alloc,
         SECRET,
-        "The principal's secret, 32 hexadecimal digits",
+        "The principal's secret, 32 hexadecimal digits, or @ and a file that has them",
     );
     parser.arg(who)?.arg(client)?.arg(secret)
 }

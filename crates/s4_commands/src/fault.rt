@@ -19,6 +19,8 @@ pub enum Fault {
     CommandLine(String),
     /// The run ended so.
     Run(RunFault),
+    /// The file with this path, which a word of the command line names, can't be read, or is no text.
+    CannotReadFile(String),
     /// The call has no reply.
     Call(CallFault),
     /// The address of a server can't be had.
@@ -53,6 +55,7 @@ impl fmt::Display for Fault {
         match self {
             Fault::CommandLine(text) => write!(f, "{text}"),
             Fault::Run(fault) => write!(f, "{fault}"),
+            Fault::CannotReadFile(path) => write!(f, "cannot read {path}"),
             Fault::Call(fault) => write!(f, "{fault}"),
             Fault::CannotListen => write!(f, "cannot listen"),
             Fault::Serve(fault) => write!(f, "{fault}"),
