@@ -1,4 +1,5 @@
 """What a run may write in which allocations were refused."""
+import struct
 import threading
 
 NO_MEMORY = b"no-memory\n"
@@ -9,6 +10,17 @@ REFUSED = bytes.fromhex("000000020810")
 
 class Wrong(Exception):
     """Why a run isn't right."""
+
+
+def judged(call):
+    """Why what is judged so isn't right, or none. What can't be read as it's judged isn't right either."""
+    try:
+        call()
+    except Wrong as why:
+        return str(why)
+    except (ValueError, IndexError, KeyError, struct.error) as error:
+        return f"what it writes can't be read: {error!r}"
+    return None
 
 
 def replies_in(output):
@@ -145,11 +157,7 @@ class HallJudge(Judge):
     """A hall's requests are told apart by their connection and by how many frames came on it before."""
 
     def refused(self, output):
-        try:
-            sent = sent_in(output)
-        except ValueError as error:
-            raise Wrong(f"its output isn't that of a hall: {error}") from error
-        return tuple((conn, it) for conn, stream in sent.items() for it, (begin, end) in enumerate(frames_in(stream)) if stream[begin:end] == REFUSED)
+        return tuple((conn, it) for conn, stream in sent_in(output).items() for it, (begin, end) in enumerate(frames_in(stream)) if stream[begin:end] == REFUSED)
 
     def arrivals(self):
         """The arrivals by connection: each the number of its line and its bytes."""

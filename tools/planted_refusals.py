@@ -21,6 +21,7 @@ PLANTS = {
     "refusals ever after": ("requests are refused, and only", LINES - 1),
     "another answer": ("it writes", LINES),
     "it never ends": ("ended by signal 14", LINES),
+    "a list of no number": ("can't be read", LINES),
 }
 
 

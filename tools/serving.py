@@ -6,7 +6,7 @@ import struct
 from concurrent.futures import ThreadPoolExecutor
 from dataclasses import dataclass, field, replace
 
-from tools.judging import ENDED, REFUSED, Wrong, frames_in
+from tools.judging import ENDED, REFUSED, Wrong, frames_in, judged
 from tools.refusing import NONE, Refusal
 from tools.sweeps import QUICK, Swept, spread
 
@@ -320,27 +320,16 @@ class ServerSweep:
     def tried(self, refusal):
         """A run with this refusal, why it isn't right, and whether that is known."""
         heard, ran, listens, trouble = self.run(refusal)
-        try:
-            self.judge(heard, ran, listens, trouble)
-        except Wrong as why:
-            return ran, f"{refusal} refused: {why}", known(heard, ran, listens)
-        return ran, None, None
-
-    def is_right(self, heard, ran):
-        try:
-            self.judge(heard, ran, True, None)
-        except Wrong:
-            return False
-        return True
+        why = judged(lambda: self.judge(heard, ran, listens, trouble))
+        return (ran, f"{refusal} refused: {why}", known(heard, ran, listens)) if why else (ran, None, None)
 
     def sweep(self):
         """Sweeps all threads, once it's seen that mistakes are found in what a server with ample memory told."""
         heard, ample, listens, trouble = self.run(NONE)
-        try:
-            self.judge(heard, ample, listens, trouble)
-        except Wrong as why:
+        why = judged(lambda: self.judge(heard, ample, listens, trouble))
+        if why:
             return [Swept("serve", wrong=[f"serve, with ample memory: {why}"])]
-        unseen = [name for name, *planted in plants(heard, ample) if self.is_right(*planted)]
+        unseen = [name for name, other, ran in plants(heard, ample) if not judged(lambda it=(other, ran): self.judge(*it, True, None))]
         every = [self.sweep_thread(it, count) for it, count in sorted(ample.by_thread().items()) if count]
         every[-1].wrong += [f"serve: a planted mistake isn't found: {it}" for it in unseen]
         lacking = [] if self.quick else sorted(set(KNOWN) - {it for swept in every for it in swept.known})

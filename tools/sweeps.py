@@ -3,7 +3,7 @@ import os
 from concurrent.futures import ThreadPoolExecutor
 from dataclasses import dataclass, field
 
-from tools.judging import JUDGES, Wrong
+from tools.judging import JUDGES, judged
 from tools.refusing import Refusal
 
 # Of how many allocations of a large row each kind of refusal is tried, and of how many of each row when it is to be quick; of fewer where
@@ -65,7 +65,9 @@ class Sweeper:
         if not swept.allocations:
             swept.wrong.append(f"{swept.name}: the program asks for no memory that the library sees")
             return swept
-        self.tell(swept, "with ample memory", lambda: judge.judge(ample))
+        why = judged(lambda: judge.judge(ample))
+        if why:
+            swept.wrong.append(f"{swept.name}, with ample memory: {why}")
         for count in (1, 2):
             self.sweep_by(count, row, judge, given, swept)
         return swept
@@ -88,17 +90,7 @@ class Sweeper:
     def tried(self, judge, given, refusal):
         """A run with this refusal, and why it isn't right."""
         ran = self.program.run(judge.words(), given, refusal)
-        try:
-            judge.judge(ran)
-        except Wrong as why:
-            return ran, str(why), refusal
-        return ran, None, refusal
-
-    def tell(self, swept, when, call):
-        try:
-            call()
-        except Wrong as why:
-            swept.wrong.append(f"{swept.name}, {when}: {why}")
+        return ran, judged(lambda: judge.judge(ran)), refusal
 
 
 def ran_on(sweeper, judge, given, count, swept):

@@ -6,7 +6,7 @@
 #include <string.h>
 #include <unistd.h>
 
-enum { NONE, LOSES_A_LINE, CUTS_A_LINE, MAKES_IT_ANYWAY, SAYS_NOTHING, TELLS_ANOTHER_STATUS, CRASHES, REFUSES_EVER_AFTER, TAKES_ANOTHER_WAY, HANGS };
+enum { NONE, LOSES_A_LINE, CUTS_A_LINE, MAKES_IT_ANYWAY, SAYS_NOTHING, TELLS_ANOTHER_STATUS, CRASHES, REFUSES_EVER_AFTER, TAKES_ANOTHER_WAY, HANGS, TELLS_NO_NUMBER };
 
 static int ended(const char *why)
 {
@@ -33,6 +33,9 @@ static int refuse(int *made)
         abort();
     case TAKES_ANOTHER_WAY:
         printf("made 7.0.%d\n", *made += 2);
+        return 1;
+    case TELLS_NO_NUMBER:
+        puts("names many");
         return 1;
     case HANGS:
         for (;;)

@@ -1,5 +1,5 @@
 -- What the ledger's charges weigh, as it is advanced and charged.
-use Rattle.std.proofs.Common.{◌≡◌, ℕ, zero, ◌+◌, ◌<◌, ◌≤◌, Bool, true, false, cond, Some, List, [], ◌∷◌, refl, ◌∙◌, ap, arith}
+use Rattle.std.proofs.Common.{length, Option, None, subst, sym, ◌≡◌, ℕ, zero, ◌+◌, ◌<◌, ◌≤◌, Bool, true, false, cond, Some, List, [], ◌∷◌, refl, ◌∙◌, ap, arith}
 use Rattle.std.specs.Prelude.{nat_lt, sum_by, if◌then◌else◌}
 use Rattle.std.specs.List.Sorted.{IsPermutation}
 use Rattle.std.proofs.lemmas.List.Sums.{sum_by-cons}
@@ -10,10 +10,11 @@ use Rattle.s4_types.specs.Base.{Base}
 use Rattle.s4_types.specs.Names.{same_purse}
 use Rattle.s4_types.proofs.Booleans.{by_test}
 use Rattle.s4_ledger.specs.declared.charge.Charge.{Charge}
-use Rattle.s4_ledger.specs.Books.{spending, lasting}
+use Rattle.s4_ledger.specs.declared.accounts.Payer.{Payer}
+use Rattle.s4_ledger.specs.Books.{Books, spending, lasting}
 use Rattle.s4_ledger.specs.Laws.{sum_by-lasting}
 use Rattle.s4_state.specs.Weights.{purse_weight}
-use Rattle.s4_drive.specs.Stands.{charge_weight, above, charged}
+use Rattle.s4_drive.specs.Stands.{charge_weight, above, charged, Pays, IsReady, paying}
 
 -- ADVANCING
 
@@ -105,3 +106,15 @@ charged-three horizon m purse a b c old one two new first second third weight p 
     gathered : (test : Bool) (x y z all : ℕ) → all ≡ x + y + z → cond test all 0 ≡ cond test x 0 + cond test y 0 + cond test z 0
     gathered true x y z all e = omega (arith, e)
     gathered false x y z all e = refl
+
+-- WHO PAYS
+
+pub pays-one : (payer : Payer) (told : Option Payer) (purse : Option Purse) (costs : List ℕ) (ledger : Books) → told ≡ Some payer → Pays told purse costs ledger → (purse ≡ Some payer.purse) × IsReady payer costs ledger
+pays-one payer told purse costs ledger is pays = subst (λ o. Pays o purse costs ledger) is pays
+
+-- what is charged to who pays is charged to the purse
+pub paid : (f : ℕ → ℕ → ℕ) (m : ℕ) (payer : Option Payer) (purse : Option Purse) (costs : List ℕ) (ledger : Books) → Pays payer purse costs ledger → (p : Purse) → charged f m (paying payer) costs p ≡ charged f m purse costs p
+paid f m (Some payer) purse costs ledger pays p = ap (λ o. charged f m o costs p) (sym pays.0)
+paid f m None None costs ledger pays p = refl
+paid f m None (Some q) [] ledger pays p = sym (nothing (same_purse q p))
+paid f m None (Some q) (cost ∷ costs) ledger pays p = let none : length (cost ∷ costs) ≡ 0 = pays q refl in absurd (omega (arith, none))

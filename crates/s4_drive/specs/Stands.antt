@@ -1,6 +1,7 @@
 -- What a drive holds beside its state stands for its history: the window, and the ledger.
-use Rattle.std.specs.Prelude.{◌≡◌, ℕ, ◌+◌, ◌<◌, ◌≤◌, nat_lt, true, Option, Some, None, List, [], ◌∷◌, Contains, length, sum, sum_by, if◌then◌else◌}
+use Rattle.std.specs.Prelude.{◌≡◌, ℕ, ◌+◌, ◌<◌, ◌≤◌, nat_lt, true, Option, Some, None, List, [], ◌∷◌, length, sum, sum_by, if◌then◌else◌}
 use Rattle.std.specs.List.{AllByRecursion}
+use Rattle.std.specs.Option.{option_map}
 use Rattle.s4_types.specs.declared.object.Purse.{Purse}
 use Rattle.s4_types.specs.declared.record.Record.{Record}
 use Rattle.s4_types.specs.declared.request.Request.{Request}
@@ -10,6 +11,7 @@ use Rattle.s4_types.specs.Base.{Base}
 use Rattle.s4_types.specs.Horizon.{guarded_at, horizon_at}
 use Rattle.s4_types.specs.Spending.{budget_of}
 use Rattle.s4_types.specs.Play.{last_of}
+use Rattle.s4_ledger.specs.declared.accounts.Payer.{Payer}
 use Rattle.s4_ledger.specs.declared.charge.Charge.{Charge}
 use Rattle.s4_ledger.specs.Books as books
 use Rattle.s4_state.specs.Sound.{IsSound}
@@ -54,9 +56,19 @@ charged weight m (Some purse) costs p = if same_purse purse p then sum_by (weigh
 abbrev pub HasRoom : Purse → List ℕ → books.Books → Type 0
 HasRoom p costs ledger = 0 < length costs → books.spending p ledger.charges + sum costs ≤ books.budget_of p ledger.budgets
 
--- there is a place for a charge of each cost to the purse, with that end
-abbrev pub HasPlaces : Purse → ℕ → List ℕ → List Charge → Type 0
-HasPlaces p end costs places = AllByRecursion (λ cost. Contains places (record { purse = p; end = end; cost = cost })) costs
+-- the payer has an account, and there is room for a charge of each cost
+pub record IsReady (payer : Payer) (costs : List ℕ) (ledger : books.Books) : Type 0 where
+  pub account : books.HasAccount payer ledger.budgets
+  pub room : length costs ≤ ledger.room
+
+-- it is the purse's that pays for the costs; where none does the purse, if there is one, has none to pay for
+abbrev pub Pays : Option Payer → Option Purse → List ℕ → books.Books → Type 0
+Pays (Some payer) purse costs ledger = (purse ≡ Some payer.purse) × IsReady payer costs ledger
+Pays None purse costs ledger = (p : Purse) → purse ≡ Some p → length costs ≡ 0
+
+-- the purse that pays, if any does
+abbrev pub paying : Option Payer → Option Purse
+paying payer = option_map (λ p. p.purse) payer
 
 -- no cost is 0
 abbrev pub ArePositive : List ℕ → Type 0

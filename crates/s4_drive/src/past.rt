@@ -1,6 +1,6 @@
 //! What a request makes past, and what that costs.
 
-ghost use Rattle.std.specs.Prelude.{◌≡◌, ◌≤◌, ℕ, sum};
+ghost use Rattle.std.specs.Prelude.{◌≡◌, ◌≤◌, ℕ, length, sum};
 ghost use Rattle.s4_types.specs.Answer.{made_past};
 ghost use Rattle.s4_types.specs.Play.{last_of};
 ghost use Rattle.s4_types.specs.Spending.{binding_cost as cost_of_binding};
@@ -47,6 +47,17 @@ impl Past {
             Request::SetAcl { object, .. } => Past::One(state.acl_cost(object)),
             Request::PDelete { name, .. } => Past::One(binding_cost(name)),
             _ => Past::Nothing,
+        }
+    }
+
+    /// How many values or bindings these are.
+    pub fn count(self) -> usize
+        ensures { result ≡ length (costs_of self) }
+    {
+        match self {
+            Past::Nothing => 0,
+            Past::One(_) => 1,
+            Past::Object { .. } => 3,
         }
     }
 

@@ -1,3 +1,4 @@
-pub mod Counting
+pub mod Placing
 pub mod Accounting
+pub mod Queueing
 pub mod Balancing

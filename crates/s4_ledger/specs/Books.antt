@@ -1,16 +1,18 @@
 -- What a ledger tells: the charges that count, what they sum up to, and the budgets.
-use Rattle.std.specs.Prelude.{ℕ, Bool, nat_lt, List, sum_by, filter, unwrap_or, is_some, if◌then◌else◌}
-use Rattle.std.specs.Map.{lookup}
+use Rattle.std.specs.Prelude.{◌≡◌, ℕ, suc, Bool, nat_lt, Option, Some, None, List, [], ◌∷◌, sum_by, filter, unwrap_or, is_some, if◌then◌else◌}
+use Rattle.std.specs.Map.{lookup, keys_of}
+use Rattle.std.specs.Option.{option_map}
 use Rattle.std.specs.BTreeMap.{is_at}
 use Rattle.s4_types.specs.declared.object.Purse.{Purse}
 use Rattle.s4_types.specs.Names.{same_purse, purse_cmp}
+use Rattle.s4_ledger.specs.declared.accounts.Payer.{Payer}
 use Rattle.s4_ledger.specs.declared.charge.Charge.{Charge}
 
--- the horizon, the charges that count, those that there is a place for, and the budgets of the purses that have an account
+-- the horizon, the charges that count, for how many more there is room, and the budgets of the purses that have an account, in the order in which they were opened
 pub record Books : Type 0 where
   pub horizon : ℕ
   pub charges : List Charge
-  pub places : List Charge
+  pub room : ℕ
   pub budgets : List (Purse × ℕ)
 
 -- what a charge counts for in the purse's spending
@@ -36,3 +38,16 @@ budget_of purse budgets = unwrap_or (lookup (is_at (purse_cmp purse)) budgets) 6
 -- whether the purse has an account, which its budget is kept in
 abbrev pub has_budget : Purse → List (Purse × ℕ) → Bool
 has_budget purse budgets = is_some (lookup (is_at (purse_cmp purse)) budgets)
+
+-- where the purse stands first among these
+abbrev pub place_among : Purse → List Purse → Option ℕ
+place_among purse [] = None
+place_among purse (p ∷ ps) = if is_at (purse_cmp purse) p then Some 0 else option_map (λ place. suc place) (place_among purse ps)
+
+-- the place of its account
+abbrev pub place_of : Purse → List (Purse × ℕ) → Option ℕ
+place_of purse budgets = place_among purse (keys_of budgets)
+
+-- the payer's account is in its place
+abbrev pub HasAccount : Payer → List (Purse × ℕ) → Type 0
+HasAccount payer budgets = place_of payer.purse budgets ≡ Some payer.place

@@ -1,5 +1,5 @@
 pub mod Accounts
 pub mod Balance
 pub mod Books
-pub mod Counts
+pub mod Queue
 pub mod Laws

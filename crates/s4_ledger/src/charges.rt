@@ -1,123 +1,175 @@
-//! How often each charge counts.
+//! The charges, in the order of their ends.
 
-ghost use Rattle.std.specs.Prelude.{◌≡◌, ◌+◌, ◌<◌, ◌≤◌, ◌^◌, ◌↔◌, [], ◌∷◌, Contains, OnOk, IsOk, IfSome, IfNone, IsTrue};
+ghost use Rattle.std.specs.Prelude.{◌≡◌, ◌+◌, ◌<◌, ◌≤◌, ◌^◌, ◌↔◌, [], ◌∷◌, Contains, OnOk, IsOk, IfSome, IfNone, IsTrue, IsSome, length, true};
+ghost use Rattle.std.specs.List.{HoldsAt};
 ghost use Rattle.std.specs.List.Sorted.{IsPermutation};
-ghost use Rattle.std.specs.Map.{keys_of};
+ghost use Rattle.s4_ledger.specs.declared.accounts.Payer.{Payer};
 ghost use Rattle.s4_ledger.specs.declared.charge.Charge.{Charge};
+ghost use Rattle.s4_ledger.specs.declared.charge.Entry.{Entry};
 ghost use Rattle.s4_ledger.specs.Books.{spending, lasting};
-ghost use Rattle.s4_ledger.specs.Counts.{charges_of};
+ghost use Rattle.s4_ledger.specs.Queue.{charge_of, charges_of, payers_of, counts_as};
 
-use crate::charge::Charge;
+use crate::accounts::Payer;
+use crate::charge::{Charge, Entry};
 use s4_types::{Moment, NoMemory, Purse};
 use std::alloc::Global;
-use std::collections::BTreeMap;
+use std::collections::VecDeque;
 use std::marker::Model;
 
-/// How often each charge counts. One that stands here has a place, also where it counts no times: it
-/// takes no memory when it comes.
+/// The charges in the order of their ends, with those among them that were forgiven and wait for
+/// their end.
 #[derive(Drop)]
 pub struct Charges {
-    counts: BTreeMap<Charge, u32>,
+    queue: VecDeque<Entry>,
 }
 
 impl Model for Charges {
-    ghost use Rattle.std.specs.Prelude.{ℕ, List};
-    ghost use Rattle.s4_ledger.specs.declared.charge.Charge.{Charge};
-    ghost use Rattle.s4_ledger.specs.Counts.{IsInOrder};
+    ghost use Rattle.std.specs.Prelude.{◌-◌};
+    ghost use Rattle.s4_ledger.specs.Queue.{Queue, IsInOrder};
 
-    ghost Value = { List (Charge × ℕ) };
+    ghost Value = { Queue };
 
-    ghost view = { λ c. c.counts.entries };
+    ghost view = { λ c. record { entries = c.queue.items; room = c.queue.cap - c.queue.len } };
 
-    ghost invariant = { λ c. IsInOrder c.counts.entries };
+    ghost invariant = { λ c. IsInOrder c.queue.items };
 }
 
 impl Charges {
-    /// No charges, and no places. Takes no memory.
+    /// No charges. Takes no memory.
     pub fn new(alloc: Global) -> Charges
-        ensures { result ≡ [] }
+        ensures { result.entries ≡ [] }
     {
         Charges {
-            counts: BTreeMap::new(alloc),
+            queue: VecDeque::new(alloc),
         }
     }
 
-    /// Makes a place for the charge, if it has none.
-    pub fn reserve(&mut self, charge: &Charge) -> Result<(), NoMemory>
-        ensures ok { OnOk result (Contains (keys_of self.new) charge.now) }
-        ensures there { Contains (keys_of self.old) charge.now → IsOk result }
-        ensures still { (c : Charge) → Contains (keys_of self.old) c → Contains (keys_of self.new) c }
-        ensures fresh { (c : Charge) → Contains (keys_of self.new) c → Contains (charge.now ∷ keys_of self.old) c }
-        ensures charges { charges_of self.new ≡ charges_of self.old }
+    /// Makes room for so many more.
+    pub fn reserve(&mut self, more: usize) -> Result<(), NoMemory>
+        ensures ok { OnOk result (more ≤ self.new.room) }
+        ensures there { more ≤ self.old.room → IsOk result }
+        ensures room { self.old.room ≤ self.new.room }
+        ensures entries { self.new.entries ≡ self.old.entries }
     {
-        if self.counts.contains_key(charge) {
-            return Ok(());
-        }
-        self.counts.insert(*charge, 0)?;
-        Ok(())
+        self.queue.reserve(more)
     }
 
     /// Whether such a charge counts.
     pub fn holds(&self, charge: &Charge) -> bool
-        ensures { IsTrue result ↔ Contains (charges_of self.now) charge.now }
+        ensures { IsTrue result ↔ Contains (charges_of self.now.entries) charge.now }
     {
-        match self.counts.get(charge) {
-            Some(count) => *count > 0,
-            None => false,
+        self.find(charge).is_some()
+    }
+
+    /// Puts an entry behind those that end by its end. Takes no memory.
+    pub fn put(&mut self, entry: Entry)
+        requires costs { 0 < entry.cost }
+        requires room { 0 < self.old.room }
+        ensures charges { IsPermutation (charge_of entry ∷ charges_of self.old.entries)
+            (charges_of self.new.entries) }
+        ensures payers { (p : Payer) → Contains (payers_of self.new.entries) p
+            → Contains (entry.payer ∷ payers_of self.old.entries) p }
+        ensures room { self.old.room ≤ self.new.room + 1 }
+    {
+        if self.ends_by(entry.end) {
+            self.queue.push_back_reserved(entry);
+            return;
         }
+        let index = self.queue.partition_point(|other| other.end <= entry.end);
+        let put: Result<_, _> = self.queue.insert(index, entry);
+        put.unwrap();
     }
 
-    /// Puts a charge in its place. Takes no memory.
-    pub fn put(&mut self, charge: &Charge)
-        requires place { Contains (keys_of self.old) charge.now }
-        requires costs { 0 < charge.now.cost }
-        requires fits { spending charge.now.purse (charges_of self.old) + charge.now.cost < 2 ^ 32 }
-        ensures charges { IsPermutation (charge.now ∷ charges_of self.old) (charges_of self.new) }
-        ensures places { keys_of self.new ≡ keys_of self.old }
+    /// Takes out one such charge, and tells who paid for it.
+    pub fn take_out(&mut self, charge: &Charge) -> Payer
+        requires { Contains (charges_of self.old.entries) charge.now }
+        ensures charges { IsPermutation (charges_of self.old.entries)
+            (charge.now ∷ charges_of self.new.entries) }
+        ensures payers { payers_of self.new.entries ≡ payers_of self.old.entries }
+        ensures payer { Contains (payers_of self.old.entries) result }
+        ensures purse { result.purse ≡ charge.now.purse }
+        ensures room { self.new.room ≡ self.old.room }
     {
-        let count = self.counts.get_mut(charge).unwrap();
-        *count += 1;
+        let index = self.find(charge).unwrap();
+        self.queue[index].cost = 0;
+        self.queue[index].payer
     }
 
-    /// Takes out one such charge. Its place stays.
-    pub fn take_out(&mut self, charge: &Charge)
-        requires { Contains (charges_of self.old) charge.now }
-        ensures charges { IsPermutation (charges_of self.old) (charge.now ∷ charges_of self.new) }
-        ensures places { keys_of self.new ≡ keys_of self.old }
-    {
-        let count = self.counts.get_mut(charge).unwrap();
-        *count -= 1;
-    }
-
-    /// Takes out the first charge, with how often it counts, where its end is at most the horizon.
-    pub fn take_ended(&mut self, horizon: Moment) -> Option<(Charge, u32)>
-        ensures taken { IfSome result (λ e. self.old ≡ e ∷ self.new) }
-        ensures ended { IfSome result (λ e. e.0.end ≤ horizon) }
+    /// Takes out the first entry, where its end is at most the horizon.
+    pub fn take_ended(&mut self, horizon: Moment) -> Option<Entry>
+        ensures taken { IfSome result (λ e. self.old.entries ≡ e ∷ self.new.entries) }
+        ensures ended { IfSome result (λ e. e.end ≤ horizon) }
         ensures none { IfNone result (self.new ≡ self.old) }
-        ensures lasting { IfNone result (lasting horizon (charges_of self.old) ≡ charges_of self.old) }
-        ensures above { IfNone result ((c : Charge) → Contains (keys_of self.old) c → horizon < c.end) }
+        ensures lasting { IfNone result (lasting horizon (charges_of self.old.entries)
+            ≡ charges_of self.old.entries) }
+        ensures room { self.old.room ≤ self.new.room }
     {
-        let (first, _) = self.counts.first_key_value()?;
+        let first = self.queue.front()?;
         if first.end > horizon {
             return None;
         }
-        self.counts.pop_first()
+        self.queue.pop_front()
     }
 
     /// What the purse's charges cost whose ends are at most the horizon, in bytes.
     pub fn ended(&self, purse: &Purse, horizon: Moment) -> u32
-        requires { spending purse.now (charges_of self.now) < 2 ^ 32 }
-        ensures { result + spending purse.now (lasting horizon (charges_of self.now)) ≡ spending purse.now (charges_of self.now) }
+        requires { spending purse.now (charges_of self.now.entries) < 2 ^ 32 }
+        ensures { result + spending purse.now (lasting horizon (charges_of self.now.entries))
+            ≡ spending purse.now (charges_of self.now.entries) }
     {
         let mut ended = 0;
-        for (charge, count) in &self.counts {
-            if charge.end > horizon {
+        let mut index = 0;
+        while index < self.queue.len() {
+            let entry = &self.queue[index];
+            if entry.end > horizon {
                 return ended;
             }
-            if charge.purse == *purse {
-                ended += *count * charge.cost;
+            if entry.payer.purse == *purse {
+                ended += entry.cost;
             }
+            index += 1;
         }
         ended
     }
+
+    // Whether all entries end by that moment.
+    fn ends_by(&self, end: Moment) -> bool
+        ensures { IsTrue result → (e : Entry) → Contains self.now.entries e → e.end ≤ end }
+    {
+        match self.queue.back() {
+            Some(last) => last.end <= end,
+            None => true,
+        }
+    }
+
+    // The place of the first entry that counts as such a charge.
+    fn find(&self, charge: &Charge) -> Option<usize>
+        ensures found { IsSome result ↔ Contains (charges_of self.now.entries) charge.now }
+        ensures within { IfSome result (λ i. i < length self.now.entries) }
+        ensures here { IfSome result
+            (HoldsAt (λ e. counts_as charge.now e ≡ true) self.now.entries) }
+    {
+        let mut index = self.queue.partition_point(|entry| entry.end < charge.end);
+        while index < self.queue.len() {
+            let entry = &self.queue[index];
+            if entry.end > charge.end {
+                return None;
+            }
+            if is_charge(entry, charge) {
+                return Some(index);
+            }
+            index += 1;
+        }
+        None
+    }
+}
+
+// Whether the entry counts, and as such a charge.
+fn is_charge(entry: &Entry, charge: &Charge) -> bool
+    ensures { result ≡ counts_as charge.now entry.now }
+{
+    entry.cost > 0
+        && entry.end == charge.end
+        && entry.payer.purse == charge.purse
+        && entry.cost == charge.cost
 }

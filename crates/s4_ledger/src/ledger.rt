@@ -1,14 +1,14 @@
 //! What the past of each purse costs, and what each purse may spend on it.
 
-ghost use Rattle.std.specs.Prelude.{◌≡◌, ◌+◌, ◌<◌, ◌≤◌, ◌↔◌, [], ◌∷◌, Contains, OnOk, OnErr, IsOk, IsTrue, true, if◌then◌else◌};
+ghost use Rattle.std.specs.Prelude.{◌≡◌, ◌+◌, ◌<◌, ◌≤◌, ◌↔◌, [], ◌∷◌, Contains, IfOk, OnOk, OnErr, IsOk, IsTrue, true, false, if◌then◌else◌};
 ghost use Rattle.std.specs.List.Sorted.{IsPermutation};
 ghost use Rattle.s4_types.specs.declared.object.Purse.{Purse};
 ghost use Rattle.s4_types.specs.Names.{same_purse};
-ghost use Rattle.s4_ledger.specs.declared.charge.Charge.{Charge};
-ghost use Rattle.s4_ledger.specs.Books.{spending, lasting, budget_of, has_budget};
+ghost use Rattle.s4_ledger.specs.declared.accounts.Payer.{Payer};
+ghost use Rattle.s4_ledger.specs.Books.{spending, lasting, budget_of, has_budget, HasAccount};
 
-use crate::accounts::Accounts;
-use crate::charge::Charge;
+use crate::accounts::{Accounts, Payer};
+use crate::charge::{Charge, Entry};
 use crate::charges::Charges;
 use s4_types::{Moment, NoMemory, Purse};
 use std::alloc::Global;
@@ -27,30 +27,30 @@ pub struct Ledger {
 }
 
 impl Model for Ledger {
-    ghost use Rattle.std.specs.Map.{keys_of};
     ghost use Rattle.s4_ledger.specs.Accounts.{budgets_of};
     ghost use Rattle.s4_ledger.specs.Books.{Books};
-    ghost use Rattle.s4_ledger.specs.Counts.{charges_of};
+    ghost use Rattle.s4_ledger.specs.Queue.{charges_of};
     ghost use Rattle.s4_ledger.specs.Balance.{IsBalanced};
 
     ghost Value = { Books };
 
     ghost view = { λ l. record {
       horizon = l.horizon;
-      charges = charges_of l.charges;
-      places = keys_of l.charges;
+      charges = charges_of l.charges.entries;
+      room = l.charges.room;
       budgets = budgets_of l.accounts;
     } };
 
-    ghost invariant = { λ l. IsBalanced l.charges l.accounts };
+    ghost invariant = { λ l. IsBalanced l.charges.entries l.accounts };
 }
 
 impl Ledger {
-    /// The horizon is at moment 0, there are no charges, and each budget is the default. Takes no
-    /// memory.
+    /// The horizon is at moment 0, there are no charges and no accounts, and each budget is the
+    /// default. Takes no memory.
     pub fn new(alloc: Global) -> Ledger
         ensures horizon { result.horizon ≡ 0 }
         ensures charges { result.charges ≡ [] }
+        ensures accounts { result.budgets ≡ [] }
         ensures budgets { (p : Purse) → budget_of p result.budgets ≡ 65536 }
     {
         Ledger {
@@ -67,37 +67,53 @@ impl Ledger {
         self.horizon
     }
 
-    /// Makes a place for charges of this purse, end and cost. Where memory is refused, nothing changes
-    /// that counts; where there is such a place already, none is needed.
-    pub fn reserve(&mut self, purse: &Purse, end: Moment, cost: u32) -> Result<(), NoMemory>
-        ensures ok { OnOk result (Contains self.new.places (record { purse = purse.now; end = end; cost = cost })) }
-        ensures there { Contains self.old.places (record { purse = purse.now; end = end; cost = cost }) → IsOk result }
-        ensures places { (c : Charge) → Contains self.old.places c → Contains self.new.places c }
+    /// Makes room for so many charges. Where there is such room already, no memory is needed.
+    pub fn reserve(&mut self, more: usize) -> Result<(), NoMemory>
+        ensures ok { OnOk result (more ≤ self.new.room) }
+        ensures there { more ≤ self.old.room → IsOk result }
+        ensures room { self.old.room ≤ self.new.room }
         ensures horizon { self.new.horizon ≡ self.old.horizon }
         ensures charges { self.new.charges ≡ self.old.charges }
-        ensures budgets { (p : Purse) → budget_of p self.new.budgets ≡ budget_of p self.old.budgets }
-        ensures accounts { (p : Purse) → has_budget p self.old.budgets ≡ true → has_budget p self.new.budgets ≡ true }
+        ensures budgets { self.new.budgets ≡ self.old.budgets }
     {
-        self.accounts.open(purse)?;
-        self.charges.reserve(&Charge {
-            purse: *purse,
-            end,
-            cost,
-        })
+        self.charges.reserve(more)
     }
 
-    /// The charges whose end is at most the horizon no longer count, and their places are given up.
+    /// Opens an account for the purse, if it has none, and tells its place: so it is looked for once,
+    /// and charged several times. Its budget stays as it is, and setting it takes no memory then. Where
+    /// memory is refused, nothing changes.
+    pub fn open(&mut self, purse: &Purse) -> Result<Payer, NoMemory>
+        ensures payer { IfOk result (λ payer. payer.purse ≡ purse.now) }
+        ensures place { IfOk result (λ payer. HasAccount payer self.new.budgets) }
+        ensures ok { OnOk result (has_budget purse.now self.new.budgets ≡ true) }
+        ensures there { has_budget purse.now self.old.budgets ≡ true → IsOk result }
+        ensures err { OnErr result (self.new.budgets ≡ self.old.budgets) }
+        ensures budgets { (p : Purse) → budget_of p self.new.budgets
+            ≡ budget_of p self.old.budgets }
+        ensures accounts { (p : Purse) → has_budget p self.old.budgets ≡ true
+            → has_budget p self.new.budgets ≡ true }
+        ensures others { (p : Purse) → same_purse purse.now p ≡ false
+            → has_budget p self.new.budgets ≡ has_budget p self.old.budgets }
+        ensures places { (p : Payer) → HasAccount p self.old.budgets
+            → HasAccount p self.new.budgets }
+        ensures horizon { self.new.horizon ≡ self.old.horizon }
+        ensures charges { self.new.charges ≡ self.old.charges }
+        ensures room { self.new.room ≡ self.old.room }
+    {
+        self.accounts.open(purse)
+    }
+
+    /// The charges whose end is at most the horizon no longer count, and their room serves again.
     /// Takes no memory.
     pub fn advance(&mut self, horizon: Moment)
         requires { self.old.horizon ≤ horizon }
         ensures charges { self.new.charges ≡ lasting horizon self.old.charges }
         ensures horizon { self.new.horizon ≡ horizon }
         ensures budgets { self.new.budgets ≡ self.old.budgets }
-        ensures places { (c : Charge) → horizon < c.end → Contains self.old.places c → Contains self.new.places c }
-        ensures gone { (c : Charge) → Contains self.new.places c → horizon < c.end }
+        ensures room { self.old.room ≤ self.new.room }
     {
-        while let Some((charge, count)) = self.charges.take_ended(horizon) {
-            self.accounts.subtract(&charge.purse, count * charge.cost);
+        while let Some(entry) = self.charges.take_ended(horizon) {
+            self.accounts.subtract(&entry.payer, entry.cost);
         }
         self.horizon = horizon;
     }
@@ -129,7 +145,8 @@ impl Ledger {
         ensures { IsTrue result
             ↔ (spending purse.now self.now.charges + charge ≤ budget_of purse.now self.now.budgets) }
     {
-        fits(self.spent(purse), charge, self.budget(purse))
+        let account = self.accounts.account(purse);
+        fits(account.spent, charge, account.budget)
     }
 
     /// Whether it would have room once the horizon was advanced to there. Nothing changes.
@@ -139,7 +156,9 @@ impl Ledger {
             ↔ (spending purse.now (lasting horizon self.now.charges) + charge
             ≤ budget_of purse.now self.now.budgets) }
     {
-        fits(self.spent_at(purse, horizon), charge, self.budget(purse))
+        let account = self.accounts.account(purse);
+        let spent = account.spent - self.charges.ended(purse, horizon);
+        fits(spent, charge, account.budget)
     }
 
     /// Whether a charge of this purse, end and cost counts.
@@ -154,65 +173,55 @@ impl Ledger {
         })
     }
 
-    /// Adds a charge in the place that was made for it. One whose end is at most the horizon doesn't
-    /// count, needs no place and changes nothing. Takes no memory.
-    pub fn charge(&mut self, purse: &Purse, end: Moment, cost: u32)
+    /// Adds a charge of the payer's purse, in the room that was made for it. One whose end is at most
+    /// the horizon doesn't count, needs no room and changes nothing. Takes no memory.
+    pub fn charge(&mut self, payer: &Payer, end: Moment, cost: u32)
         requires costs { 0 < cost }
-        requires place { self.old.horizon < end → Contains self.old.places (record { purse = purse.now; end = end; cost = cost }) }
-        requires room { spending purse.now self.old.charges + cost ≤ budget_of purse.now self.old.budgets }
+        requires account { HasAccount payer.now self.old.budgets }
+        requires reserved { self.old.horizon < end → 0 < self.old.room }
+        requires room { spending payer.now.purse self.old.charges + cost
+            ≤ budget_of payer.now.purse self.old.budgets }
         ensures counts { self.old.horizon < end
-            → IsPermutation (record { purse = purse.now; end = end; cost = cost } ∷ self.old.charges) self.new.charges }
+            → IsPermutation
+            (record { purse = payer.now.purse; end = end; cost = cost } ∷ self.old.charges) self.new.charges }
         ensures idle { end ≤ self.old.horizon → self.new.charges ≡ self.old.charges }
         ensures horizon { self.new.horizon ≡ self.old.horizon }
         ensures budgets { self.new.budgets ≡ self.old.budgets }
-        ensures places { self.new.places ≡ self.old.places }
+        ensures reserved { self.old.room ≤ self.new.room + 1 }
     {
         if self.has_reached(end) {
             return;
         }
-        self.accounts.add(purse, cost);
-        self.charges.put(&Charge {
-            purse: *purse,
+        self.accounts.add(payer, cost);
+        self.charges.put(Entry {
             end,
+            payer: *payer,
             cost,
         });
     }
 
     /// Takes out one charge of this purse, end and cost. Where the end is at most the horizon none
-    /// such counts any more, and nothing changes. The place stays. Takes no memory.
+    /// such counts any more, and nothing changes. Takes no memory.
     pub fn forgive(&mut self, purse: &Purse, end: Moment, cost: u32)
         requires { self.old.horizon < end
             → Contains self.old.charges (record { purse = purse.now; end = end; cost = cost }) }
         ensures taken { self.old.horizon < end
-            → IsPermutation self.old.charges (record { purse = purse.now; end = end; cost = cost } ∷ self.new.charges) }
+            → IsPermutation
+            self.old.charges (record { purse = purse.now; end = end; cost = cost } ∷ self.new.charges) }
         ensures idle { end ≤ self.old.horizon → self.new.charges ≡ self.old.charges }
         ensures horizon { self.new.horizon ≡ self.old.horizon }
         ensures budgets { self.new.budgets ≡ self.old.budgets }
-        ensures places { self.new.places ≡ self.old.places }
+        ensures room { self.new.room ≡ self.old.room }
     {
         if self.has_reached(end) {
             return;
         }
-        self.charges.take_out(&Charge {
+        let payer = self.charges.take_out(&Charge {
             purse: *purse,
             end,
             cost,
         });
-        self.accounts.subtract(purse, cost);
-    }
-
-    /// Opens an account for the purse, if it has none: its budget stays as it is, and setting it takes
-    /// no memory then.
-    pub fn reserve_budget(&mut self, purse: &Purse) -> Result<(), NoMemory>
-        ensures ok { OnOk result (has_budget purse.now self.new.budgets ≡ true) }
-        ensures there { has_budget purse.now self.old.budgets ≡ true → IsOk result }
-        ensures budgets { (p : Purse) → budget_of p self.new.budgets ≡ budget_of p self.old.budgets }
-        ensures accounts { (p : Purse) → has_budget p self.old.budgets ≡ true → has_budget p self.new.budgets ≡ true }
-        ensures horizon { self.new.horizon ≡ self.old.horizon }
-        ensures charges { self.new.charges ≡ self.old.charges }
-        ensures places { self.new.places ≡ self.old.places }
-    {
-        self.accounts.open(purse)
+        self.accounts.subtract(&payer, cost);
     }
 
     /// The purse may spend this from now on, in bytes. It may be less than it spends. Where memory is
@@ -223,12 +232,19 @@ impl Ledger {
         ensures ok { OnOk result ((p : Purse) → budget_of p self.new.budgets
             ≡ (if same_purse purse.now p then budget else budget_of p self.old.budgets)) }
         ensures err { OnErr result (self.new.budgets ≡ self.old.budgets) }
-        ensures accounts { (p : Purse) → has_budget p self.old.budgets ≡ true → has_budget p self.new.budgets ≡ true }
+        ensures accounts { (p : Purse) → has_budget p self.old.budgets ≡ true
+            → has_budget p self.new.budgets ≡ true }
+        ensures others { (p : Purse) → same_purse purse.now p ≡ false
+            → has_budget p self.new.budgets ≡ has_budget p self.old.budgets }
+        ensures places { (p : Payer) → HasAccount p self.old.budgets
+            → HasAccount p self.new.budgets }
         ensures horizon { self.new.horizon ≡ self.old.horizon }
         ensures charges { self.new.charges ≡ self.old.charges }
-        ensures places { self.new.places ≡ self.old.places }
+        ensures reserved { self.new.room ≡ self.old.room }
     {
-        self.accounts.set_budget(purse, budget)
+        let payer = self.accounts.open(purse)?;
+        self.accounts.set_budget(&payer, budget);
+        Ok(())
     }
 
     // Whether charges with this end no longer count.

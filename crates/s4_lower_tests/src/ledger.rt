@@ -12,7 +12,7 @@ enum Step {
     /// One that is forgiven.
     Forgive(u64, u32),
     Advance(u64),
-    ReserveBudget,
+    Open,
     SetBudget(u32),
     /// The horizon is this.
     Horizon(u64),
@@ -71,7 +71,7 @@ const FORGIVEN: [Row; 15] = [
 
 /// A budget may be met, and no more.
 const BUDGETED: [Row; 15] = [
-    ((7, 0), Step::ReserveBudget),
+    ((7, 0), Step::Open),
     ((7, 0), Step::Budget(65536)),
     ((7, 0), Step::SetBudget(129)),
     ((7, 0), Step::Budget(129)),
@@ -91,11 +91,12 @@ const BUDGETED: [Row; 15] = [
 // The calls that require something, each behind the test that a caller has for it.
 
 fn charge(ledger: &mut Ledger, purse: &Purse, end: Moment, cost: u32) -> Result<bool, Fail> {
-    ledger.reserve(purse, end, cost)?;
+    ledger.reserve(1)?;
+    let payer = ledger.open(purse)?;
     if cost == 0 || !ledger.room(purse, cost) {
         return Ok(false);
     }
-    ledger.charge(purse, end, cost);
+    ledger.charge(&payer, end, cost);
     Ok(true)
 }
 
@@ -129,7 +130,7 @@ fn holds(ledger: &mut Ledger, purse: &Purse, step: &Step) -> Result<bool, Fail> 
         Step::Charge(end, cost) => charge(ledger, purse, Moment::new(end), cost)?,
         Step::Forgive(end, cost) => forgive(ledger, purse, Moment::new(end), cost),
         Step::Advance(horizon) => advance(ledger, Moment::new(horizon)),
-        Step::ReserveBudget => ledger.reserve_budget(purse).is_ok(),
+        Step::Open => ledger.open(purse).is_ok(),
         Step::SetBudget(budget) => ledger.set_budget(purse, budget).is_ok(),
         Step::Horizon(wanted) => ledger.horizon().tick() == wanted,
         Step::Spent(wanted) => ledger.spent(purse) == wanted,

@@ -12,7 +12,7 @@ returns-in-One-clause-charges c weight p =
     let old = c.args.ledger.now in
     let new = c.charge.new.self in
     let m = c.args.moment in
-    let q = c.args.purse.now in
+    let q = c.args.payer.now.purse in
     let cost = c.in-One.cost in
     subst (λ (past : Past). sum_by (charge_weight weight p) new.charges ≡ sum_by (charge_weight weight p) old.charges + charged (above old.horizon weight) m (Some q) (costs_of past) p) (sym c.in-One.is)
     (charged-one old.horizon m q cost old.charges new.charges (adds old.horizon m q cost old.charges new.charges c.charge.ensures.counts c.charge.ensures.idle) weight p)
@@ -27,7 +27,7 @@ three-fit p a b d ledger room =
 pub charge-requires-in-Object-2-clause-room : goal.charge-requires-in-Object-2-clause-room
 charge-requires-in-Object-2-clause-room c =
     let old = c.args.ledger.now in
-    let p = c.args.purse.now in
+    let p = c.args.payer.now.purse in
     let m = c.args.moment in
     let one = c.charge-in-Object.new.self in
     let a = c.in-Object.data in
@@ -42,7 +42,7 @@ charge-requires-in-Object-2-clause-room c =
 pub charge-requires-in-Object-3-clause-room : goal.charge-requires-in-Object-3-clause-room
 charge-requires-in-Object-3-clause-room c =
     let old = c.args.ledger.now in
-    let p = c.args.purse.now in
+    let p = c.args.payer.now.purse in
     let m = c.args.moment in
     let one = c.charge-in-Object.new.self in
     let two = c.charge-in-Object-2.new.self in
@@ -64,7 +64,7 @@ returns-in-Object-clause-charges c weight p =
     let two = c.charge-in-Object-2.new.self in
     let new = c.charge-in-Object-3.new.self in
     let m = c.args.moment in
-    let q = c.args.purse.now in
+    let q = c.args.payer.now.purse in
     let a = c.in-Object.data in
     let b = c.in-Object.attributes in
     let d = c.in-Object.acl in

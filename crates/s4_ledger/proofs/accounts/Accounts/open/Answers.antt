@@ -1,37 +1,42 @@
-use Rattle.std.proofs.Common.{◌≡◌, true, Option, Some, None, unwrap_or, refl, sym, ◌∙◌, ap, subst}
-use Rattle.std.specs.Prelude.{is_some, false}
+use Rattle.std.proofs.Common.{◌≡◌, true, false, Some, cond, List, sym, ◌∙◌, ap, subst}
+use Rattle.std.specs.Prelude.{is_some, ◌++◌, ◌∷◌, []}
+use Rattle.std.specs.Map.{lookup}
+use Rattle.std.specs.BTreeMap.{is_at}
+use Rattle.s4_types.specs.declared.object.Purse.{Purse}
+use Rattle.s4_types.specs.Names.{purse_cmp}
 use Rattle.s4_types.proofs.Booleans.{not_both}
-use Rattle.s4_ledger.specs.Accounts.{account_of, budgets_of}
-use Rattle.s4_ledger.specs.Books.{has_budget}
-use Rattle.s4_ledger.proofs.Accounting.{fresh, has-account, open-here, open-changed, account-same}
+use Rattle.s4_ledger.specs.declared.accounts.Account.{Account}
+use Rattle.s4_ledger.specs.Accounts.{budgets_of, opened}
+use Rattle.s4_ledger.specs.Books.{place_of, place_among, has_budget}
+use Rattle.s4_ledger.proofs.Accounting.{fresh, has-account}
+use Rattle.s4_ledger.proofs.Placing.{keys-budgets, place-lookup}
 use Rattle.s4_ledger.proofs.accounts.Accounts.open.Goals as goal
 
-isnt_some : {A : Type 0} (o : Option A) → is_some o ≡ false → o ≡ None
-isnt_some None e = refl
-isnt_some (Some x) e = cc
+pub returns-in-Some-clause-place : goal.returns-in-Some-clause-place
+returns-in-Some-clause-place c =
+    let placed = sym (c.self.invariant c.args.purse.now) ∙ sym c.get.ensures.value ∙ sym c.copied.ensures ∙ c.in-Some.is in
+    subst (λ es. place_of c.args.purse.now (budgets_of es) ≡ Some c.in-Some.place) c.self.view_is
+    (ap (place_among c.args.purse.now) (keys-budgets c.self.inside.accounts.items) ∙ placed)
 
-pub returns-then-contains_key-clause-ok : goal.returns-then-contains_key-clause-ok
-returns-then-contains_key-clause-ok c =
-    subst (λ es. has_budget c.args.purse.now (budgets_of es) ≡ true) c.self.view_is (has-account c.args.purse.now c.self.inside.accounts.entries ∙ sym c.contains_key.ensures ∙ c.if-contains_key.true)
+pub returns-in-Some-clause-ok : goal.returns-in-Some-clause-ok
+returns-in-Some-clause-ok c =
+    let placed = sym (c.self.invariant c.args.purse.now) ∙ sym c.get.ensures.value ∙ sym c.copied.ensures ∙ c.in-Some.is in
+    let accounts : List (Purse × Account) = c.self.inside.accounts.items in
+    let there : is_some (lookup (is_at (purse_cmp c.args.purse.now)) accounts) ≡ true = sym (place-lookup c.args.purse.now accounts) ∙ ap is_some placed in
+    subst (λ es. es ≡ opened c.args.purse.now es) c.self.view_is (sym (ap (λ b. cond b accounts (accounts ++ (c.args.purse.now, fresh) ∷ [])) there))
 
-pub returns-clause-ok : goal.returns-clause-ok
-returns-clause-ok c = open-here c.self.inside.accounts.entries c.insert.new.self.entries c.args.purse.now fresh c.in_ok-insert.ensures.updates.0
+-- without an account there is none
+pub open_first-requires : goal.open_first-requires
+open_first-requires c =
+    let purse : Purse = c.args.purse.now in
+    let accounts : List (Purse × Account) = c.self.inside.accounts.items in
+    let none = sym (c.self.invariant purse) ∙ sym c.get.ensures.value ∙ sym c.copied.ensures ∙ c.in-None.is in
+    subst (λ es. has_budget purse (budgets_of es) ≡ false) c.self.view_is (has-account purse accounts ∙ sym (place-lookup purse accounts) ∙ ap is_some none)
 
-pub returns-clause-still : goal.returns-clause-still
-returns-clause-still c p has =
-    open-changed c.self.inside.accounts.entries c.insert.new.self.entries c.args.purse.now fresh c.in_ok-insert.ensures.updates.0 p
-    (subst (λ es. has_budget p (budgets_of es) ≡ true) (sym c.self.view_is) has)
-
-pub returns-clause-same : goal.returns-clause-same
-returns-clause-same c p =
-    account-same c.self.inside.accounts.entries c.insert.new.self.entries c.args.purse.now fresh c.in_ok-insert.ensures.updates.0
-    (sym (ap (λ o. unwrap_or o fresh) (isnt_some _ (sym c.contains_key.ensures ∙ c.if-contains_key.false)))) p
-    ∙ ap (account_of p) c.self.view_is
-
--- only a new account needs memory
-pub returns-in_err-insert-clause-there : goal.returns-in_err-insert-clause-there
-returns-in_err-insert-clause-there c has =
-    let purse = c.args.purse.now in
-    let accounts = c.self.inside.accounts.entries in
+pub returns-in-None-clause-there : goal.returns-in-None-clause-there
+returns-in-None-clause-there c has =
+    let purse : Purse = c.args.purse.now in
+    let accounts : List (Purse × Account) = c.self.inside.accounts.items in
+    let none = sym (c.self.invariant purse) ∙ sym c.get.ensures.value ∙ sym c.copied.ensures ∙ c.in-None.is in
     absurd (not_both (has_budget purse (budgets_of accounts)) (subst (λ es. has_budget purse (budgets_of es) ≡ true) (sym c.self.view_is) has)
-    (has-account purse accounts ∙ ap is_some c.in_err-insert.ensures.absent))
+    (has-account purse accounts ∙ sym (place-lookup purse accounts) ∙ ap is_some none))

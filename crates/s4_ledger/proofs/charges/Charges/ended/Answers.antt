@@ -1,80 +1,88 @@
-use Rattle.std.proofs.Common.{◌≡◌, ◌+◌, ◌*◌, ◌∷◌, [], List, ℕ, true, cond, sym, ◌∙◌, ap, subst, arith}
-use Rattle.std.specs.Map.{keys_of}
-use Rattle.std.proofs.lemmas.Map.Keys.{sorted_tail, le_from_not_gt}
+use Rattle.std.proofs.Common.{◌≡◌, ℕ, ◌+◌, ◌<◌, ◌≤◌, List, [], ◌∷◌, length, sym, ◌∙◌, ap, subst, arith, get_or}
+use Rattle.std.proofs.lemmas.List.{get_or_default}
+use Rattle.s4_ledger.specs.declared.charge.Entry.{Entry}
+use Rattle.s4_ledger.specs.Queue.{Queue, charges_of}
+use Rattle.std.specs.Prelude.{drop, cond}
+use Rattle.std.proofs.lemmas.List.{drop_more, get_or-drop, length-drop, drop_all}
+use Rattle.std.proofs.lemmas.Map.Keys.{le_from_not_gt}
+use Rattle.s4_types.specs.declared.object.Purse.{Purse}
 use Rattle.s4_types.specs.Names.{same_purse}
-use Rattle.s4_ledger.specs.declared.charge.Charge.{Charge}
-use Rattle.s4_ledger.specs.Books.{share, spending, lasting}
-use Rattle.s4_ledger.specs.Counts.{charge_cmp, charges_of, IsInOrder}
-use Rattle.s4_ledger.proofs.Counting.{later_than, lasting-past, lasting-rising, spending-entry}
+use Rattle.s4_ledger.specs.Books.{spending, lasting}
+use Rattle.s4_ledger.proofs.Queueing.{lasting-ended, lasting-later, spending-entry, from_gt}
 use Rattle.s4_ledger.proofs.charges.Charges.ended.Goals as goal
+use Rattle.s4_ledger.proofs.charges.Charges.ended.Goals.{then-eq, else-eq}
 
-pub loop-charge-init : goal.loop-charge-init
-loop-charge-init c =
-    let all : c.into_iter-charge-iterator.result ≡ c.args.self.now = c.into_iter-charge-iterator.ensures.into_iter_gives.0 ∙ c.self.view_is in
-    record {
-      rising = subst IsInOrder (sym c.into_iter-charge-iterator.ensures.into_iter_gives.0) c.self.invariant;
-      sum = omega (arith, ap (λ xs. spending c.args.purse.now (charges_of xs)) all);
-      last = ap (λ xs. lasting c.args.horizon (charges_of xs)) all;
-    }
-
--- this charge lasts, and so do all behind it
+-- this entry lasts, and so do all behind it
 pub returns-then-gt : goal.returns-then-gt
 returns-then-gt c =
-    let here : Charge × ℕ = (c.in-Some.charge.now, c.in-Some.count.now) in
-    let rest : List (Charge × ℕ) = c.next.new.self in
-    let step : c.loop-charge.charge-iterator ≡ here ∷ rest = c.in-Some.ensures.steps in
-    let last : lasting c.args.horizon (charges_of (here ∷ rest)) ≡ charges_of (here ∷ rest) =
-    lasting-rising c.args.horizon here rest (subst IsInOrder step c.loop-charge.invariant.rising) (later_than here.0.end c.args.horizon (sym c.gt.ensures ∙ c.if-gt.true)) in
-    let all : lasting c.args.horizon (charges_of c.args.self.now) ≡ charges_of c.loop-charge.charge-iterator =
-    sym c.loop-charge.invariant.last ∙ subst (λ xs. lasting c.args.horizon (charges_of xs) ≡ charges_of xs) (sym step) last in
-    omega (arith, ap (spending c.args.purse.now) all, c.loop-charge.invariant.sum)
+    let entries : List Entry = c.self.inside.queue.items in
+    let i : ℕ = c.loop-index.index in
+    let e : Entry = c.index-entry.result.now in
+    let long : c.self.inside.queue.len ≡ length entries = c.self.inside.queue.ok.0 in
+    let within : i < length entries = omega (arith, long, c.len.ensures, c.loop-index-test.true) in
+    let later : c.args.horizon < e.end = from_gt e.end c.args.horizon (sym c.gt.ensures ∙ c.if-gt.true) in
+    let left : lasting c.args.horizon (charges_of (drop i entries)) ≡ charges_of (drop i entries) = lasting-later c.args.horizon (drop i entries) (λ k d l.
+    let short = length-drop i entries in
+    let rises = c.self.invariant i (i + k) d (omega arith) (omega (arith, l, short)) in
+    let here : e.end ≡ (get_or entries i d).end = ap (λ (x : Entry). x.end) (c.index-entry.ensures ∙ get_or_default entries i e d within) in
+    let there : (get_or (drop i entries) k d).end ≡ (get_or entries (i + k) d).end = ap (λ (x : Entry). x.end) (get_or-drop i entries k d) in
+    omega (arith, later, rises, here, there)) in
+    let all : lasting c.args.horizon (charges_of entries) ≡ charges_of (drop i entries) = sym c.loop-index.invariant.last ∙ left in
+    subst (λ (q : Queue). c.loop-index.ended + spending c.args.purse.now (lasting c.args.horizon (charges_of q.entries)) ≡ spending c.args.purse.now (charges_of q.entries)) c.self.view_is
+    (ap (λ cs. c.loop-index.ended + spending c.args.purse.now cs) all ∙ c.loop-index.invariant.sum)
 
--- what the purse spends by this charge and those behind it
-own : (p : Rattle.s4_types.specs.declared.object.Purse.Purse) (e : Charge × ℕ) (rest before : List (Charge × ℕ)) → before ≡ e ∷ rest → same_purse e.0.purse p ≡ true
-    → spending p (charges_of before) ≡ e.1 * e.0.cost + spending p (charges_of rest)
-own p e rest before step same =
-    ap (λ xs. spending p (charges_of xs)) step ∙ spending-entry p e rest ∙ ap (λ b. e.1 * cond b e.0.cost 0 + spending p (charges_of rest)) same
+-- what the purse spends by this entry and those behind it
+own : (p : Purse) (entries : List Entry) (i : ℕ) (e : Entry) → i < length entries → e ≡ get_or entries i e
+    → spending p (charges_of (drop i entries)) ≡ cond (same_purse e.payer.purse p) e.cost 0 + spending p (charges_of (drop (i + 1) entries))
+own p entries i e within is =
+    ap (λ xs. spending p (charges_of xs)) (drop_more entries i e within ∙ ap (λ x. x ∷ drop (i + 1) entries) (sym is)) ∙ spending-entry p e (drop (i + 1) entries)
 
-pub overflow_mul-ended : goal.overflow_mul-ended
-overflow_mul-ended c =
-    let whole = own c.args.purse.now (c.in-Some.charge.now, c.in-Some.count.now) c.next.new.self c.loop-charge.charge-iterator c.in-Some.ensures.steps (sym c.eq.ensures ∙ c.if-eq.true) in
-    omega (arith, whole, c.loop-charge.invariant.sum, c.requires)
+past : (horizon : ℕ) (entries : List Entry) (i : ℕ) (e : Entry) → i < length entries → e ≡ get_or entries i e → e.end ≤ horizon
+    → lasting horizon (charges_of (drop (i + 1) entries)) ≡ lasting horizon (charges_of (drop i entries))
+past horizon entries i e within is le =
+    sym (lasting-ended horizon e (drop (i + 1) entries) le) ∙ ap (λ xs. lasting horizon (charges_of xs)) (sym (drop_more entries i e within ∙ ap (λ x. x ∷ drop (i + 1) entries) (sym is)))
 
 pub overflow_add-ended : goal.overflow_add-ended
 overflow_add-ended c =
-    let whole = own c.args.purse.now (c.in-Some.charge.now, c.in-Some.count.now) c.next.new.self c.loop-charge.charge-iterator c.in-Some.ensures.steps (sym c.eq.ensures ∙ c.if-eq.true) in
-    omega (arith, whole, c.loop-charge.invariant.sum, c.requires)
+    let entries : List Entry = c.self.inside.queue.items in
+    let long : c.self.inside.queue.len ≡ length entries = c.self.inside.queue.ok.0 in
+    let within : c.loop-index.index < length entries = omega (arith, long, c.len.ensures, c.loop-index-test.true) in
+    let whole = own c.args.purse.now entries c.loop-index.index c.index-entry.result.now within c.index-entry.ensures in
+    let mine : cond (same_purse c.index-entry.result.now.payer.purse c.args.purse.now) c.index-entry.result.now.cost 0 ≡ c.index-entry.result.now.cost = ap (λ b. cond b c.index-entry.result.now.cost 0) (sym c.eq.ensures ∙ c.if-eq.true) in
+    let same : spending c.args.purse.now (charges_of entries) ≡ spending c.args.purse.now (charges_of c.args.self.now.entries) = ap (λ (q : Queue). spending c.args.purse.now (charges_of q.entries)) c.self.view_is in
+    omega (arith, whole, mine, same, c.loop-index.invariant.sum, c.requires)
 
-pub loop-charge-preserved-then-eq : goal.loop-charge-preserved-then-eq
-loop-charge-preserved-then-eq c =
-    let here : Charge × ℕ = (c.in-Some.charge.now, c.in-Some.count.now) in
-    let rest : List (Charge × ℕ) = c.next.new.self in
-    let step : c.loop-charge.charge-iterator ≡ here ∷ rest = c.in-Some.ensures.steps in
-    let whole = own c.args.purse.now here rest c.loop-charge.charge-iterator step (sym c.eq.ensures ∙ c.if-eq.true) in
+pub loop-index-preserved : goal.loop-index-preserved
+loop-index-preserved c =
+    let entries : List Entry = c.self.inside.queue.items in
+    let e : Entry = c.index-entry.result.now in
+    let long : c.self.inside.queue.len ≡ length entries = c.self.inside.queue.ok.0 in
+    let within : c.loop-index.index < length entries = omega (arith, long, c.len.ensures, c.loop-index-test.true) in
+    let whole = own c.args.purse.now entries c.loop-index.index e within c.index-entry.ensures in
     record {
-      rising = sorted_tail charge_cmp here.0 (keys_of rest) (subst IsInOrder step c.loop-charge.invariant.rising);
-      sum = omega (arith, whole, c.loop-charge.invariant.sum);
-      last = sym (lasting-past c.args.horizon here rest (le_from_not_gt here.0.end c.args.horizon (sym c.gt.ensures ∙ c.if-gt.false)))
-          ∙ ap (λ xs. lasting c.args.horizon (charges_of xs)) (sym step) ∙ c.loop-charge.invariant.last;
+      within = omega (arith, within);
+      sum = elim c.if-eq.branch [
+        | then-eq w ↦
+            let mine : cond (same_purse e.payer.purse c.args.purse.now) e.cost 0 ≡ e.cost = ap (λ b. cond b e.cost 0) (sym c.eq.ensures ∙ w.if-eq.true) in
+            omega (arith, whole, mine, w.ended-is, c.loop-index.invariant.sum)
+        | else-eq w ↦
+            let none : cond (same_purse e.payer.purse c.args.purse.now) e.cost 0 ≡ 0 = ap (λ b. cond b e.cost 0) (sym c.eq.ensures ∙ w.if-eq.false) in
+            omega (arith, whole, none, w.ended-is, c.loop-index.invariant.sum)
+      ];
+      last = past c.args.horizon entries c.loop-index.index e within c.index-entry.ensures (le_from_not_gt e.end c.args.horizon (sym c.gt.ensures ∙ c.if-gt.false)) ∙ c.loop-index.invariant.last;
     }
 
-pub loop-charge-preserved : goal.loop-charge-preserved
-loop-charge-preserved c =
-    let here : Charge × ℕ = (c.in-Some.charge.now, c.in-Some.count.now) in
-    let rest : List (Charge × ℕ) = c.next.new.self in
-    let step : c.loop-charge.charge-iterator ≡ here ∷ rest = c.in-Some.ensures.steps in
-    let other : here.1 * share c.args.purse.now here.0 ≡ here.1 * 0 = ap (λ b. here.1 * cond b here.0.cost 0) (sym c.eq.ensures ∙ c.if-eq.false) in
-    let whole : spending c.args.purse.now (charges_of c.loop-charge.charge-iterator) ≡ here.1 * share c.args.purse.now here.0 + spending c.args.purse.now (charges_of rest) =
-    ap (λ xs. spending c.args.purse.now (charges_of xs)) step ∙ spending-entry c.args.purse.now here rest in
-    record {
-      rising = sorted_tail charge_cmp here.0 (keys_of rest) (subst IsInOrder step c.loop-charge.invariant.rising);
-      sum = omega (arith, whole, other, c.loop-charge.invariant.sum);
-      last = sym (lasting-past c.args.horizon here rest (le_from_not_gt here.0.end c.args.horizon (sym c.gt.ensures ∙ c.if-gt.false)))
-          ∙ ap (λ xs. lasting c.args.horizon (charges_of xs)) (sym step) ∙ c.loop-charge.invariant.last;
-    }
+pub loop-index-smaller : goal.loop-index-smaller
+loop-index-smaller c =
+    let long : c.self.inside.queue.len ≡ length c.self.inside.queue.items = c.self.inside.queue.ok.0 in
+    omega (arith, long, c.len.ensures, c.loop-index-test.true)
 
 pub returns : goal.returns
 returns c =
-    let none : c.loop-charge.charge-iterator ≡ [] = c.in-None.ensures.steps.0 in
-    let gone : lasting c.args.horizon (charges_of c.args.self.now) ≡ [] = sym c.loop-charge.invariant.last ∙ ap (λ xs. lasting c.args.horizon (charges_of xs)) none in
-    omega (arith, ap (spending c.args.purse.now) gone, ap (λ xs. spending c.args.purse.now (charges_of xs)) none, c.loop-charge.invariant.sum)
+    let entries : List Entry = c.self.inside.queue.items in
+    let long : c.self.inside.queue.len ≡ length entries = c.self.inside.queue.ok.0 in
+    let none : drop c.loop-index.index entries ≡ [] = drop_all c.loop-index.index entries (omega (arith, long, c.len.ensures, c.loop-index-test.false)) in
+    let all : lasting c.args.horizon (charges_of entries) ≡ [] = sym c.loop-index.invariant.last ∙ ap (λ xs. lasting c.args.horizon (charges_of xs)) none in
+    let sum : c.loop-index.ended + spending c.args.purse.now [] ≡ spending c.args.purse.now (charges_of entries) = ap (λ xs. c.loop-index.ended + spending c.args.purse.now (charges_of xs)) (sym none) ∙ c.loop-index.invariant.sum in
+    subst (λ (q : Queue). c.loop-index.ended + spending c.args.purse.now (lasting c.args.horizon (charges_of q.entries)) ≡ spending c.args.purse.now (charges_of q.entries)) c.self.view_is
+    (ap (λ cs. c.loop-index.ended + spending c.args.purse.now cs) all ∙ sum)

@@ -1,41 +1,63 @@
-use Rattle.std.proofs.Common.{◌≡◌, ◌+◌, ◌*◌, ◌^◌, ◌<◌, ◌≤◌, ◌∷◌, suc, Some, List, ℕ, sym, ap, subst, ◌∙◌, arith, add-one, Contains}
-use Rattle.std.specs.Prelude.{is_some}
-use Rattle.std.specs.List.Sorted.{IsPermutation}
-use Rattle.std.specs.Map.{lookup, keys_of, set_value}
-use Rattle.std.specs.BTreeMap.{is_at}
-use Rattle.std.specs.Option.{option_copied_mut}
-use Rattle.std.proofs.Math.Nat.{le-mul_of_pos_right}
-use Rattle.s4_ledger.specs.declared.charge.Charge.{Charge}
-use Rattle.s4_ledger.specs.Books.{spending}
-use Rattle.s4_ledger.specs.Counts.{charge_cmp, charges_of}
-use Rattle.s4_ledger.proofs.Counting.{some_lent, counted_at, charges-more, spending-at_least}
+use Rattle.std.proofs.Common.{rules, ◌≡◌, ℕ, ◌≤◌, true, false, List, ◌∷◌, length, sym, ◌∙◌, subst, arith, get_or}
+use Rattle.std.specs.Prelude.{Contains, insert}
+use Rattle.std.specs.List.Sorted.{IsPermutation, IsPartitionPoint}
+use Rattle.std.specs.Ordering.{nat_cmp, is_le}
+use Rattle.std.proofs.lemmas.List.Edits.{insert_end}
+use Rattle.std.proofs.lemmas.List.Elements.{Contains-get_or}
+use Rattle.std.proofs.lemmas.List.Sorted.{IsPartitionPoint-from_clause}
+use Rattle.s4_ledger.specs.declared.charge.Entry.{Entry}
+use Rattle.s4_ledger.specs.Queue.{Queue, charge_of, charges_of, payers_of, IsInOrder}
+use Rattle.s4_ledger.proofs.Queueing.{charges-insert, payers-insert, order-insert, parted_le, from_le, from_not_le, on_ok}
 use Rattle.s4_ledger.proofs.charges.Charges.put.Goals as goal
 
-pub unwrap-count-requires : goal.unwrap-count-requires
-unwrap-count-requires c =
-    let counts : List (Charge × ℕ) = c.self.inside.counts.entries in
-    let place : Contains (keys_of counts) c.args.charge.now = subst (λ xs. Contains (keys_of xs) c.args.charge.now) (sym c.self.view_is) c.requires.place in
-    some_lent c.get_mut.result (ap is_some c.get_mut.ensures.value ∙ counted_at counts c.args.charge.now place)
+-- BEHIND ALL
 
--- so often it counts, and each time its purse spends its cost
-pub overflow_add-count : goal.overflow_add-count
-overflow_add-count c =
-    let counts : List (Charge × ℕ) = c.self.inside.counts.entries in
-    let charge : Charge = c.args.charge.now in
-    let n : ℕ = c.unwrap-count.result.now in
-    let found : lookup (is_at (charge_cmp charge)) counts ≡ Some n = sym c.get_mut.ensures.value ∙ ap option_copied_mut c.unwrap-count.ensures in
-    let spent = spending-at_least counts charge n found in
-    let fits : spending charge.purse (charges_of counts) + charge.cost < 2 ^ 32 = subst (λ xs. spending charge.purse (charges_of xs) + charge.cost < 2 ^ 32) (sym c.self.view_is) c.requires.fits in
-    let times : n ≤ n * charge.cost = le-mul_of_pos_right n c.requires.costs in
-    omega (arith, spent, fits, times, c.requires.costs)
+pub invariant_of-self : goal.invariant_of-self
+invariant_of-self c =
+    let entries : List Entry = c.self.inside.queue.items in
+    let before : (e : Entry) → Contains entries e → e.end ≤ c.args.entry.end = subst (λ (q : Queue). (e : Entry) → Contains q.entries e → e.end ≤ c.args.entry.end) (sym c.self.view_is) (c.ends_by.ensures c.if-ends_by.true) in
+    subst IsInOrder (sym (c.push_back_reserved.ensures.items ∙ sym (insert_end entries c.args.entry)))
+    (order-insert entries (length entries) c.args.entry (omega arith) c.self.invariant
+    (λ k d l. before (get_or entries k d) (Contains-get_or entries k d l)) (λ k d low high. absurd (omega (arith, low, high))))
+
+pub returns-then-ends_by-clause-charges : goal.returns-then-ends_by-clause-charges
+returns-then-ends_by-clause-charges c =
+    let entries : List Entry = c.self.inside.queue.items in
+    subst (λ (q : Queue). IsPermutation (charge_of c.args.entry ∷ charges_of q.entries) (charges_of c.push_back_reserved.new.self.items)) c.self.view_is
+    (subst (λ xs. IsPermutation (charge_of c.args.entry ∷ charges_of entries) (charges_of xs)) (insert_end entries c.args.entry ∙ sym c.push_back_reserved.ensures.items)
+    (charges-insert entries (length entries) c.args.entry c.requires.costs))
+
+pub returns-then-ends_by-clause-payers : goal.returns-then-ends_by-clause-payers
+returns-then-ends_by-clause-payers c p has =
+    let entries : List Entry = c.self.inside.queue.items in
+    subst (λ (q : Queue). Contains (c.args.entry.payer ∷ payers_of q.entries) p) c.self.view_is
+    (payers-insert entries (length entries) c.args.entry p
+    (subst (λ xs. Contains (payers_of xs) p) (c.push_back_reserved.ensures.items ∙ sym (insert_end entries c.args.entry)) has))
+
+-- IN BETWEEN
+
+pub invariant_of-self-2 : goal.invariant_of-self-2
+invariant_of-self-2 c =
+    let entries : List Entry = c.self.inside.queue.items in
+    let end : ℕ = c.args.entry.end in
+    let long : c.self.inside.queue.len ≡ length entries = c.self.inside.queue.ok.0 in
+    let point : IsPartitionPoint (λ e. is_le (nat_cmp e.end end) ≡ true) (λ e. is_le (nat_cmp e.end end) ≡ false) entries c.partition_point-index.result =
+    IsPartitionPoint-from_clause (λ e. is_le (nat_cmp e.end end)) _ _ c.partition_point-index.ensures.partitioned (parted_le entries end c.self.invariant) (λ a r q k. search rules) in
+    subst IsInOrder (sym (on_ok (c.insert-put.new.self.items ≡ insert entries c.partition_point-index.result c.args.entry) c.insert-put.result c.unwrap.result c.unwrap.ensures c.insert-put.ensures.items))
+    (order-insert entries c.partition_point-index.result c.args.entry (omega (arith, long, c.partition_point-index.ensures.bound)) c.self.invariant
+    (λ k d l. from_le (get_or entries k d).end end (point.0 k d (omega arith) l))
+    (λ k d low high. let above = from_not_le (get_or entries k d).end end (point.1 k d low high) in omega (arith, above)))
 
 pub returns-clause-charges : goal.returns-clause-charges
 returns-clause-charges c =
-    let counts : List (Charge × ℕ) = c.self.inside.counts.entries in
-    let charge : Charge = c.args.charge.now in
-    let n : ℕ = c.unwrap-count.result.now in
-    let found : lookup (is_at (charge_cmp charge)) counts ≡ Some n = sym c.get_mut.ensures.value ∙ ap option_copied_mut c.unwrap-count.ensures in
-    let written : (c.get_mut.follows.lender (n + 1)).entries ≡ set_value (is_at (charge_cmp charge)) counts (suc n) =
-    (c.get_mut.follows.holds (n + 1)).0 ∙ ap (set_value (is_at (charge_cmp charge)) counts) (add-one n) in
-    subst (λ xs. IsPermutation (charge ∷ charges_of xs) (charges_of (c.get_mut.follows.lender (n + 1)).entries)) c.self.view_is
-    (subst (λ xs. IsPermutation (charge ∷ charges_of counts) (charges_of xs)) (sym written) (charges-more counts charge n found))
+    let entries : List Entry = c.self.inside.queue.items in
+    let is = on_ok (c.insert-put.new.self.items ≡ insert entries c.partition_point-index.result c.args.entry) c.insert-put.result c.unwrap.result c.unwrap.ensures c.insert-put.ensures.items in
+    subst (λ (q : Queue). IsPermutation (charge_of c.args.entry ∷ charges_of q.entries) (charges_of c.insert-put.new.self.items)) c.self.view_is
+    (subst (λ xs. IsPermutation (charge_of c.args.entry ∷ charges_of entries) (charges_of xs)) (sym is) (charges-insert entries c.partition_point-index.result c.args.entry c.requires.costs))
+
+pub returns-clause-payers : goal.returns-clause-payers
+returns-clause-payers c p has =
+    let entries : List Entry = c.self.inside.queue.items in
+    let is = on_ok (c.insert-put.new.self.items ≡ insert entries c.partition_point-index.result c.args.entry) c.insert-put.result c.unwrap.result c.unwrap.ensures c.insert-put.ensures.items in
+    subst (λ (q : Queue). Contains (c.args.entry.payer ∷ payers_of q.entries) p) c.self.view_is
+    (payers-insert entries c.partition_point-index.result c.args.entry p (subst (λ xs. Contains (payers_of xs) p) is has))

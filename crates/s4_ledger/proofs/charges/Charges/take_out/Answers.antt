@@ -1,36 +1,36 @@
-use Rattle.std.proofs.Common.{◌≡◌, ◌-◌, ◌∷◌, suc, List, ℕ, sym, ap, subst, ◌∙◌, arith, Contains}
+use Rattle.std.proofs.Common.{◌≡◌, ℕ, ◌<◌, true, List, ◌∷◌, length, sym, ◌∙◌, ap, subst, get_or}
+use Rattle.std.specs.List.{HoldsAt}
 use Rattle.std.specs.List.Sorted.{IsPermutation}
-use Rattle.std.specs.Map.{set_value}
-use Rattle.std.specs.Prelude.{is_some}
-use Rattle.std.specs.BTreeMap.{is_at}
-use Rattle.std.specs.Option.{option_copied_mut}
 use Rattle.s4_ledger.specs.declared.charge.Charge.{Charge}
-use Rattle.s4_ledger.specs.Counts.{charge_cmp, charges_of}
-use Rattle.s4_ledger.proofs.Counting.{some_is, some_lent, counts_of, charges-less}
+use Rattle.s4_ledger.specs.declared.charge.Entry.{Entry}
+use Rattle.s4_ledger.specs.Queue.{Queue, charges_of, payers_of, counts_as}
+use Rattle.std.specs.Prelude.{slice_set}
+use Rattle.s4_ledger.proofs.Queueing.{forgiven, charges-forgive, payers-forgive, on_some}
 use Rattle.s4_ledger.proofs.charges.Charges.take_out.Goals as goal
 
-pub unwrap-count-requires : goal.unwrap-count-requires
-unwrap-count-requires c =
-    let counts : List (Charge × ℕ) = c.self.inside.counts.entries in
-    let there = counts_of counts c.args.charge.now c.self.invariant (subst (λ xs. Contains (charges_of xs) c.args.charge.now) (sym c.self.view_is) c.requires) in
-    some_lent c.get_mut.result (ap is_some (c.get_mut.ensures.value ∙ there.1))
-
-pub overflow_sub-count : goal.overflow_sub-count
-overflow_sub-count c =
-    let counts : List (Charge × ℕ) = c.self.inside.counts.entries in
-    let there = counts_of counts c.args.charge.now c.self.invariant (subst (λ xs. Contains (charges_of xs) c.args.charge.now) (sym c.self.view_is) c.requires) in
-    let is : c.unwrap-count.result.now ≡ suc there.0 = some_is c.unwrap-count.result.now (suc there.0) (sym (ap option_copied_mut c.unwrap-count.ensures) ∙ c.get_mut.ensures.value ∙ there.1) in
-    omega (arith, is)
+-- the entry that was found, as it was and as it is now
+abbrev Found : (charge : Charge) (entries : List Entry) (i : ℕ) → Type 0
+Found charge entries i = (i < length entries) × ((d : Entry) → counts_as charge (get_or entries i d) ≡ true)
 
 pub returns-clause-charges : goal.returns-clause-charges
 returns-clause-charges c =
-    let counts : List (Charge × ℕ) = c.self.inside.counts.entries in
+    let entries : List Entry = c.self.inside.queue.items in
     let charge : Charge = c.args.charge.now in
-    let n : ℕ = c.unwrap-count.result.now in
-    let there = counts_of counts charge c.self.invariant (subst (λ xs. Contains (charges_of xs) charge) (sym c.self.view_is) c.requires) in
-    let is : n ≡ suc there.0 = some_is n (suc there.0) (sym (ap option_copied_mut c.unwrap-count.ensures) ∙ c.get_mut.ensures.value ∙ there.1) in
-    let left : n - 1 ≡ there.0 = omega (arith, is) in
-    let written : (c.get_mut.follows.lender (n - 1)).entries ≡ set_value (is_at (charge_cmp charge)) counts there.0 =
-    (c.get_mut.follows.holds (n - 1)).0 ∙ ap (set_value (is_at (charge_cmp charge)) counts) left in
-    subst (λ xs. IsPermutation (charges_of xs) (charge ∷ charges_of (c.get_mut.follows.lender (n - 1)).entries)) c.self.view_is
-    (subst (λ xs. IsPermutation (charges_of counts) (charge ∷ charges_of xs)) (sym written) (charges-less counts charge there.0 there.1))
+    let i : ℕ = c.unwrap-index.result in
+    let e : Entry = c.index_mut.result.now in
+    let within : i < length entries = subst (λ (q : Queue). i < length q.entries) (sym c.self.view_is) (on_some (λ k. k < length c.args.self.now.entries) c.find.result i c.unwrap-index.ensures c.find.ensures.within) in
+    let is : counts_as charge (get_or entries i e) ≡ true = subst (λ (q : Queue). counts_as charge (get_or q.entries i e) ≡ true) (sym c.self.view_is)
+    (on_some (HoldsAt (λ x. counts_as charge x ≡ true) c.args.self.now.entries) c.find.result i c.unwrap-index.ensures c.find.ensures.here e) in
+    subst (λ (q : Queue). IsPermutation (charges_of q.entries) (charge ∷ charges_of (slice_set entries i (forgiven e)))) c.self.view_is
+    (charges-forgive charge entries i e within is (forgiven e) (ap forgiven c.index_mut.ensures.value))
+
+pub returns-clause-payers : goal.returns-clause-payers
+returns-clause-payers c =
+    let entries : List Entry = c.self.inside.queue.items in
+    let charge : Charge = c.args.charge.now in
+    let i : ℕ = c.unwrap-index.result in
+    let e : Entry = c.index_mut.result.now in
+    let within : i < length entries = subst (λ (q : Queue). i < length q.entries) (sym c.self.view_is) (on_some (λ k. k < length c.args.self.now.entries) c.find.result i c.unwrap-index.ensures c.find.ensures.within) in
+    let is : counts_as charge (get_or entries i e) ≡ true = subst (λ (q : Queue). counts_as charge (get_or q.entries i e) ≡ true) (sym c.self.view_is)
+    (on_some (HoldsAt (λ x. counts_as charge x ≡ true) c.args.self.now.entries) c.find.result i c.unwrap-index.ensures c.find.ensures.here e) in
+    payers-forgive charge entries i e within is (forgiven e) (ap forgiven c.index_mut.ensures.value) ∙ ap (λ (q : Queue). payers_of q.entries) c.self.view_is

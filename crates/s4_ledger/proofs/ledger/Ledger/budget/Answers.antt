@@ -1,4 +1,4 @@
-use Rattle.std.proofs.Common.{sym, ap, ◌∙◌}
+use Rattle.std.proofs.Common.{sym, ◌∙◌, ap}
 use Rattle.s4_ledger.specs.declared.accounts.Account.{Account}
 use Rattle.s4_ledger.specs.Books.{Books, budget_of}
 use Rattle.s4_ledger.proofs.Accounting.{budget-account}
