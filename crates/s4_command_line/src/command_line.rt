@@ -13,8 +13,8 @@ ghost use Rattle.s4_command_line.specs.Words.{IsCallOf, IsForTenant, client_in, 
 
 use crate::meaning::{all_meant, meant};
 use crate::parser::{
-    ADDRESS, CELLS, CLIENT, CONNECTIONS, IDLE, LOGINS, OPEN, SECRET, WAIT, WHO, WINDOW, WORD,
-    WORKERS, parser,
+    ADDRESS, CELLS, CLIENT, CONNECTIONS, FIRST, IDLE, LOGINS, OPEN, SECRET, UNTIL, WAIT, WHO,
+    WINDOW, WORD, WORKERS, parser,
 };
 use clap::error::ErrorKind;
 use clap::{ArgMatches, Error};
@@ -29,8 +29,14 @@ use std::alloc::Global;
 use std::rt::{Env, Files};
 use std::{env, io};
 
+/// The greatest moment at the start of a server. Those behind it are for more than 292 million years.
+const LAST_FIRST: u64 = 9223372036854775807;
+
 /// The command that the program's arguments spell. Files that these name are read.
-pub fn given<E: Env + AllocGlobal, R: Files + AllocGlobal>(env: &E, rt: &R) -> Result<Command, Fault> {
+pub fn given<E: Env + AllocGlobal, R: Files + AllocGlobal>(
+    env: &E,
+    rt: &R,
+) -> Result<Command, Fault> {
     let alloc = rt.alloc();
     let words: Vec<String> = match env::args(env) {
         Ok(arguments) => arguments.collect(alloc)?,
@@ -90,14 +96,29 @@ fn serve(alloc: Global, words: &ArgMatches) -> Result<Command, Fault> {
         connections: number(alloc, words, CONNECTIONS, 0, u64::from(u32::MAX))? as u32,
         idle: number(alloc, words, IDLE, 0, u64::MAX)?,
         open: number(alloc, words, OPEN, 1, u64::from(u32::MAX))? as u32,
+        first: number(alloc, words, FIRST, 0, LAST_FIRST)?,
     };
     let address = String::from_str(alloc, word(words, ADDRESS))?;
     let logins = String::from_str(alloc, word(words, LOGINS))?;
+    let until = until(alloc, words.get_str(UNTIL))?;
     Ok(Command::Serve(Service {
         address,
         logins,
+        until,
         settings,
     }))
+}
+
+/// The path of the file that ends a server, where the flag is given.
+fn until(alloc: Global, path: Option<&str>) -> Result<Option<String>, Fault> {
+    match path {
+        Some("") => Err(Fault::of_words(
+            alloc,
+            "error: invalid value for '--until <FILE>': it is no path\n\nFor more information, try '--help'.",
+        )),
+        Some(path) => Ok(Some(String::from_str(alloc, path)?)),
+        None => Ok(None),
+    }
 }
 
 /// The number behind a flag, which has to be within these bounds.

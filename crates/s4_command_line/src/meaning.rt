@@ -35,8 +35,10 @@ pub fn all_meant<R: Files + AllocGlobal>(rt: &R, words: &[&str]) -> Result<Vec<S
 fn text_at<R: Files + AllocGlobal>(rt: &R, path: &str) -> Result<String, Fault> {
     match read(rt, path) {
         Ok(text) => Ok(text),
-        Err(RunFault::NoMemory) => Err(Fault::Run(RunFault::NoMemory)),
-        Err(_) => Err(Fault::CannotReadFile(String::from_str(rt.alloc(), path)?)),
+        Err(RunFault::CannotRead) => {
+            Err(Fault::CannotReadFile(String::from_str(rt.alloc(), path)?))
+        }
+        Err(fault) => Err(Fault::Run(fault)),
     }
 }
 

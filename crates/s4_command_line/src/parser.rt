@@ -81,6 +81,10 @@ pub const IDLE: &str = "idle";
 
 pub const OPEN: &str = "open";
 
+pub const FIRST: &str = "first-moment";
+
+pub const UNTIL: &str = "until";
+
 /// What parses a command line.
 pub fn parser<'a>(alloc: Global) -> Result<Parser<'a>, AllocError> {
     let parser = Parser::new(alloc, "s4d")
@@ -143,7 +147,8 @@ fn serve_parser<'a>(alloc: Global) -> Result<Parser<'a>, AllocError> {
             "A file of the principals that may log in, each with its secret",
         ))?;
     let parser = with_flags_of_drives(alloc, parser)?;
-    with_flags_of_peers(alloc, parser)
+    let parser = with_flags_of_peers(alloc, parser)?;
+    with_flags_of_times(alloc, parser)
 }
 
 /// Adds the flags that say how a drive is set up.
@@ -180,6 +185,21 @@ fn with_flags_of_peers<'a>(alloc: Global, parser: Parser<'a>) -> Result<Parser<'
     );
     let open = flag(alloc, OPEN, "How many connections may be open", "1024");
     parser.arg(connections)?.arg(idle)?.arg(open)
+}
+
+/// Adds the flags that say how the clock begins, and when it is over.
+fn with_flags_of_times<'a>(alloc: Global, parser: Parser<'a>) -> Result<Parser<'a>, AllocError> {
+    let first = flag(
+        alloc,
+        FIRST,
+        "The moment at the start, in milliseconds",
+        "0",
+    );
+    let until = Arg::new(alloc, UNTIL)
+        .long(UNTIL)
+        .value_name("FILE")
+        .help("It ends once there is this file");
+    parser.arg(first)?.arg(until)
 }
 
 /// A flag with a number, which is this one where it isn't given.

@@ -77,13 +77,15 @@ Arguments:
   <LOGINS>   A file of the principals that may log in, each with its secret
 
 Options:
-      --window <N>       The detection window at the start, in milliseconds [default: 86400000]
-      --cells <N>        How many cells there are, from 1 to 16 [default: 4]
-      --workers <N>      How many threads serve connections, from 1 to 8 [default: 4]
-      --connections <N>  After how many connections it ends, or 0 for never [default: 0]
-      --idle <N>         How many milliseconds a peer may be silent, or 0 for ever [default: 60000]
-      --open <N>         How many connections may be open [default: 1024]
-  -h, --help             Print help
+      --window <N>        The detection window at the start, in milliseconds [default: 86400000]
+      --cells <N>         How many cells there are, from 1 to 16 [default: 4]
+      --workers <N>       How many threads serve connections, from 1 to 8 [default: 4]
+      --connections <N>   After how many connections it ends, or 0 for never [default: 0]
+      --idle <N>          How many milliseconds a peer may be silent, or 0 for ever [default: 60000]
+      --open <N>          How many connections may be open [default: 1024]
+      --first-moment <N>  The moment at the start, in milliseconds [default: 0]
+      --until <FILE>      It ends once there is this file
+  -h, --help              Print help
 
 Example: s4d serve 127.0.0.1:4710 examples/first.logins
 docs/OPERATIONS.md says what it writes, what it holds in memory, and what ends it.

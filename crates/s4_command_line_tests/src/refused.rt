@@ -166,6 +166,22 @@ pub const FLAGS: &[Row] = &[
         Refused("invalid value for '--idle <N>': it isn't a number from 0 to 18446744073709551615"),
     ),
     Row(
+        b"s4d|serve|nowhere|first.logins|--first-moment|9223372036854775808",
+        Refused(
+            "invalid value for '--first-moment <N>': it isn't a number from 0 to 9223372036854775807",
+        ),
+    ),
+    Row(
+        b"s4d|serve|nowhere|first.logins|--first-moment|+1",
+        Refused(
+            "invalid value for '--first-moment <N>': it isn't a number from 0 to 9223372036854775807",
+        ),
+    ),
+    Row(
+        b"s4d|serve|nowhere|first.logins|--until|",
+        Refused("invalid value for '--until <FILE>': it is no path"),
+    ),
+    Row(
         b"s4d|serve|nowhere|first.logins|--open|0",
         Refused("invalid value for '--open <N>': it isn't a number from 1 to 4294967295"),
     ),
@@ -176,6 +192,14 @@ pub const VALUES: &[Row] = &[
     Row(
         b"s4d|serve|nowhere|first.logins|--cells",
         Refused("a value is required for '--cells <N>' but none was supplied"),
+    ),
+    Row(
+        b"s4d|serve|nowhere|first.logins|--first-moment",
+        Refused("a value is required for '--first-moment <N>' but none was supplied"),
+    ),
+    Row(
+        b"s4d|serve|nowhere|first.logins|--until",
+        Refused("a value is required for '--until <FILE>' but none was supplied"),
     ),
     Row(
         b"s4d|call|nowhere|7|1|000102030405060708090a0b0c0d0e0f|create|0|--wait",

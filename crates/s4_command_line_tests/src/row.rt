@@ -26,9 +26,10 @@ const STANDARD: Settings = Settings {
     connections: 0,
     idle: 60000,
     open: 1024,
+    first: 0,
 };
 
-/// The greatest settings, but for the least number of open connections.
+/// The greatest settings, but for the least number of open connections. The first moment is 2^63 - 1.
 const GREATEST: Settings = Settings {
     window: u64::MAX,
     cells: 16,
@@ -36,6 +37,7 @@ const GREATEST: Settings = Settings {
     connections: u32::MAX,
     idle: u64::MAX,
     open: 1,
+    first: 9223372036854775807,
 };
 
 /// The words of a command line, with a `|` between each two, and what they are.
@@ -50,7 +52,8 @@ pub enum Wanted {
     Strike(u32),
     /// They ask for a server at 127.0.0.1:4710 of the logins in first.logins, without flags.
     StandardServer,
-    /// The same with the greatest settings, but for the least number of open connections.
+    /// The same with the greatest settings, but for the least number of open connections, until there is
+    /// a file `end` in `a folder`.
     GreatestServer,
     /// They ask for a call at `nowhere` as this principal and client, with the secret of bytes 0
     /// to 15.
@@ -156,8 +159,12 @@ fn is_command(alloc: Global, command: &Command, wanted: &Wanted) -> Result<bool,
         (Command::Show(text), Wanted::Show(wanted)) => Ok(text.as_str() == *wanted),
         (Command::Hall(path), Wanted::Hall(wanted)) => Ok(path.as_str() == *wanted),
         (Command::Strike(who), Wanted::Strike(wanted)) => Ok(who.number() == *wanted),
-        (Command::Serve(service), Wanted::StandardServer) => Ok(is_service(service, &STANDARD)),
-        (Command::Serve(service), Wanted::GreatestServer) => Ok(is_service(service, &GREATEST)),
+        (Command::Serve(service), Wanted::StandardServer) => Ok(is_service(
+            service, &STANDARD, None,
+        )),
+        (Command::Serve(service), Wanted::GreatestServer) => {
+            Ok(is_service(service, &GREATEST, Some("a folder/end")))
+        },
         (Command::Call(call), Wanted::Call(who, client, asked)) => {
             Ok(*call == call_of(alloc, *who, *client, asked)?)
         }
@@ -168,8 +175,9 @@ fn is_command(alloc: Global, command: &Command, wanted: &Wanted) -> Result<bool,
     }
 }
 
-fn is_service(service: &Service, settings: &Settings) -> bool {
+fn is_service(service: &Service, settings: &Settings, until: Option<&str>) -> bool {
     service.settings == *settings
+        && service.until.as_ref().map(|path| path.as_str()) == until
         && service.address.as_str() == "127.0.0.1:4710"
         && service.logins.as_str() == "first.logins"
 }

@@ -9,7 +9,8 @@ use crate::row::Wanted::{
 
 /// The flags of the greatest server.
 const GREATEST_WORDS: &[u8] = b"s4d|serve|127.0.0.1:4710|first.logins|--window|18446744073709551615\
-    |--cells|16|--workers|8|--connections|4294967295|--idle|18446744073709551615|--open|1";
+    |--cells|16|--workers|8|--connections|4294967295|--idle|18446744073709551615|--open|1\
+    |--first-moment|9223372036854775807|--until|a folder/end";
 
 /// Texts that are asked for.
 pub const TEXTS: &[Row] = &[

@@ -18,6 +18,8 @@ fault_text (fault.CommandLine text) = string_bytes text
 fault_text (fault.Run why) = run.fault_text why
 fault_text (fault.CannotReadFile path) = codes "cannot read " ++ string_bytes path
 fault_text (fault.Call why) = call_fault_text why
+fault_text fault.EndIsThere = codes "the file of --until is there already"
+fault_text fault.CannotLook = codes "cannot look for the file of --until"
 fault_text fault.CannotListen = codes "cannot listen"
 fault_text (fault.Serve why) = server.fault_text why
 
