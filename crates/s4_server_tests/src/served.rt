@@ -359,6 +359,7 @@ fn each_server_and_its_peers_do_what_is_wanted(rt: HostRuntime) -> Result<(), Fa
     let id = process::id(rt.process());
     let end = format!(in alloc; "/tmp/s4d_end_{id}")?;
     for row in ROWS {
+        let _ = fs::remove_file(&rt, end.as_str());
         let service = service_of(alloc, row, end.as_str())?;
         match serve_beside(&rt, &service, &logins, &row.scene) {
             Ok(told) => {
