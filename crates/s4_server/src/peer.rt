@@ -110,9 +110,9 @@ impl Peer {
         Next::GoesOn
     }
 
-    /// Takes a turn with the peer, where it was told no fault. Once the server is to end it isn't read.
-    /// There is no more to read where a read was
-    /// shorter than it could have been, but for the end, of which no further event may tell.
+    /// Takes a turn with the peer, where it is told replies. Once the server is to end it isn't read. There
+    /// is no more to read where a read was shorter than it could have been, but for the end, of which no
+    /// further event may tell.
     fn talk<R: Wait, C: Ticks>(
         &mut self,
         shared: &Shared<'_, R, C>,
