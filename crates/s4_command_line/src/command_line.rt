@@ -1,17 +1,17 @@
 //! The command that a command line spells, or the fault of one that spells none.
 
-ghost use Rattle.std.specs.Prelude.{◌≡◌, ◌≢◌, ◌≤◌, ◌⊎◌, IfOk, Some, Err, codes};
+ghost use Rattle.std.specs.Prelude.{◌≡◌, ◌≢◌, ◌≤◌, ◌⊎◌, IfOk, Err, codes};
 ghost use Rattle.clap.specs.Matches.{found_of};
 ghost use Rattle.std.specs.IoError.{error_kind};
 ghost use Rattle.std.specs.declared.io.ErrorKind.TheVariants as io_kind;
 ghost use Rattle.clap.specs.Values.{kind_of};
-ghost use Rattle.s4_session.specs.LoginText.{principal_in, secret_in};
+ghost use Rattle.s4_session.specs.LoginText.{principal_in};
 ghost use Rattle.s4_commands.specs.Faults.{IsFaultOf};
 ghost use Rattle.s4_commands.specs.declared.fault.Fault.TheVariants as fault;
 ghost use Rattle.s4_run.specs.declared.fault.RunFault.TheVariants as run_fault;
-ghost use Rattle.s4_command_line.specs.Words.{IsCallOf, IsForTenant, client_in, fault_of_request, word_of};
+ghost use Rattle.s4_command_line.specs.Words.{IsCallOf, IsForTenant, IsHelloOf, client_in, fault_of_request, word_of};
 
-use crate::meaning::{all_meant, meant};
+use crate::meaning::{all_meant, secret_of};
 use crate::parser::{
     ADDRESS, CELLS, CLIENT, CONNECTIONS, FIRST, IDLE, LOGINS, OPEN, SECRET, UNTIL, WAIT, WHO,
     WINDOW, WORD, WORKERS, parser,
@@ -23,7 +23,7 @@ use s4_commands::{Call, Command, Fault, Service};
 use s4_run::RunFault;
 use s4_script::{ParseError, parse_number, parse_principal, parse_request};
 use s4_server::Settings;
-use s4_session::{Hello, principal_in, secret_in};
+use s4_session::{Hello, principal_in};
 use s4_types::{Caller, Principal, Request};
 use std::alloc::Global;
 use std::rt::{Env, Files};
@@ -149,8 +149,7 @@ fn call<R: Files + AllocGlobal>(rt: &R, words: &ArgMatches) -> Result<Command, F
 {
     let alloc = rt.alloc();
     let wait = number(alloc, words, WAIT, 0, u64::MAX)?;
-    let secret = meant(rt, word(words, SECRET))?;
-    let hello = hello(alloc, words, secret.as_str())?;
+    let hello = hello(rt, words)?;
     let request = request(rt, words.get_strs(WORD).unwrap_or_default())?;
     let call = Call::new(alloc, word(words, ADDRESS), hello, request)?;
     Ok(Command::Call(call.waiting(wait)))
@@ -183,19 +182,18 @@ fn of_request(error: ParseError) -> CallFault
     }
 }
 
-/// The Hello of a call with the secret that this text spells.
-fn hello(alloc: Global, words: &ArgMatches, secret: &str) -> Result<Hello, Fault>
-    ensures who { IfOk result (λ hello. principal_in (word_of (found_of words.now) (codes "WHO")) ≡ Some hello.caller.who) }
-    ensures client { IfOk result (λ hello. client_in (word_of (found_of words.now) (codes "CLIENT")) ≡ Some hello.caller.client) }
-    ensures secret { IfOk result (λ hello. secret_in secret.now ≡ Some hello.secret) }
+/// The Hello of a call.
+fn hello<R: Files + AllocGlobal>(rt: &R, words: &ArgMatches) -> Result<Hello, Fault>
+    ensures { IfOk result (IsHelloOf (found_of words.now)) }
 {
+    let alloc = rt.alloc();
     let Some(who) = who_in(word(words, WHO)) else {
         return Err(misfit(alloc, WHO, "a number from 0 to 4294967294"));
     };
     let Some(client) = client_in(word(words, CLIENT)) else {
         return Err(misfit(alloc, CLIENT, "a number from 0 to 4294967295"));
     };
-    let Some(secret) = secret_in(secret.as_bytes()) else {
+    let Some(secret) = secret_of(rt, word(words, SECRET))? else {
         return Err(misfit(alloc, SECRET, "32 hexadecimal digits"));
     };
     let caller = Caller { who, client };

@@ -1,10 +1,12 @@
 //! What words mean that may name a file.
 
 ghost use Rattle.std.specs.Prelude.{◌≡◌, false, IfOk, string_bytes};
+ghost use Rattle.s4_session.specs.LoginText.{secret_in};
 ghost use Rattle.s4_command_line.specs.Words.{names_file};
 
 use s4_commands::Fault;
 use s4_run::{RunFault, read_up_to};
+use s4_session::secret_in;
 use std::rt::Files;
 use std::{fs, str};
 
@@ -20,6 +22,14 @@ pub fn meant<R: Files + AllocGlobal>(rt: &R, word: &str) -> Result<String, Fault
         [b'@', path @ ..] => text_at(rt, str::from_utf8(path).unwrap_or_default()),
         _ => Ok(String::from_str(rt.alloc(), word)?),
     }
+}
+
+/// The secret that is meant by a word, where it is one.
+pub fn secret_of<R: Files + AllocGlobal>(rt: &R, word: &str) -> Result<Option<[u8; 16]>, Fault>
+    ensures typed { names_file word.now ≡ false → IfOk result (λ secret. secret ≡ secret_in word.now) }
+{
+    let text = meant(rt, word)?;
+    Ok(secret_in(text.as_bytes()))
 }
 
 /// What all of the words mean.

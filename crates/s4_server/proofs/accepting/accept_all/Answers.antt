@@ -24,12 +24,6 @@ put_next n m c old put new next was is =
 pub loop-init : goal.loop-init
 loop-init g c = (refl, λ some. (some, sym (append-nil c.args.seat.now.put)))
 
-pub returns-in-None-clause-fewer : goal.returns-in-None-clause-fewer
-returns-in-None-clause-fewer g c = λ some.
-    let inv = c.loop.invariant.1 some in
-    let below = inv.0 in
-    record { count = c.loop.number; few = omega arith; put = inv.1 }
-
 pub returns-then-number-from-clause-put : goal.returns-then-number-from-clause-put
 returns-then-number-from-clause-put g c = λ _.
     let n = c.loop.number in
