@@ -83,8 +83,7 @@ impl Server {
         let (front, passes) = Front::open(alloc, window, cells, workers, OpenGate)?;
         let (jobs, mut seats) = Jobs::open(alloc, WAITING, workers + 1)?;
         let seat = seats.remove(0);
-        let (watches, posts) = open_watches(net, alloc, workers)?;
-        let outer = open_watch(net, alloc)?.0;
+        let (outer, watches, posts) = open_watches(net, alloc, workers)?;
         Ok(Server {
             alloc,
             settings,
@@ -164,12 +163,13 @@ impl Server {
     }
 }
 
-/// A watch and a post for each worker.
+/// A watch over a listener, and a watch and a post for each worker.
 fn open_watches<N: Net>(
     net: &N,
     alloc: Global,
     workers: u64,
-) -> Result<(Vec<Watch>, Vec<Post>), ServerFault> {
+) -> Result<(Watch, Vec<Watch>, Vec<Post>), ServerFault> {
+    let (outer, _) = open_watch(net, alloc)?;
     let mut watches = Vec::new(alloc);
     let mut posts = Vec::new(alloc);
     for _ in 0..workers {
@@ -177,7 +177,7 @@ fn open_watches<N: Net>(
         watches.push(watch)?;
         posts.push(post)?;
     }
-    Ok((watches, posts))
+    Ok((outer, watches, posts))
 }
 
 /// A watch and its post.
