@@ -28,6 +28,9 @@ pub const SILENT: u32 = 300;
 /// How often a peer asks that hears nothing.
 const ASKED: u32 = 20000;
 
+/// How many bytes such a peer hears at first, where it hears late: up to its second Read.
+const BEGUN: usize = 8000;
+
 /// The frame of a Write of 4000 bytes to 7.0.1, up to its data.
 const LONG_WRITE: &[u8] =
     b"\x00\x00\x0f\xaf\x04\x00\x00\x00\x07\x00\x00\x00\x01\x00\x00\x00\x00\x0f\xa0";
@@ -258,17 +261,18 @@ fn ask_to_the_end<R: Files + Net<Listener = TcpListener, Stream = TcpStream>>(
     Ok(sent)
 }
 
-/// What a peer is sent that asks for more than the system keeps for it, and hears all of it once the
-/// server is to end.
+/// What a peer is sent that asks for more than the system keeps for it, hears the begin, and hears the
+/// rest once the server is to end.
 fn hear_late<R: Files + Net<Listener = TcpListener, Stream = TcpStream> + Clock>(
     rt: &R,
     alloc: Global,
     end: &str,
 ) -> io::Result<Vec<u8>> {
     let mut stream = deaf(rt, alloc)?;
+    let mut sent = Vec::from_elem(alloc, 0, BEGUN)?;
+    stream.read_exact(sent.as_mut_slice())?;
     fs::write(rt, end, "")?;
     thread::sleep(rt, Duration::from_millis(PAUSE + PAUSE));
-    let mut sent = Vec::new(alloc);
     stream.read_to_end(&mut sent)?;
     Ok(sent)
 }
