@@ -44,15 +44,15 @@ fn a_clock_begins_at_its_first_moment_and_ends_by_a_file(rt: HostRuntime) -> Res
 }
 
 /// What a call says to one who listens some tenths of a second later, and answers.
-fn heard_late<R: Net<Listener = TcpListener, Stream = TcpStream> + Clock>(
+fn heard_late<R: Net<Listener = TcpListener, Stream = TcpStream> + Clock + AllocGlobal>(
     rt: &R,
-) -> io::Result<[u8; CALL.len()]> {
+) -> io::Result<Vec<u8>> {
     thread::sleep(rt, Duration::from_millis(PAUSE + PAUSE + PAUSE));
     for _ in 0..TRIES {
         if let Ok(listener) = TcpListener::bind(rt, ADDRESS) {
             let (mut stream, _) = listener.accept()?;
-            let mut said = [0; CALL.len()];
-            stream.read_exact(&mut said)?;
+            let mut said = Vec::from_elem(rt.alloc(), 0, CALL.len())?;
+            stream.read_exact(said.as_mut_slice())?;
             stream.write_all(ANSWER)?;
             return Ok(said);
         }
