@@ -29,7 +29,8 @@ const MOMENTS: &[(u64, u64, u64)] = &[
 #[test]
 fn a_clock_begins_at_its_first_moment_and_ends_by_a_file(rt: HostRuntime) -> Result<(), Fail> {
     let id = process::id(rt.process());
-    let path = format!(in rt.alloc(); "/tmp/s4d_clock_{id}")?;
+    let alloc = rt.alloc();
+    let path = format!(in alloc; "/tmp/s4d_clock_{id}")?;
     let _ = fs::remove_file(&rt, path.as_str());
     for (first, least, most) in MOMENTS {
         let clock = Stopwatch::start(&rt, *first, Some(path.as_str()));
@@ -81,7 +82,7 @@ fn a_call_waits_for_who_listens_later(rt: HostRuntime) -> Result<(), Fail> {
     let call = call_for(rt.alloc(), ADDRESS, SECRET, "create 0")?;
     let command = Command::Call(call.waiting(30000));
     let (told, heard) = thread::join(&rt, || told(&rt, &command), || heard_late(&rt));
-    let is_told = told.is_ok_and(|told| told.as_slice() == b"made 7.0.1\n");
+    let is_told = told.is_ok_and(|told| told.as_slice() == b"made 7.0.1\n".as_slice());
     let is_heard = heard.is_ok_and(|said| said.as_slice() == CALL);
     assert!(rt; is_told && is_heard);
     Ok(())
