@@ -1,5 +1,5 @@
 -- What the words of the command line spell.
-use Rattle.std.specs.Prelude.{◌≡◌, ◌≢◌, ℕ, Option, Some, List, [], codes, string_bytes, unwrap_or, bytes_eq, if◌then◌else◌}
+use Rattle.std.specs.Prelude.{◌≡◌, ◌≢◌, ◌==◌, ℕ, Bool, false, ◌∷◌, Option, Some, List, [], codes, string_bytes, unwrap_or, bytes_eq, if◌then◌else◌}
 use Rattle.clap.specs.Matches.{first_value}
 use Rattle.clap.specs.declared.parser.matches.Found.{Found}
 use Rattle.s4_client.specs.declared.fault.CallFault.{CallFault}
@@ -19,11 +19,16 @@ word_of found name = unwrap_or (first_value found name) []
 abbrev pub client_in : List ℕ → Option ℕ
 client_in word = if bytes_eq word (codes "4294967295") then Some 4294967295 else principal_in word
 
--- it is the Hello that the words of the command line spell
+-- whether a word names a file, which has what stands in its place: it begins with an @
+abbrev pub names_file : List ℕ → Bool
+names_file [] = false
+names_file (first ∷ rest) = first == 64
+
+-- it is the Hello that the words of the command line spell; of the secret in a file nothing is said
 pub record IsHelloOf (found : Found) (hello : Hello) : Type 0 where
   pub who : principal_in (word_of found (codes "WHO")) ≡ Some hello.caller.who
   pub client : client_in (word_of found (codes "CLIENT")) ≡ Some hello.caller.client
-  pub secret : secret_in (word_of found (codes "SECRET")) ≡ Some hello.secret
+  pub secret : names_file (word_of found (codes "SECRET")) ≡ false → secret_in (word_of found (codes "SECRET")) ≡ Some hello.secret
 
 -- a script is to be struck for a principal other than the administrator
 abbrev pub IsForTenant : Command → Type 0

@@ -11,9 +11,10 @@ ghost use Rattle.s4_commands.specs.declared.fault.Fault.TheVariants as fault;
 ghost use Rattle.s4_run.specs.declared.fault.RunFault.TheVariants as run_fault;
 ghost use Rattle.s4_command_line.specs.Words.{IsCallOf, IsForTenant, IsHelloOf, client_in, fault_of_request, word_of};
 
+use crate::meaning::{all_meant, secret_of};
 use crate::parser::{
-    ADDRESS, CELLS, CLIENT, CONNECTIONS, IDLE, LOGINS, OPEN, SECRET, WHO, WINDOW, WORD, WORKERS,
-    parser,
+    ADDRESS, CELLS, CLIENT, CONNECTIONS, FIRST, IDLE, LOGINS, OPEN, SECRET, UNTIL, WAIT, WHO,
+    WINDOW, WORD, WORKERS, parser,
 };
 use clap::error::ErrorKind;
 use clap::{ArgMatches, Error};
@@ -22,37 +23,44 @@ use s4_commands::{Call, Command, Fault, Service};
 use s4_run::RunFault;
 use s4_script::{ParseError, parse_number, parse_principal, parse_request};
 use s4_server::Settings;
-use s4_session::{Hello, principal_in, secret_in};
+use s4_session::{Hello, principal_in};
 use s4_types::{Caller, Principal, Request};
 use std::alloc::Global;
-use std::rt::Env;
+use std::rt::{Env, Files};
 use std::{env, io};
 
-/// The command that the program's arguments spell.
-pub fn given<R: Env + AllocGlobal>(rt: &R) -> Result<Command, Fault> {
+/// The greatest moment at the start of a server. Those behind it are for more than 292 million years.
+const LAST_FIRST: u64 = 9223372036854775807;
+
+/// The command that the program's arguments spell. Files that these name are read.
+pub fn given<E: Env + AllocGlobal, R: Files + AllocGlobal>(
+    env: &E,
+    rt: &R,
+) -> Result<Command, Fault> {
     let alloc = rt.alloc();
-    let words: Vec<String> = match env::args(rt) {
+    let words: Vec<String> = match env::args(env) {
         Ok(arguments) => arguments.collect(alloc)?,
         Err(error) => return Err(unread(alloc, &error)),
     };
-    parse(alloc, &words)
+    parse(rt, &words)
 }
 
 /// The command that the words spell, of which the first is the program's name.
-pub fn parse(alloc: Global, words: &[String]) -> Result<Command, Fault> {
-    match parser(alloc)?.try_get_matches_from(words) {
-        Ok(matches) => chosen(alloc, &matches),
-        Err(error) => told(alloc, &error),
+pub fn parse<R: Files + AllocGlobal>(rt: &R, words: &[String]) -> Result<Command, Fault> {
+    match parser(rt.alloc())?.try_get_matches_from(words) {
+        Ok(matches) => chosen(rt, &matches),
+        Err(error) => told(rt.alloc(), &error),
     }
 }
 
-fn chosen(alloc: Global, matches: &ArgMatches) -> Result<Command, Fault> {
+fn chosen<R: Files + AllocGlobal>(rt: &R, matches: &ArgMatches) -> Result<Command, Fault> {
+    let alloc = rt.alloc();
     match matches.subcommand() {
         Some(("run", _)) => Ok(Command::Run),
         Some(("hall", words)) => hall(alloc, words.get_str(LOGINS)),
         Some(("strike", words)) => strike(alloc, words.get_str(WHO).unwrap_or_default()),
         Some(("serve", words)) => serve(alloc, words),
-        Some(("call", words)) => call(alloc, words),
+        Some(("call", words)) => call(rt, words),
         _ => Err(Fault::of_words(alloc, "error: a command is wanted, as run")),
     }
 }
@@ -88,14 +96,29 @@ fn serve(alloc: Global, words: &ArgMatches) -> Result<Command, Fault> {
         connections: number(alloc, words, CONNECTIONS, 0, u64::from(u32::MAX))? as u32,
         idle: number(alloc, words, IDLE, 0, u64::MAX)?,
         open: number(alloc, words, OPEN, 1, u64::from(u32::MAX))? as u32,
+        first: number(alloc, words, FIRST, 0, LAST_FIRST)?,
     };
     let address = String::from_str(alloc, word(words, ADDRESS))?;
     let logins = String::from_str(alloc, word(words, LOGINS))?;
+    let until = until(alloc, words.get_str(UNTIL))?;
     Ok(Command::Serve(Service {
         address,
         logins,
+        until,
         settings,
     }))
+}
+
+/// The path of the file that ends a server, where the flag is given.
+fn until(alloc: Global, path: Option<&str>) -> Result<Option<String>, Fault> {
+    match path {
+        Some("") => Err(Fault::of_words(
+            alloc,
+            "error: invalid value for '--until <FILE>': it is no path\n\nFor more information, try '--help'.",
+        )),
+        Some(path) => Ok(Some(String::from_str(alloc, path)?)),
+        None => Ok(None),
+    }
 }
 
 /// The number behind a flag, which has to be within these bounds.
@@ -121,17 +144,28 @@ fn number(
     }
 }
 
-fn call(alloc: Global, words: &ArgMatches) -> Result<Command, Fault>
+fn call<R: Files + AllocGlobal>(rt: &R, words: &ArgMatches) -> Result<Command, Fault>
     ensures { IfOk result (IsCallOf (found_of words.now)) }
 {
-    let hello = hello(alloc, words)?;
-    let request = request(alloc, words.get_strs(WORD).unwrap_or_default())?;
+    let alloc = rt.alloc();
+    let wait = number(alloc, words, WAIT, 0, u64::MAX)?;
+    let hello = hello(rt, words)?;
+    let request = request(rt, words.get_strs(WORD).unwrap_or_default())?;
     let call = Call::new(alloc, word(words, ADDRESS), hello, request)?;
-    Ok(Command::Call(call))
+    Ok(Command::Call(call.waiting(wait)))
 }
 
 /// The request that the words spell, of which the first is its verb.
-fn request(alloc: Global, words: &[&str]) -> Result<Request, CallFault> {
+fn request<R: Files + AllocGlobal>(rt: &R, words: &[&str]) -> Result<Request, Fault> {
+    let texts = all_meant(rt, words)?;
+    let mut words = Vec::new(rt.alloc());
+    for text in &texts {
+        words.push(text.as_str())?;
+    }
+    Ok(request_of(rt.alloc(), words.as_slice())?)
+}
+
+fn request_of(alloc: Global, words: &[&str]) -> Result<Request, CallFault> {
     match words {
         [verb, words @ ..] => parse_request(alloc, verb, words).map_err(of_request),
         [] => Err(CallFault::BadRequest),
@@ -149,16 +183,17 @@ fn of_request(error: ParseError) -> CallFault
 }
 
 /// The Hello of a call.
-fn hello(alloc: Global, words: &ArgMatches) -> Result<Hello, Fault>
+fn hello<R: Files + AllocGlobal>(rt: &R, words: &ArgMatches) -> Result<Hello, Fault>
     ensures { IfOk result (IsHelloOf (found_of words.now)) }
 {
+    let alloc = rt.alloc();
     let Some(who) = who_in(word(words, WHO)) else {
         return Err(misfit(alloc, WHO, "a number from 0 to 4294967294"));
     };
     let Some(client) = client_in(word(words, CLIENT)) else {
         return Err(misfit(alloc, CLIENT, "a number from 0 to 4294967295"));
     };
-    let Some(secret) = secret_in(word(words, SECRET).as_bytes()) else {
+    let Some(secret) = secret_of(rt, word(words, SECRET))? else {
         return Err(misfit(alloc, SECRET, "32 hexadecimal digits"));
     };
     let caller = Caller { who, client };

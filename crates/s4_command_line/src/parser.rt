@@ -65,6 +65,9 @@ pub const SECRET: &str = "SECRET";
 
 pub const WORD: &str = "WORD";
 
+/// The flag of a call.
+pub const WAIT: &str = "wait";
+
 /// The flags of a server.
 pub const WINDOW: &str = "window";
 
@@ -77,6 +80,10 @@ pub const CONNECTIONS: &str = "connections";
 pub const IDLE: &str = "idle";
 
 pub const OPEN: &str = "open";
+
+pub const FIRST: &str = "first-moment";
+
+pub const UNTIL: &str = "until";
 
 /// What parses a command line.
 pub fn parser<'a>(alloc: Global) -> Result<Parser<'a>, AllocError> {
@@ -140,7 +147,8 @@ fn serve_parser<'a>(alloc: Global) -> Result<Parser<'a>, AllocError> {
             "A file of the principals that may log in, each with its secret",
         ))?;
     let parser = with_flags_of_drives(alloc, parser)?;
-    with_flags_of_peers(alloc, parser)
+    let parser = with_flags_of_peers(alloc, parser)?;
+    with_flags_of_times(alloc, parser)
 }
 
 /// Adds the flags that say how a drive is set up.
@@ -179,6 +187,21 @@ fn with_flags_of_peers<'a>(alloc: Global, parser: Parser<'a>) -> Result<Parser<'
     parser.arg(connections)?.arg(idle)?.arg(open)
 }
 
+/// Adds the flags that say how the clock begins, and when it is over.
+fn with_flags_of_times<'a>(alloc: Global, parser: Parser<'a>) -> Result<Parser<'a>, AllocError> {
+    let first = flag(
+        alloc,
+        FIRST,
+        "The moment at the start, in milliseconds",
+        "0",
+    );
+    let until = Arg::new(alloc, UNTIL)
+        .long(UNTIL)
+        .value_name("FILE")
+        .help("It ends once there is this file");
+    parser.arg(first)?.arg(until)
+}
+
 /// A flag with a number, which is this one where it isn't given.
 fn flag<'a>(alloc: Global, name: &'a str, help: &'a str, standard: &'a str) -> Arg<'a> {
     Arg::new(alloc, name)
@@ -202,9 +225,15 @@ fn call_parser<'a>(alloc: Global) -> Result<Parser<'a>, AllocError> {
     let word = wanted(
         alloc,
         WORD,
-        "The request, as in a line of a script from its verb on",
+        "The request, as in a line of a script from its verb on; @ and a file for what it has",
     );
-    parser.arg(word.num_args(1..))
+    let wait = flag(
+        alloc,
+        WAIT,
+        "How many milliseconds it is tried to connect again",
+        "0",
+    );
+    parser.arg(word.num_args(1..))?.arg(wait)
 }
 
 /// Adds the arguments that say who calls.
@@ -222,7 +251,7 @@ fn with_caller<'a>(alloc: Global, parser: Parser<'a>) -> Result<Parser<'a>, Allo
     let secret = wanted(
         alloc,
         SECRET,
-        "The principal's secret, 32 hexadecimal digits",
+        "The principal's secret, 32 hexadecimal digits, or @ and a file that has them",
     );
     parser.arg(who)?.arg(client)?.arg(secret)
 }

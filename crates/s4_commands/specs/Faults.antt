@@ -1,5 +1,5 @@
 -- What the program exits with, and what it tells.
-use Rattle.std.specs.Prelude.{◌≡◌, ⊤, ℕ, List, codes, string_bytes}
+use Rattle.std.specs.Prelude.{◌≡◌, ⊤, ℕ, List, ◌++◌, codes, string_bytes}
 use Rattle.s4_commands.specs.declared.fault.Fault.{Fault}
 use Rattle.s4_commands.specs.declared.fault.Fault.TheVariants as fault
 use Rattle.s4_client.specs.Texts.{call_fault_text}
@@ -16,7 +16,10 @@ exit_status other = 1
 abbrev pub fault_text : Fault → List ℕ
 fault_text (fault.CommandLine text) = string_bytes text
 fault_text (fault.Run why) = run.fault_text why
+fault_text (fault.CannotReadFile path) = codes "cannot read " ++ string_bytes path
 fault_text (fault.Call why) = call_fault_text why
+fault_text fault.EndIsThere = codes "the file of --until is there already"
+fault_text fault.CannotLook = codes "cannot look for the file of --until"
 fault_text fault.CannotListen = codes "cannot listen"
 fault_text (fault.Serve why) = server.fault_text why
 

@@ -19,6 +19,12 @@ use s4_types::{Reply, Request};
 use std::alloc::Global;
 use std::io::{Read, Write};
 use std::net::{Net, TcpStream};
+use std::sync::Wait;
+use std::thread;
+use std::time::{Clock, Duration, Instant};
+
+/// How long it waits before it tries to connect again, in milliseconds.
+const PAUSE: u64 = 10;
 
 /// A call: where, as whom, and what is asked.
 #[derive(Debug, PartialEq, Drop)]
@@ -26,13 +32,15 @@ pub struct Call {
     pub address: String,
     pub hello: Hello,
     pub request: Request,
+    /// For how many milliseconds it is tried to connect again where that fails.
+    pub wait: u64,
     /// What is sent.
     message: Vec<u8>,
     ghost spelled: { message.items ≡ message_of hello request },
 }
 
 impl Call {
-    /// `BadRequest` where the request has no spelling within a frame.
+    /// A call that tries to connect once. `BadRequest` where the request has no spelling within a frame.
     pub fn new(
         alloc: Global,
         address: &str,
@@ -42,19 +50,41 @@ impl Call {
         ensures address { IfOk result (λ call. string_bytes call.address ≡ address.now) }
         ensures hello { IfOk result (λ call. call.hello ≡ hello) }
         ensures request { IfOk result (λ call. call.request ≡ request) }
+        ensures once { IfOk result (λ call. call.wait ≡ 0) }
     {
         let message = message(alloc, &hello, &request)?;
         Ok(Call {
             address: String::from_str(alloc, address)?,
             hello,
             request,
+            wait: 0,
             message,
         })
+    }
+
+    /// The same call, where it is tried to connect for so many milliseconds.
+    pub fn waiting(self, milliseconds: u64) -> Call
+        ensures { result ≡ record self { wait = milliseconds } }
+    {
+        let Call {
+            address,
+            hello,
+            request,
+            message,
+            ..
+        } = self;
+        Call {
+            address,
+            hello,
+            request,
+            wait: milliseconds,
+            message,
+        }
     }
 }
 
 /// Calls at the address, and writes the text of the reply.
-pub fn call_at<N: Net<Stream = TcpStream>, W: Write>(
+pub fn call_at<N: Net<Stream = TcpStream> + Wait + Clock, W: Write>(
     net: &N,
     alloc: Global,
     call: &Call,
@@ -62,8 +92,34 @@ pub fn call_at<N: Net<Stream = TcpStream>, W: Write>(
 ) -> Result<(), Fault>
     ensures told { OnOk result (TellsSomeReply (W.contents output.old) (W.contents output.new)) }
 {
-    let stream = connect(net, call.address.as_str())?;
+    let stream = reach(net, call.address.as_str(), call.wait)?;
     call_over(alloc, call, &mut &stream, &mut &stream, output)
+}
+
+/// Connects, and tries again for so many milliseconds while that fails. Where the clock can't be read
+/// it tries once.
+fn reach<N: Net<Stream = TcpStream> + Wait + Clock>(
+    net: &N,
+    address: &str,
+    wait: u64,
+) -> Result<TcpStream, CallFault> {
+    let start = Instant::now(net).ok();
+    for _ in net.forever() {
+        let reached = connect(net, address);
+        if reached.is_ok() || is_over(net, start, wait) {
+            return reached;
+        }
+        thread::sleep(net, Duration::from_millis(PAUSE));
+    }
+    unreachable!()
+}
+
+/// Whether so many milliseconds have passed since the start, as far as the clock tells.
+fn is_over<C: Clock>(clock: &C, start: Option<Instant>, wait: u64) -> bool {
+    match start.and_then(|start| start.elapsed(clock).ok()) {
+        Some(passed) => passed >= Duration::from_millis(wait),
+        None => true,
+    }
 }
 
 /// Calls over a reader and a writer, and writes the text of the reply, which ends in a line feed.

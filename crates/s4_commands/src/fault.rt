@@ -19,8 +19,14 @@ pub enum Fault {
     CommandLine(String),
     /// The run ended so.
     Run(RunFault),
+    /// The file with this path, which a word of the command line names, can't be read, or is no text.
+    CannotReadFile(String),
     /// The call has no reply.
     Call(CallFault),
+    /// The file that ends a server is there before it begins.
+    EndIsThere,
+    /// It can't be told whether the file that ends a server is there.
+    CannotLook,
     /// The address of a server can't be had.
     CannotListen,
     /// The server ended so.
@@ -53,7 +59,10 @@ impl fmt::Display for Fault {
         match self {
             Fault::CommandLine(text) => write!(f, "{text}"),
             Fault::Run(fault) => write!(f, "{fault}"),
+            Fault::CannotReadFile(path) => write!(f, "cannot read {path}"),
             Fault::Call(fault) => write!(f, "{fault}"),
+            Fault::EndIsThere => write!(f, "the file of --until is there already"),
+            Fault::CannotLook => write!(f, "cannot look for the file of --until"),
             Fault::CannotListen => write!(f, "cannot listen"),
             Fault::Serve(fault) => write!(f, "{fault}"),
         }

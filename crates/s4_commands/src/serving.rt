@@ -8,6 +8,7 @@ use crate::fault::Fault;
 use s4_run::RunFault;
 use s4_server::{Server, Settings, Stopwatch, Ticks};
 use s4_session::Logins;
+use std::fs;
 use std::io::Write;
 use std::net::{Net, TcpListener, TcpStream};
 use std::rt::Files;
@@ -20,10 +21,13 @@ use std::time::Clock;
 pub struct Service {
     pub address: String,
     pub logins: String,
+    /// The path of the file that ends it, where there is one.
+    pub until: Option<String>,
     pub settings: Settings,
 }
 
-/// Serves at the address of the service. Logins are read before it listens.
+/// Serves at the address of the service. Logins are read, and it is looked for the file that ends it,
+/// before it listens.
 pub fn serve_at<
     R: Files
         + Net<Listener = TcpListener, Stream = TcpStream>
@@ -36,11 +40,22 @@ pub fn serve_at<
 >(rt: &R, service: &Service, output: &mut W) -> Result<(), Fault>
     ensures told { OnOk result (TellsService (string_bytes service.now.address) (W.contents output.old) (W.contents output.new)) }
 {
+    let until = service.until.as_ref().map(|path| path.as_str());
+    look(rt, until)?;
     let logins = s4_run::open_logins(rt, service.logins.as_str())?;
     let listener = TcpListener::bind(rt, service.address.as_str());
     let listener = listener.map_err(|_| Fault::CannotListen)?;
-    let clock = Stopwatch::start(rt);
+    let clock = Stopwatch::start(rt, service.settings.first, until);
     serve_on(rt, service, &clock, &listener, &logins, output)
+}
+
+/// That nothing is there yet which ends the server.
+fn look<F: Files>(files: &F, until: Option<&str>) -> Result<(), Fault> {
+    match until.map(|path| fs::exists(files, path)) {
+        None | Some(Ok(false)) => Ok(()),
+        Some(Ok(true)) => Err(Fault::EndIsThere),
+        Some(Err(_)) => Err(Fault::CannotLook),
+    }
 }
 
 /// Serves the connections of the listener to the end of the service, and tells that it listens, and

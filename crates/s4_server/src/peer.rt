@@ -6,7 +6,7 @@ ghost use Rattle.s4_server.specs.Desks.{calls_told};
 
 use crate::clock::Ticks;
 use crate::desk::Desk;
-use crate::ending::Leaving;
+use crate::ending::{Drained, Leaving, drain_some};
 use crate::gauge::Gauge;
 use crate::threads::Shared;
 use mio::net::TcpStream;
@@ -17,11 +17,12 @@ use std::io::{Read, Write};
 use std::mem::replace;
 use std::net::Shutdown;
 use std::sync::Wait;
+use std::sync::atomic::Ordering;
 
 /// How many turns a peer has at a time at most, where others may wait for theirs.
 const TURNS: u32 = 8;
 
-/// How long it is listened to a peer after a fault, in milliseconds.
+/// How long it is listened to a peer who leaves, in milliseconds.
 const PATIENCE: u64 = 1000;
 
 /// A peer: its connection, and what was said there.
@@ -43,6 +44,8 @@ enum Stage {
     Talks(Talking),
     /// It was told a fault.
     Leaves(Leaving),
+    /// The server is to end, and it was told all.
+    Ends,
 }
 
 /// What is next with a peer.
@@ -98,14 +101,18 @@ impl Peer {
                 Some(TurnEnd::Waits) | Some(TurnEnd::Stuck) => return Next::Waits,
                 Some(TurnEnd::Ended(TalkEnd::Faulted(_))) => return self.leave(now),
                 Some(TurnEnd::Ended(_)) => return Next::Over,
-                None => return self.hear_out(),
+                None => match self.hear_out() {
+                    Next::GoesOn => {}
+                    next => return next,
+                },
             }
         }
         Next::GoesOn
     }
 
-    /// Takes a turn with the peer, where it was told no fault. There is no more to read where a read was
-    /// shorter than it could have been, but for the end, of which no further event may tell.
+    /// Takes a turn with the peer, where it is told replies. Once the server is to end it isn't read. There
+    /// is no more to read where a read was shorter than it could have been, but for the end, of which no
+    /// further event may tell.
     fn talk<R: Wait, C: Ticks>(
         &mut self,
         shared: &Shared<'_, R, C>,
@@ -124,7 +131,7 @@ impl Peer {
         };
         let waited = talking.waiting();
         let stream: &TcpStream = stream;
-        let mut reader = Gauge::new(stream);
+        let mut reader = Gauge::new(stream, shared.over.load(Ordering::SeqCst));
         let mut writer = stream;
         let end = converse(shared, desk, talking, &mut reader, &mut writer);
         if reader.has_heard() || talking.waiting() < waited {
@@ -146,16 +153,38 @@ impl Peer {
         self.hear_out()
     }
 
+    /// Says that no more is sent, where nothing waits to be written for the peer. What it still says is
+    /// read from then on: else a close could reset the connection, and the peer lose what it was sent.
+    /// Tells whether it is to go on at once for that.
+    pub fn ends(&mut self, now: u64) -> bool {
+        let is_told = match &self.stage {
+            Stage::Talks(talking) => talking.waiting() == 0,
+            _ => false,
+        };
+        if is_told {
+            // Where this fails the connection is lost already.
+            let _ = self.stream.shutdown(Shutdown::Write);
+            self.stage = Stage::Ends;
+            self.since = now;
+        }
+        is_told && self.becomes_eager()
+    }
+
     /// Reads what the peer still says, and forgets it.
     fn hear_out(&mut self) -> Next {
         let Peer { stream, stage, .. } = self;
         let mut reader: &TcpStream = stream;
-        if let Stage::Leaves(leaving) = stage {
-            if leaving.hear(&mut reader) {
-                return Next::Waits;
+        match stage {
+            Stage::Leaves(leaving) => {
+                if leaving.hear(&mut reader) {
+                    Next::Waits
+                } else {
+                    Next::Over
+                }
             }
+            Stage::Ends => next_after(drain_some(&mut reader)),
+            Stage::Talks(_) => Next::Over,
         }
-        Next::Over
     }
 
     /// Whether the peer was silent, or took nothing of what waits for it, for too long. `idle` is that
@@ -164,8 +193,17 @@ impl Peer {
         let passed = now.saturating_sub(self.since);
         match &self.stage {
             Stage::Talks(_) => idle > 0 && passed >= idle,
-            Stage::Leaves(_) => passed >= PATIENCE,
+            Stage::Leaves(_) | Stage::Ends => passed >= PATIENCE,
         }
+    }
+}
+
+/// What is next after such a read.
+fn next_after(drained: Drained) -> Next {
+    match drained {
+        Drained::Some => Next::GoesOn,
+        Drained::Waits => Next::Waits,
+        Drained::Over => Next::Over,
     }
 }
 

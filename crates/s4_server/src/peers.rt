@@ -107,6 +107,12 @@ impl Peers {
         }
     }
 
+    /// Ends with those for whom nothing waits to be written.
+    pub fn end(&mut self, now: u64) {
+        let Peers { places, eager, .. } = self;
+        places.retain(|place, peer| !peer.ends(now) || eager.push_back(place).is_ok());
+    }
+
     /// Closes those that were idle for so many milliseconds, or for none where that is 0. It looks once
     /// at each time.
     pub fn close_idle(&mut self, now: u64, idle: u64) {

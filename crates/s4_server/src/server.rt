@@ -10,6 +10,7 @@ ghost use Rattle.s4_merge.specs.Merged.{AreWhole};
 ghost use Rattle.s4_merge.specs.Order.{IsClosing};
 ghost use Rattle.s4_pool.specs.Numbers.{HasAll};
 
+use crate::accepting::Door;
 use crate::clock::Ticks;
 use crate::connection::Connection;
 use crate::fault::ServerFault;
@@ -46,6 +47,8 @@ pub struct Server {
     seats: Vec<Seat<Connection>>,
     watches: Vec<Watch>,
     posts: Vec<Post>,
+    /// Over the listener.
+    outer: Watch,
 }
 
 impl Model for Server {
@@ -80,7 +83,7 @@ impl Server {
         let (front, passes) = Front::open(alloc, window, cells, workers, OpenGate)?;
         let (jobs, mut seats) = Jobs::open(alloc, WAITING, workers + 1)?;
         let seat = seats.remove(0);
-        let (watches, posts) = open_watches(net, alloc, workers)?;
+        let (outer, watches, posts) = open_watches(net, alloc, workers)?;
         Ok(Server {
             alloc,
             settings,
@@ -91,13 +94,16 @@ impl Server {
             seats,
             watches,
             posts,
+            outer,
         })
     }
 
     /// Serves the connections of the listener, each by one worker until it ends, while one thread more
     /// sweeps the cells in turn. Where the settings name a number of connections it ends after so many:
     /// they are served to their ends, the workers are joined, and the front is closed. What it then gives
-    /// is what the closing of a front gives (docs/ARCHITECTURE.md, "Fronts"). It waits.
+    /// is what the closing of a front gives (docs/ARCHITECTURE.md, "Fronts"). Once the clock is over it
+    /// ends too: no connection is accepted or read any more, and each is closed once all that it was
+    /// answered is written. It waits.
     pub fn run<R: Threads + Wait + Clock + Sync, C: Ticks>(
         self,
         rt: &R,
@@ -122,8 +128,10 @@ impl Server {
             seats,
             watches,
             posts,
+            outer,
         } = self;
         let accepted = AtomicBool::new(false);
+        let over = AtomicBool::new(false);
         let time = AtomicU64::new(clock.moment().tick());
         let shared = Shared {
             rt,
@@ -133,14 +141,16 @@ impl Server {
             logins,
             posts: posts.as_slice(),
             accepted: &accepted,
+            over: &over,
             time: &time,
             idle: settings.idle,
         };
         let mut workers = staff(&shared, &jobs, seats, passes, watches)?;
+        let door = Door::new(listener, outer, posts.as_slice(), settings.open, &over);
         serve_all(
             &shared,
             &settings,
-            listener,
+            door,
             &jobs,
             seat,
             workers.as_mut_slice(),
@@ -153,18 +163,24 @@ impl Server {
     }
 }
 
-/// A watch and a post for each worker.
+/// A watch over a listener, and a watch and a post for each worker.
 fn open_watches<N: Net>(
     net: &N,
     alloc: Global,
     workers: u64,
-) -> Result<(Vec<Watch>, Vec<Post>), ServerFault> {
+) -> Result<(Watch, Vec<Watch>, Vec<Post>), ServerFault> {
+    let (outer, _) = open_watch(net, alloc)?;
     let mut watches = Vec::new(alloc);
     let mut posts = Vec::new(alloc);
     for _ in 0..workers {
-        let (watch, post) = Watch::open(net, alloc).map_err(|_| ServerFault::NoWatch)?;
+        let (watch, post) = open_watch(net, alloc)?;
         watches.push(watch)?;
         posts.push(post)?;
     }
-    Ok((watches, posts))
+    Ok((outer, watches, posts))
+}
+
+/// A watch and its post.
+fn open_watch<N: Net>(net: &N, alloc: Global) -> Result<(Watch, Post), ServerFault> {
+    Watch::open(net, alloc).map_err(|_| ServerFault::NoWatch)
 }

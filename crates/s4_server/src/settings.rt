@@ -17,6 +17,8 @@ pub struct Settings {
     pub idle: u64,
     /// How many connections may be open; one more is closed at once.
     pub open: u32,
+    /// The moment at the start.
+    pub first: u64,
     ghost some_cells: { 0 < cells },
     ghost few_cells: { cells ≤ 16 },
     ghost some_workers: { 0 < workers },
@@ -24,7 +26,8 @@ pub struct Settings {
 }
 
 impl Settings {
-    /// A window of a day, four cells, four workers, no end, a minute of silence, and 1024 connections.
+    /// A window of a day, four cells, four workers, no end, a minute of silence, 1024 connections, and a
+    /// clock that begins at 0.
     pub fn standard() -> Settings {
         Settings {
             window: 86400000,
@@ -33,6 +36,7 @@ impl Settings {
             connections: 0,
             idle: 60000,
             open: 1024,
+            first: 0,
         }
     }
 }

@@ -2,7 +2,7 @@
 
 ghost use Rattle.std.specs.Prelude.{◌≡◌};
 
-use crate::accepting::accept_all;
+use crate::accepting::{Door, accept_all};
 use crate::clock::Ticks;
 use crate::connection::Connection;
 use crate::post::{Post, wake_all};
@@ -12,7 +12,6 @@ use s4_jobs::{Jobs, Seat};
 use s4_pool::{Front, OpenGate};
 use s4_session::Logins;
 use std::alloc::Global;
-use std::net::TcpListener;
 use std::sync::Wait;
 use std::sync::atomic::{AtomicBool, AtomicU64, Ordering};
 use std::thread;
@@ -37,6 +36,8 @@ pub struct Shared<'a, R, C> {
     pub posts: &'a [Post],
     /// No more connections are accepted.
     pub accepted: &'a AtomicBool,
+    /// The server is to end: peers are not read any more, and leave once they are told what waits.
+    pub over: &'a AtomicBool,
     /// The time at which the sweeper began its round, in milliseconds.
     pub time: &'a AtomicU64,
     /// How long a peer may be silent, in milliseconds; 0 for ever.
@@ -47,7 +48,7 @@ pub struct Shared<'a, R, C> {
 pub fn serve_all<R: Threads + Wait + Clock + Sync, C: Ticks>(
     shared: &Shared<'_, R, C>,
     settings: &Settings,
-    listener: &TcpListener,
+    door: Door<'_>,
     jobs: &Jobs<Connection>,
     seat: Seat<Connection>,
     workers: &mut [Worker<'_, R, C>],
@@ -62,7 +63,7 @@ pub fn serve_all<R: Threads + Wait + Clock + Sync, C: Ticks>(
         shared.rt,
         || -> ()
             requires { seat.queue ≡ jobs.now.queue }
-        { serve_to_the_end(shared, settings, listener, jobs, seat, workers, ended) },
+        { serve_to_the_end(shared, settings, door, jobs, seat, workers, ended) },
         || -> ()
             requires { cells ≡ shared.now.front.now.cells }
         { sweep_to_the_end(shared, cells, ended) },
@@ -73,7 +74,7 @@ pub fn serve_all<R: Threads + Wait + Clock + Sync, C: Ticks>(
 fn serve_to_the_end<R: Threads + Wait + Clock + Sync, C: Ticks>(
     shared: &Shared<'_, R, C>,
     settings: &Settings,
-    listener: &TcpListener,
+    mut door: Door<'_>,
     jobs: &Jobs<Connection>,
     mut seat: Seat<Connection>,
     workers: &mut [Worker<'_, R, C>],
@@ -86,7 +87,7 @@ fn serve_to_the_end<R: Threads + Wait + Clock + Sync, C: Ticks>(
         || work_all(shared, workers),
         || -> ()
             requires { seat.queue ≡ jobs.now.queue }
-        { accept_to_the_end(shared, settings, listener, jobs, &mut seat) },
+        { accept_to_the_end(shared, settings, &mut door, jobs, &mut seat) },
     );
     ended.store(true, Ordering::SeqCst);
 }
@@ -95,26 +96,13 @@ fn serve_to_the_end<R: Threads + Wait + Clock + Sync, C: Ticks>(
 fn accept_to_the_end<R: Wait + Clock, C>(
     shared: &Shared<'_, R, C>,
     settings: &Settings,
-    listener: &TcpListener,
+    door: &mut Door<'_>,
     jobs: &Jobs<Connection>,
     seat: &mut Seat<Connection>,
 )
     requires { seat.old.queue ≡ jobs.now.queue }
 {
-    let Settings {
-        connections,
-        open,
-        ..
-    } = *settings;
-    accept_all(
-        shared.rt,
-        listener,
-        jobs,
-        seat,
-        shared.posts,
-        connections,
-        open,
-    );
+    accept_all(shared.rt, door, jobs, seat, settings.connections);
     shared.accepted.store(true, Ordering::SeqCst);
     wake_all(shared.posts);
 }
@@ -130,8 +118,8 @@ fn work_all<R: Threads + Wait + Sync, C: Ticks>(
     }
 }
 
-/// Sweeps the cells in turn, round by round, until the end. At each round it tells the time, and has
-/// the workers look for idle peers.
+/// Sweeps the cells in turn, round by round, until the end. At each round it tells the time, and whether
+/// the server is to end, and has the workers look for idle peers.
 fn sweep_to_the_end<R: Wait + Clock, C: Ticks>(
     shared: &Shared<'_, R, C>,
     cells: usize,
@@ -142,6 +130,9 @@ fn sweep_to_the_end<R: Wait + Clock, C: Ticks>(
     for _ in shared.rt.forever() {
         let now = shared.clock.moment().tick();
         shared.time.store(now, Ordering::SeqCst);
+        if shared.clock.is_over() {
+            shared.over.store(true, Ordering::SeqCst);
+        }
         wake_all(shared.posts);
         for cell in 0..cells {
             shared.front.sweep(shared.rt, cell, SWEPT);

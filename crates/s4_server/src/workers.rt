@@ -135,6 +135,9 @@ impl<R: Wait, C: Ticks> Worker<'_, R, C> {
         }
         peers.serve_eager(shared, desk, now);
         peers.close_idle(now, shared.idle);
+        if shared.over.load(Ordering::SeqCst) {
+            peers.end(now);
+        }
         let ended = before.saturating_sub(peers.len());
         if ended > 0 {
             post.end(ended as u64);

@@ -45,15 +45,16 @@ enum Asked {
     Strike(u32),
     /// A call at an address without a port.
     Call,
-    /// A server at an address that can't be had.
-    Serve,
+    /// A server at an address that can't be had, until there is something at this path.
+    Serve(Option<&'static str>),
 }
 
 enum Outcome {
     Writes(&'static str),
     Fails(RunFault),
     CannotConnect,
-    CannotListen,
+    /// The line of a fault, with status 1.
+    Tells(&'static str),
 }
 
 /// A list of arrivals is no script.
@@ -79,7 +80,22 @@ const ROWS: &[Row] = &[
         Outcome::Fails(RunFault::BadLine(2)),
     ),
     Row(Asked::Call, "", Outcome::CannotConnect),
-    Row(Asked::Serve, "", Outcome::CannotListen),
+    Row(Asked::Serve(None), "", Outcome::Tells("s4d: cannot listen")),
+    Row(
+        Asked::Serve(Some("/tmp/s4d/nothing")),
+        "",
+        Outcome::Tells("s4d: cannot listen"),
+    ),
+    Row(
+        Asked::Serve(Some("/tmp")),
+        "",
+        Outcome::Tells("s4d: the file of --until is there already"),
+    ),
+    Row(
+        Asked::Serve(Some("/dev/null/end")),
+        "",
+        Outcome::Tells("s4d: cannot look for the file of --until"),
+    ),
 ];
 
 /// The command that is asked for. The logins are those of the file with this path, which is made
@@ -100,11 +116,19 @@ fn command_of<F: Files>(
         Asked::EmptyHall => Ok(Command::Hall(String::from_str(alloc, path)?)),
         Asked::Strike(who) => Ok(Command::Strike(Principal::new(*who).ok_or("a principal")?)),
         Asked::Call => Ok(Command::Call(call_for(alloc, "nowhere", SECRET, "create 0")?)),
-        Asked::Serve => Ok(Command::Serve(Service {
+        Asked::Serve(until) => Ok(Command::Serve(Service {
             address: String::from_str(alloc, "no address")?,
             logins: String::from_str(alloc, "/dev/null")?,
+            until: path_of(alloc, *until)?,
             settings: Settings::standard(),
         })),
+    }
+}
+
+fn path_of(alloc: Global, path: Option<&str>) -> Result<Option<String>, Fail> {
+    match path {
+        Some(path) => Ok(Some(String::from_str(alloc, path)?)),
+        None => Ok(None),
     }
 }
 
@@ -121,9 +145,9 @@ fn is_outcome(
         (Err(Fault::Call(fault)), Outcome::CannotConnect) => {
             Ok(*fault == CallFault::CannotConnect)
         }
-        (Err(fault), Outcome::CannotListen) => {
+        (Err(fault), Outcome::Tells(wanted)) => {
             let line = FaultText(fault).to_string(alloc)?;
-            Ok(fault.status() == 1 && line.as_str() == "s4d: cannot listen")
+            Ok(fault.status() == 1 && line.as_str() == *wanted)
         }
         _ => Ok(false),
     }

@@ -23,3 +23,5 @@ mod frames;
 mod scenes;
 #[cfg(test)]
 mod served;
+#[cfg(test)]
+mod times;

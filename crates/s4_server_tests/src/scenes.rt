@@ -2,7 +2,7 @@
 
 use crate::asking::call_for;
 use crate::commands::obeyed;
-use crate::frames::{CALL, CREATE, HELLO, joined};
+use crate::frames::{ANSWER, CALL, CREATE, HELLO, joined};
 use s4_commands::{Command, FaultText};
 use std::alloc::Global;
 use std::io::{Error, ErrorKind, Read, Write};
@@ -11,7 +11,7 @@ use std::rt::Files;
 use std::sync::Wait;
 use std::thread::Threads;
 use std::time::{Clock, Duration};
-use std::{io, thread};
+use std::{fs, io, thread};
 
 /// Where the tests serve.
 pub const ADDRESS: &str = "127.0.0.1:47104";
@@ -27,6 +27,9 @@ pub const SILENT: u32 = 300;
 
 /// How often a peer asks that hears nothing.
 const ASKED: u32 = 20000;
+
+/// How many bytes such a peer hears at first, where it hears late: up to its second Read.
+const BEGUN: usize = 8000;
 
 /// The frame of a Write of 4000 bytes to 7.0.1, up to its data.
 const LONG_WRITE: &[u8] =
@@ -52,6 +55,10 @@ pub enum Scene {
     /// One may be open, and asks for a Create; a second one comes; a third one comes until it is
     /// served.
     AboveTheBound,
+    /// Some are silent. One asks for a Create, and then the server is to end.
+    ToTheEnd,
+    /// One asks for more than the system keeps for a peer, and hears it once the server is to end.
+    LateHearing,
 }
 
 /// What the peers are sent in their order, and a connection that is still open.
@@ -61,7 +68,8 @@ pub struct Heard {
     pub open: Option<TcpStream>,
 }
 
-/// Has the peers of a scene do what they do.
+/// Has the peers of a scene do what they do. The server is to end once there is a file with the path
+/// `end`.
 pub fn play<
     R: Files
         + Net<Listener = TcpListener, Stream = TcpStream>
@@ -70,7 +78,7 @@ pub fn play<
         + Clock
         + Sync
         + AllocGlobal,
->(rt: &R, scene: &Scene) -> io::Result<Heard> {
+>(rt: &R, scene: &Scene, end: &str) -> io::Result<Heard> {
     let alloc = rt.alloc();
     match scene {
         Scene::Say(peers) => say_all(rt, alloc, peers),
@@ -79,6 +87,8 @@ pub fn play<
         Scene::WithoutHearing => ask_without_hearing(rt, alloc),
         Scene::Silent => one(alloc, hear_only(rt, alloc)),
         Scene::AboveTheBound => one(alloc, meet_the_bound(rt, alloc)),
+        Scene::ToTheEnd => one(alloc, ask_to_the_end(rt, alloc, end)),
+        Scene::LateHearing => one(alloc, hear_late(rt, alloc, end)),
     }
 }
 
@@ -230,4 +240,39 @@ fn meet_the_bound<R: Net<Listener = TcpListener, Stream = TcpStream> + Clock>(
         thread::sleep(rt, Duration::from_millis(PAUSE));
     }
     Err(Error::from(ErrorKind::TimedOut))
+}
+
+/// What a peer is sent that asks for a Create, and goes on once it has the reply: then the server is to
+/// end. Others are silent.
+fn ask_to_the_end<R: Files + Net<Listener = TcpListener, Stream = TcpStream>>(
+    rt: &R,
+    alloc: Global,
+    end: &str,
+) -> io::Result<Vec<u8>> {
+    let mut silent = connect(rt)?;
+    let mut stream = connect(rt)?;
+    stream.write_all(CALL)?;
+    let mut answer = [0; ANSWER.len()];
+    stream.read_exact(&mut answer)?;
+    fs::write(rt, end, "")?;
+    let mut sent = answer.to_vec(alloc)?;
+    stream.read_to_end(&mut sent)?;
+    silent.read_to_end(&mut sent)?;
+    Ok(sent)
+}
+
+/// What a peer is sent that asks for more than the system keeps for it, hears the begin, and hears the
+/// rest once the server is to end.
+fn hear_late<R: Files + Net<Listener = TcpListener, Stream = TcpStream> + Clock>(
+    rt: &R,
+    alloc: Global,
+    end: &str,
+) -> io::Result<Vec<u8>> {
+    let mut stream = deaf(rt, alloc)?;
+    let mut sent = Vec::from_elem(alloc, 0, BEGUN)?;
+    stream.read_exact(sent.as_mut_slice())?;
+    fs::write(rt, end, "")?;
+    thread::sleep(rt, Duration::from_millis(PAUSE + PAUSE));
+    stream.read_to_end(&mut sent)?;
+    Ok(sent)
 }

@@ -18,7 +18,7 @@ use std::sync::Wait;
 use std::test::Fail;
 use std::thread::Threads;
 use std::time::{Clock, Duration};
-use std::{str, thread};
+use std::{fs, process, str, thread};
 
 /// The secret of principal 7.
 const LOGINS: &[u8] = b"7 000102030405060708090a0b0c0d0e0f\n";
@@ -43,6 +43,9 @@ enum Sent {
     Pieces(&'static [&'static [&'static [u8]]]),
     /// There is one, which is sent so many bytes.
     Count(usize),
+    /// There is one, which is sent the replies to all that was recorded of it: a Create, a Write, and
+    /// Reads of 4000 bytes.
+    EachRecorded,
 }
 
 const ROWS: &[Row] = &[
@@ -163,6 +166,28 @@ const ROWS: &[Row] = &[
         sent: Sent::Pieces(&[&[MADE]]),
         records: (1, 1),
     },
+    Row {
+        name: "at the end a peer was told all, and silent ones are closed",
+        cells: 2,
+        workers: 2,
+        connections: 0,
+        idle: 60000,
+        open: 1024,
+        scene: Scene::ToTheEnd,
+        sent: Sent::Pieces(&[&[WELCOME, MADE]]),
+        records: (1, 1),
+    },
+    Row {
+        name: "at the end a peer hears the replies to all that was read of it, and no more is",
+        cells: 2,
+        workers: 1,
+        connections: 9,
+        idle: 60000,
+        open: 1024,
+        scene: Scene::LateHearing,
+        sent: Sent::EachRecorded,
+        records: (4, 20002),
+    },
 ];
 
 /// A clock of the system for servers that close who is idle, and for others one that tells 5.
@@ -172,16 +197,23 @@ enum Watch<'a, R> {
     Runs(Stopwatch<'a, R>),
 }
 
-impl<R: Clock + Sync> Ticks for Watch<'_, R> {
+impl<R: Clock + Files + Sync> Ticks for Watch<'_, R> {
     fn moment(&self) -> Moment {
         match self {
             Watch::Five => Moment::new(5),
             Watch::Runs(watch) => watch.moment(),
         }
     }
+
+    fn is_over(&self) -> bool {
+        match self {
+            Watch::Five => false,
+            Watch::Runs(watch) => watch.is_over(),
+        }
+    }
 }
 
-fn service_of(alloc: Global, row: &Row) -> Result<Service, Fail> {
+fn service_of(alloc: Global, row: &Row, end: &str) -> Result<Service, Fail> {
     let (cells, workers) = (row.cells, row.workers);
     if cells == 0 || cells > 16 || workers == 0 || workers > 8 {
         return Err(Fail::from("settings"));
@@ -189,6 +221,7 @@ fn service_of(alloc: Global, row: &Row) -> Result<Service, Fail> {
     Ok(Service {
         address: String::from_str(alloc, ADDRESS)?,
         logins: String::new(alloc),
+        until: Some(String::from_str(alloc, end)?),
         settings: Settings {
             window: 100,
             cells,
@@ -196,6 +229,7 @@ fn service_of(alloc: Global, row: &Row) -> Result<Service, Fail> {
             connections: row.connections,
             idle: row.idle,
             open: row.open,
+            first: 0,
         },
     })
 }
@@ -214,7 +248,7 @@ fn listen<R: Net<Listener = TcpListener, Stream = TcpStream> + Clock>(
 }
 
 /// What the server writes.
-fn serve<R: Net + Threads + Wait + Clock + Sync + AllocGlobal>(
+fn serve<R: Files + Net + Threads + Wait + Clock + Sync + AllocGlobal>(
     rt: &R,
     service: &Service,
     listener: &TcpListener,
@@ -222,15 +256,20 @@ fn serve<R: Net + Threads + Wait + Clock + Sync + AllocGlobal>(
 ) -> Result<Vec<u8>, Fault> {
     let clock = match service.settings.idle {
         0 => Watch::Five,
-        _ => Watch::Runs(Stopwatch::start(rt)),
+        _ => Watch::Runs(Stopwatch::start(rt, 0, end_of(service))),
     };
     let mut output = Vec::new(rt.alloc());
     serve_on(rt, service, &clock, listener, logins, &mut output)?;
     Ok(output)
 }
 
-/// Whether the peers were sent that.
-fn is_sent(heard: &Heard, wanted: &Sent) -> bool {
+/// The path of the file that ends the server.
+fn end_of(service: &Service) -> Option<&str> {
+    service.until.as_ref().map(|path| path.as_str())
+}
+
+/// Whether the peers were sent that, where there are so many records.
+fn is_sent(heard: &Heard, wanted: &Sent, records: u64) -> bool {
     let sent = heard.sent.as_slice();
     match wanted {
         Sent::Pieces(peers) => {
@@ -241,7 +280,17 @@ fn is_sent(heard: &Heard, wanted: &Sent) -> bool {
                     .all(|(sent, pieces)| is_joined(sent, pieces))
         }
         Sent::Count(count) => matches!(sent, [only] if only.len() == *count),
+        Sent::EachRecorded => matches!(sent, [only] if only.len() as u64 == sent_for(records)),
     }
+}
+
+/// How many bytes are sent for a Create, a Write, and else Reads of 4000 bytes, so many in all. DATA
+/// has the data of a Read of 5.
+fn sent_for(records: u64) -> u64 {
+    let begin = WELCOME.len() + MADE.len() + DONE.len();
+    let read = (DATA.len() as u64).wrapping_add(3995);
+    read.wrapping_mul(records.wrapping_sub(2))
+        .wrapping_add(begin as u64)
 }
 
 /// Whether the bytes are these pieces, one behind the other.
@@ -284,7 +333,7 @@ fn serve_beside<
     let (served, heard) = thread::join(
         rt,
         || serve(rt, service, &listener, logins),
-        || play(rt, scene),
+        || play(rt, scene, end_of(service).unwrap_or_default()),
     );
     Ok(Told {
         served: served.map_err(|_| "the server ends by a fault")?,
@@ -296,7 +345,9 @@ fn serve_beside<
 fn is_told(told: &Told, row: &Row) -> bool {
     let (least, most) = row.records;
     match records_of(told.served.as_slice()) {
-        Some(records) => { least <= records && records <= most && is_sent(&told.heard, &row.sent) }
+        Some(records) => {
+            least <= records && records <= most && is_sent(&told.heard, &row.sent, records)
+        }
         None => false,
     }
 }
@@ -305,8 +356,11 @@ fn is_told(told: &Told, row: &Row) -> bool {
 fn each_server_and_its_peers_do_what_is_wanted(rt: HostRuntime) -> Result<(), Fail> {
     let alloc = rt.alloc();
     let logins = Logins::read(alloc, LOGINS).map_err(|_| Fail::from("a table of logins"))?;
+    let id = process::id(rt.process());
+    let end = format!(in alloc; "/tmp/s4d_end_{id}")?;
     for row in ROWS {
-        let service = service_of(alloc, row)?;
+        let _ = fs::remove_file(&rt, end.as_str());
+        let service = service_of(alloc, row, end.as_str())?;
         match serve_beside(&rt, &service, &logins, &row.scene) {
             Ok(told) => {
                 let served = str::from_utf8(&told.served);
@@ -314,6 +368,7 @@ fn each_server_and_its_peers_do_what_is_wanted(rt: HostRuntime) -> Result<(), Fa
             }
             Err(why) => assert!(rt; false, "{}: {why}", row.name),
         }
+        let _ = fs::remove_file(&rt, end.as_str());
     }
     Ok(())
 }

@@ -17,7 +17,7 @@ use std::thread::Threads;
 use std::time::Clock;
 
 fn main(rt: HostRuntime) -> ExitCode {
-    let outcome = s4_command_line::given(&rt).and_then(|command| answer(&rt, &command));
+    let outcome = s4_command_line::given(&rt, &rt).and_then(|command| answer(&rt, &command));
     ended(&rt, &outcome)
 }
 
