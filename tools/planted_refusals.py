@@ -50,11 +50,11 @@ GROWTHS = {
 }
 
 
-def compiled_to(room, source, name, number):
+def compiled_to(room, source, name, number, kind=Program):
     """A planted program, in a folder of its own."""
     place = Path(room) / f"{name}-{number}"
     place.mkdir()
-    return Program(compiled(HERE / source, place / "program", f"-D{name}={number}", "-fno-builtin"), place)
+    return kind(compiled(HERE / source, place / "program", f"-D{name}={number}", "-fno-builtin"), place)
 
 
 def faults_of_growths(room):

@@ -6,6 +6,7 @@
 //   REFUSE_SECONDS=S  ends the program by SIGALRM after so many seconds
 //   REFUSE_TELL=FILE  writes to this file at the program's end what was counted, a line 'NAME VALUE' for each
 //   REFUSE_MEASURE=1  measures bytes too
+//   REFUSE_MARKS=1    counts and refuses only between what the program writes to standard error: 'the call begins' and 'the call ends'
 #define _GNU_SOURCE
 #include <dlfcn.h>
 #include <errno.h>
@@ -35,6 +36,9 @@ static int only_thread = -1;
 static const char *tell_to;
 static number allocations, by_thread[THREADS], met, asked, held, most_held, growths, most_beyond, beyond_had;
 static number not_made;
+// Whether marks say where calls begin and end, and whether one is under way.
+static int marked, calling;
+static number begun, ended;
 static int next_thread = 1;
 static __thread int thread __attribute__((tls_model("initial-exec")));
 
@@ -105,7 +109,7 @@ static void measure(void *block, size_t size)
 static int refused(void)
 {
     number it;
-    if (!__atomic_load_n(&ready, __ATOMIC_ACQUIRE))
+    if (!__atomic_load_n(&ready, __ATOMIC_ACQUIRE) || (marked && !__atomic_load_n(&calling, __ATOMIC_ACQUIRE)))
         return 0;
     __atomic_add_fetch(&by_thread[thread], 1, __ATOMIC_RELAXED);
     if (only_thread >= 0 && thread != only_thread)
@@ -202,6 +206,26 @@ void free(void *block)
     __libc_free(block);
 }
 
+static int begins_with(const char *bytes, size_t count, const char *mark)
+{
+    return count >= strlen(mark) && !memcmp(bytes, mark, strlen(mark));
+}
+
+ssize_t write(int file, const void *bytes, size_t count)
+{
+    int begins = marked && file == 2 && begins_with(bytes, count, "the call begins");
+    int ends = marked && file == 2 && begins_with(bytes, count, "the call ends");
+    ssize_t wrote;
+    if (ends)
+        __atomic_store_n(&calling, 0, __ATOMIC_RELEASE);
+    wrote = syscall(SYS_write, file, bytes, count);
+    if (begins)
+        __atomic_store_n(&calling, 1, __ATOMIC_RELEASE);
+    begun += begins;
+    ended += ends;
+    return wrote;
+}
+
 static char *written(char *to, const char *name, number value)
 {
     char digits[24];
@@ -235,6 +259,8 @@ static void tell(void)
     to = written(to, "most_beyond_twice", most_beyond);
     to = written(to, "most_beyond_twice_of", beyond_had);
     to = written(to, "threads_not_made", not_made);
+    to = written(to, "calls_begun", begun);
+    to = written(to, "calls_ended", ended);
     for (int it = 0; it < next_thread && it < THREADS; it++) {
         name[7] = (char)('0' + it / 100);
         name[8] = (char)('0' + it / 10 % 10);
@@ -300,6 +326,7 @@ __attribute__((constructor)) static void start(void)
     count = number_in("REFUSE_COUNT", 1);
     only_thread = (int)number_in("REFUSE_THREAD", (number)-1);
     measuring = number_in("REFUSE_MEASURE", 0) != 0;
+    marked = number_in("REFUSE_MARKS", 0) != 0;
     tell_to = getenv("REFUSE_TELL");
     signal(SIGALRM, end_by);
     signal(SIGTERM, end_by);

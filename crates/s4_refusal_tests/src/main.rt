@@ -1,0 +1,112 @@
+//! Nothing but a test: calls of the library that can want memory, each on a worked case. It is run
+//! with plenty of memory, and by `./refusals calls` with each allocation of these calls refused in
+//! turn. For each case it writes whether all was as expected, and how many calls told that there was
+//! no memory. The first argument names the one case that is carried out; without it all are.
+#![tactic(auto)]
+
+mod case;
+mod fronts;
+mod pieces;
+mod rooms;
+mod steps;
+
+use crate::case::Case;
+use std::sync::Wait;
+use std::{env, io};
+
+/// What is called.
+#[derive(Clone, Copy)]
+enum Called {
+    /// A drive over the plain store steps through the requests of a row.
+    OverPlainStore(&'static str),
+    /// A drive over the arena does.
+    OverArena(&'static str),
+    /// An arena with so many items and so many blocks makes room for 200 more, and then has so many
+    /// blocks.
+    Reserve(u64, u64, u64),
+    /// A session hears a stream in pieces of so many bytes.
+    Feed(usize),
+    /// A hall hears a stream, a frame at a time. Its requests are those of the row three_calls_at_five.
+    Arrive,
+    /// A front of two cells serves five requests.
+    Serve,
+    /// It is closed.
+    Close,
+}
+
+const CASES: [(&str, Called); 21] = [
+    (
+        "step_plain_first_moments",
+        Called::OverPlainStore("first_moments"),
+    ),
+    (
+        "step_plain_recovery_flag",
+        Called::OverPlainStore("recovery_flag"),
+    ),
+    ("step_plain_flush", Called::OverPlainStore("flush")),
+    (
+        "step_plain_visible_names_alone",
+        Called::OverPlainStore("visible_names_alone"),
+    ),
+    (
+        "step_plain_bound_object",
+        Called::OverPlainStore("bound_object"),
+    ),
+    ("step_plain_audit", Called::OverPlainStore("audit")),
+    (
+        "step_arena_first_moments",
+        Called::OverArena("first_moments"),
+    ),
+    (
+        "step_arena_recovery_flag",
+        Called::OverArena("recovery_flag"),
+    ),
+    ("step_arena_flush", Called::OverArena("flush")),
+    (
+        "step_arena_visible_names_alone",
+        Called::OverArena("visible_names_alone"),
+    ),
+    ("step_arena_bound_object", Called::OverArena("bound_object")),
+    ("step_arena_audit", Called::OverArena("audit")),
+    (
+        "step_arena_three_calls_at_five",
+        Called::OverArena("three_calls_at_five"),
+    ),
+    ("reserve_empty", Called::Reserve(0, 0, 4)),
+    ("reserve_with_60_items", Called::Reserve(60, 1, 5)),
+    ("feed_pieces_of_1", Called::Feed(1)),
+    ("feed_pieces_of_3", Called::Feed(3)),
+    ("feed_pieces_of_64", Called::Feed(64)),
+    ("arrive", Called::Arrive),
+    ("serve", Called::Serve),
+    ("close", Called::Close),
+];
+
+fn main(rt: HostRuntime) -> io::Result<()> {
+    let words: Vec<String> = env::args(&rt)?.collect(rt.alloc())?;
+    let chosen = words.get(1);
+    let (mut count, mut wrong) = (0usize, 0usize);
+    for (name, called) in CASES {
+        if chosen.is_none_or(|chosen| chosen.as_str() == name) {
+            count = count.saturating_add(1);
+            let mut case = Case::new(&rt, name);
+            carry_out(&mut case, &rt, called)?;
+            case.tell()?;
+            wrong = wrong.saturating_add(case.faults.min(1));
+        }
+    }
+    println!(rt; "{count} cases, {wrong} not as expected")
+}
+
+/// Carries out a case.
+fn carry_out<R: Wait>(case: &mut Case, rt: &R, called: Called) -> io::Result<()> {
+    match called {
+        Called::OverPlainStore(row) => steps::over_plain_store(case, row),
+        Called::OverArena(row) => steps::over_arena(case, row),
+        Called::Reserve(items, before, after) => rooms::reserve(case, items, before, after),
+        Called::Feed(size) => pieces::feed(case, size),
+        Called::Arrive => pieces::arrive(case),
+        Called::Serve => fronts::serve(case, rt),
+        Called::Close => fronts::close(case, rt),
+    }
+}

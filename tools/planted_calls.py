@@ -1,0 +1,34 @@
+"""Small programs that make calls and have planted mistakes, to see that each is found."""
+import tempfile
+
+from tools.calls import Calling, sweep_all
+from tools.planted_refusals import compiled_to
+
+# What is planted, by its number in wrong_calls.c: a word of what has to be said of it, and how often, of the three refusals alone and three in
+# pairs of both cases. Nothing is wrong with the first.
+PLANTS = {
+    "nothing": ("", 0),
+    "a refusal that no call tells": ("no call tells it", 6),
+    "a change where there was no memory": ("it says", 12),
+    "a crash": ("ended by signal 6", 12),
+    "an end": ("status 1", 12),
+    "a refusal that is told twice": ("refusals were met, and", 12),
+    "a call without an end": ("begin and end in turn", 12),
+    "fewer allocations where some are refused": ("2 refusals fell into its calls, which make 3", 2),
+    "calls that ask for no memory": ("ask for no memory", 2),
+    "a reply in whose place there is an error": ("and not as many as", 1),
+    "a fault with ample memory": ("with ample memory", 1),
+}
+
+
+def self_test_of_calls(jobs):
+    """Tries what is planted. Returns whether each mistake is found, and nothing in the program without one."""
+    faults = []
+    with tempfile.TemporaryDirectory(prefix="refusals-") as room:
+        for number, (name, (wanted, count)) in enumerate(PLANTS.items()):
+            program = compiled_to(room, "wrong_calls.c", "MISTAKE", number, Calling)
+            told = [why for called in sweep_all(program, jobs) for why in called.wrong if wanted in why]
+            if len(told) != count:
+                faults += [f"with this planted: {name}, {len(told)} runs or cases are told to be wrong so, and not {count}", *told]
+    print("\n".join(f"refusals: {it}" for it in faults) or f"refusals: {len(PLANTS) - 1} planted mistakes of calls are found, and none in a right program")
+    return not faults
