@@ -55,7 +55,7 @@ fn serve_all<R: Wait>(
 ) -> io::Result<()> {
     for call in &CALLS {
         match passes.get_mut(call.0) {
-            Some(pass) => serve_one(case, rt, (front, pass), call)?,
+            Some(pass) => serve_one(case, rt, front, pass, call)?,
             None => return Err(io::Error::from(ErrorKind::InvalidData)),
         }
     }
@@ -85,25 +85,28 @@ fn asked(call: &Call) -> Option<(Caller, Request, Reply)> {
 fn serve_one<R: Wait>(
     case: &mut Case,
     rt: &R,
-    (front, pass): (&Front<OpenGate>, &mut Pass),
+    front: &Front<OpenGate>,
+    pass: &mut Pass,
     call: &Call,
 ) -> io::Result<()> {
     let (caller, request, wanted) = asked(call).ok_or(io::Error::from(ErrorKind::InvalidData))?;
     let clock = Moment::new(call.2);
     let before = pass.receipts().len();
     case.begins();
-    let mut reply = front.serve(rt, pass, caller, clock, &request);
+    let reply = front.serve(rt, pass, caller, clock, &request);
     case.ends();
-    if is_no_memory(&reply) {
+    let reply = if is_no_memory(&reply) {
         case.refuse_by_reply();
         case.check(
             pass.receipts().len() == before,
             "without memory there is a receipt",
         );
-        reply = front.serve(rt, pass, caller, clock, &request);
-    }
+        front.serve(rt, pass, caller, clock, &request)
+    } else {
+        reply
+    };
     case.check(reply == wanted, "another reply");
-    check_receipt(case, pass, before, (call.4, &wanted));
+    check_receipt(case, pass, before, call.4, &wanted);
     Ok(())
 }
 
@@ -112,7 +115,8 @@ fn check_receipt(
     case: &mut Case,
     pass: &Pass,
     before: usize,
-    ((moment, cell, place), reply): ((u64, usize, u64), &Reply),
+    (moment, cell, place): (u64, usize, u64),
+    reply: &Reply,
 ) {
     let is_one = pass.receipts().len() == before.saturating_add(1);
     let is_same = match pass.receipts().get(before) {

@@ -52,36 +52,40 @@ fn give_all<S: Store<Version>>(
     script: &str,
     replies: &str,
 ) -> io::Result<()> {
-    let mut left = replies;
+    let mut told = String::new(case.alloc());
     for line in script.lines().skip(1) {
-        left = give(case, drive, line, left)?;
+        give(case, drive, line, &mut told)?;
     }
-    case.check(left.is_empty(), "there are further replies");
+    case.check(told.as_str() == replies, "other replies");
     Ok(())
 }
 
-/// Gives a drive the request of a line. Gives what the replies have behind its own.
-fn give<'a, S: Store<Version>>(
+/// Gives a drive the request of a line, and puts the text of its reply behind those of before.
+fn give<S: Store<Version>>(
     case: &mut Case,
     drive: &mut Drive<S>,
     line: &str,
-    replies: &'a str,
-) -> io::Result<&'a str> {
-    let Line::Step(
-        Step::Request {
-            moment,
-            caller,
-            request,
-        },
-    ) = parse_line(case.alloc(), line.as_bytes()).map_err(error_of)?
-    else {
-        return Err(io::Error::from(ErrorKind::InvalidData));
-    };
-    let reply = replied(case, drive, (moment, caller), &request)?;
+    told: &mut String,
+) -> io::Result<()> {
+    let (asked, request) = request_of(case, line)?;
+    let reply = replied(case, drive, asked, &request)?;
     let text = format!(in case.alloc(); "{}\n", ReplyText(&reply))?;
-    let left = replies.strip_prefix(text.as_str());
-    case.check(left.is_some(), line);
-    Ok(left.unwrap_or(replies))
+    told.push_str(text.as_str())?;
+    Ok(())
+}
+
+/// What a line asks.
+fn request_of(case: &Case, line: &str) -> io::Result<((Moment, Caller), Request)> {
+    match parse_line(case.alloc(), line.as_bytes()).map_err(error_of)? {
+        Line::Step(
+            Step::Request {
+                moment,
+                caller,
+                request,
+            },
+        ) => Ok(((moment, caller), request)),
+        _ => Err(io::Error::from(ErrorKind::InvalidData)),
+    }
 }
 
 /// The reply to a request, which is given again where there was no memory.
