@@ -10,25 +10,16 @@ use crate::fault::Fault;
 use crate::serving::serve_at;
 use s4_run::RunFault;
 use std::io::{Read, Write};
-use std::net::{Net, TcpListener, TcpStream};
 use std::rt::Files;
-use std::sync::Wait;
-use std::thread::Threads;
-use std::time::Clock;
 
 /// Does what the command asks for, from the input to the output. Files, sockets, threads and the clock
 /// are those of `system`.
-pub fn obey<
-    S: Files
-        + Net<Listener = TcpListener, Stream = TcpStream>
-        + Threads
-        + Wait
-        + Clock
-        + Sync
-        + AllocGlobal,
-    R: Read + Drop,
-    W: Write,
->(system: &S, command: &Command, input: R, output: &mut W) -> Result<(), Fault>
+pub fn obey<R: Read + Drop, W: Write>(
+    system: &HostRuntime,
+    command: &Command,
+    input: R,
+    output: &mut W,
+) -> Result<(), Fault>
     ensures shown { OnOk result (IsObeyed command.now (W.contents output.old) (W.contents output.new)) }
 {
     match command {

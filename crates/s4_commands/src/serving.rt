@@ -28,16 +28,7 @@ pub struct Service {
 
 /// Serves at the address of the service. Logins are read, and it is looked for the file that ends it,
 /// before it listens.
-pub fn serve_at<
-    R: Files
-        + Net<Listener = TcpListener, Stream = TcpStream>
-        + Threads
-        + Wait
-        + Clock
-        + Sync
-        + AllocGlobal,
-    W: Write,
->(rt: &R, service: &Service, output: &mut W) -> Result<(), Fault>
+pub fn serve_at<W: Write>(rt: &HostRuntime, service: &Service, output: &mut W) -> Result<(), Fault>
     ensures told { OnOk result (TellsService (string_bytes service.now.address) (W.contents output.old) (W.contents output.new)) }
 {
     let until = service.until.as_ref().map(|path| path.as_str());

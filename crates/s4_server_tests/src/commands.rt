@@ -154,16 +154,12 @@ fn is_outcome(
 }
 
 /// Obeys the command.
-pub fn obeyed<
-    S: Files
-        + Net<Listener = TcpListener, Stream = TcpStream>
-        + Threads
-        + Wait
-        + Clock
-        + Sync
-        + AllocGlobal,
-    W: Write,
->(system: &S, command: &Command, input: &str, output: &mut W) -> Result<(), Fault> {
+pub fn obeyed<W: Write>(
+    system: &HostRuntime,
+    command: &Command,
+    input: &str,
+    output: &mut W,
+) -> Result<(), Fault> {
     obey(system, command, input.as_bytes(), output)
 }
 

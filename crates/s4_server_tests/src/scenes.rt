@@ -8,8 +8,6 @@ use std::alloc::Global;
 use std::io::{Error, ErrorKind, Read, Write};
 use std::net::{Net, Shutdown, TcpListener, TcpStream};
 use std::rt::Files;
-use std::sync::Wait;
-use std::thread::Threads;
 use std::time::{Clock, Duration};
 use std::{fs, io, thread};
 
@@ -70,15 +68,7 @@ pub struct Heard {
 
 /// Has the peers of a scene do what they do. The server is to end once there is a file with the path
 /// `end`.
-pub fn play<
-    R: Files
-        + Net<Listener = TcpListener, Stream = TcpStream>
-        + Threads
-        + Wait
-        + Clock
-        + Sync
-        + AllocGlobal,
->(rt: &R, scene: &Scene, end: &str) -> io::Result<Heard> {
+pub fn play(rt: &HostRuntime, scene: &Scene, end: &str) -> io::Result<Heard> {
     let alloc = rt.alloc();
     match scene {
         Scene::Say(peers) => say_all(rt, alloc, peers),
@@ -113,15 +103,7 @@ fn say_all<R: Net<Listener = TcpListener, Stream = TcpStream>>(
 }
 
 /// What peers are told who call one after the other.
-fn call_all<
-    R: Files
-        + Net<Listener = TcpListener, Stream = TcpStream>
-        + Threads
-        + Wait
-        + Clock
-        + Sync
-        + AllocGlobal,
->(rt: &R, calls: &[([u8; 16], &str)]) -> io::Result<Heard> {
+fn call_all(rt: &HostRuntime, calls: &[([u8; 16], &str)]) -> io::Result<Heard> {
     let mut sent = Vec::new(rt.alloc());
     for (secret, asked) in calls {
         sent.push(call(rt, *secret, asked)?)?;
@@ -150,15 +132,7 @@ fn connect<R: Net<Listener = TcpListener, Stream = TcpStream>>(rt: &R) -> io::Re
 
 /// What principal 7 is told as client 1 who asks for what the words of this line spell: the text of
 /// the reply, or the line of the fault.
-fn call<
-    R: Files
-        + Net<Listener = TcpListener, Stream = TcpStream>
-        + Threads
-        + Wait
-        + Clock
-        + Sync
-        + AllocGlobal,
->(rt: &R, secret: [u8; 16], asked: &str) -> io::Result<Vec<u8>> {
+fn call(rt: &HostRuntime, secret: [u8; 16], asked: &str) -> io::Result<Vec<u8>> {
     let alloc = rt.alloc();
     let call = call_for(alloc, ADDRESS, secret, asked);
     let command = Command::Call(call.map_err(|_| Error::from(ErrorKind::InvalidInput))?);

@@ -320,15 +320,12 @@ struct Told {
 }
 
 /// Serves, and has the peers do beside what they do in the scene.
-fn serve_beside<
-    R: Files
-        + Net<Listener = TcpListener, Stream = TcpStream>
-        + Threads
-        + Wait
-        + Clock
-        + Sync
-        + AllocGlobal,
->(rt: &R, service: &Service, logins: &Logins, scene: &Scene) -> Result<Told, &'static str> {
+fn serve_beside(
+    rt: &HostRuntime,
+    service: &Service,
+    logins: &Logins,
+    scene: &Scene,
+) -> Result<Told, &'static str> {
     let listener = listen(rt).ok_or("the port can't be had")?;
     let (served, heard) = thread::join(
         rt,

@@ -9,10 +9,7 @@ use s4_commands::{Command, Fault};
 use s4_server::{Stopwatch, Ticks};
 use std::io::{Error, ErrorKind, Read, Write};
 use std::net::{Net, TcpListener, TcpStream};
-use std::rt::Files;
-use std::sync::Wait;
 use std::test::Fail;
-use std::thread::Threads;
 use std::time::{Clock, Duration, Instant};
 use std::{fs, io, process, thread};
 
@@ -63,15 +60,7 @@ fn heard_late<R: Net<Listener = TcpListener, Stream = TcpStream> + Clock + Alloc
 }
 
 /// What the command writes.
-fn told<
-    R: Files
-        + Net<Listener = TcpListener, Stream = TcpStream>
-        + Threads
-        + Wait
-        + Clock
-        + Sync
-        + AllocGlobal,
->(rt: &R, command: &Command) -> Result<Vec<u8>, Fault> {
+fn told(rt: &HostRuntime, command: &Command) -> Result<Vec<u8>, Fault> {
     let mut told = Vec::new(rt.alloc());
     obeyed(rt, command, "", &mut told)?;
     Ok(told)

@@ -9,12 +9,7 @@ use s4_commands::{Command, Fault, FaultText, obey};
 use s4_run::RunFault;
 use std::io;
 use std::io::BufWriter;
-use std::net::{Net, TcpListener, TcpStream};
 use std::process::ExitCode;
-use std::rt::Files;
-use std::sync::Wait;
-use std::thread::Threads;
-use std::time::Clock;
 
 fn main(rt: HostRuntime) -> ExitCode {
     let outcome = s4_command_line::given(&rt, &rt).and_then(|command| answer(&rt, &command));
@@ -36,17 +31,7 @@ fn ended<R: Eprint>(rt: &R, outcome: &Result<(), Fault>) -> ExitCode
 }
 
 /// Does what the command asks for, from standard input to standard output.
-fn answer<
-    R: Files
-        + Net<Listener = TcpListener, Stream = TcpStream>
-        + Threads
-        + Wait
-        + Clock
-        + Sync
-        + Input
-        + Print
-        + AllocGlobal,
->(rt: &R, command: &Command) -> Result<(), Fault> {
+fn answer(rt: &HostRuntime, command: &Command) -> Result<(), Fault> {
     match BufWriter::new(rt.alloc(), io::writer(rt)) {
         Ok(mut output) => obey(rt, command, rt.reader(), &mut output),
         Err(error) => Err(Fault::Run(RunFault::writing(error))),
