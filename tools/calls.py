@@ -4,6 +4,7 @@ import re
 from concurrent.futures import ThreadPoolExecutor
 from dataclasses import dataclass, field
 
+from tools.growth import faults_of_growth
 from tools.refusing import NONE, Program, Refusal
 
 # What the program says of a case, and of all that it carried out.
@@ -13,6 +14,11 @@ MARKS = (b"the call begins\n", b"the call ends\n")
 # A case in which just so many refusals have to be told by replies as another case's calls ask for allocations: a hall, whose drive steps
 # through the same requests.
 REPLIES = {"arrive": "step_arena_three_calls_at_five"}
+# A case whose calls ask for just so many allocations as another's: a SetWindow asks for nothing more where the cells hold values. Both may
+# ask for none.
+ALLOCATIONS = {"set_window_over_values": "set_window_over_none"}
+# Cases of many calls, of which it is measured too that in all they ask for no more memory than a small multiple of what is held.
+MEASURED = ("serve_many",)
 
 
 class Calling(Program):
@@ -21,8 +27,8 @@ class Calling(Program):
     def environment(self, tells, words):
         return super().environment(tells, words | {"REFUSE_MARKS": "1"})
 
-    def call(self, name, refusal=NONE):
-        return self.run([name], os.devnull, refusal)
+    def call(self, name, refusal=NONE, measures=False):
+        return self.run([name], os.devnull, refusal, measures)
 
     def names(self):
         """The names of all cases; none where the program says something else with ample memory."""
@@ -82,8 +88,10 @@ class Caller:
         ample, called = self.program.call(name), Called(name)
         called.calls, called.allocations = ample.told.get("calls_ended", 0), ample.told.get("allocations", 0)
         self.told(called, "with ample memory", ample)
-        if not called.allocations:
+        if not called.allocations and name not in [*ALLOCATIONS, *ALLOCATIONS.values()]:
             called.wrong.append(f"{name}: its calls ask for no memory")
+        if name in MEASURED:
+            called.wrong += faults_of_growth(name, self.program.call(name, measures=True))
         if all([self.refuse(called, *it) for it in self.runs(name, called.allocations, 1)]):
             while called.met < 2 * called.allocations and self.refuse(called, *self.ran(name, Refusal(called.met + 1))):
                 pass
@@ -133,4 +141,7 @@ def sweep_all(program, jobs):
     for name, other in REPLIES.items():
         if name in found and (other not in found or found[name].replies != found[other].allocations):
             found[name].wrong.append(f"{name}: {found[name].replies} refusals are told by a reply, and not as many as {other} has allocations")
+    for name, other in ALLOCATIONS.items():
+        if name in found and (other not in found or found[name].allocations != found[other].allocations):
+            found[name].wrong.append(f"{name}: its calls make {found[name].allocations} allocations, and not the number of those of {other}")
     return list(found.values())

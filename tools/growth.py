@@ -73,19 +73,25 @@ KINDS = [
 ]
 
 
+def faults_of_growth(name, ran, gives_back=False):
+    """What isn't as it should be of the memory that a run asked for."""
+    asked, most, beyond = (ran.told.get(it, 0) for it in ("asked", "most_held", "most_beyond_twice"))
+    faults = []
+    if asked > TIMES * most and not gives_back:
+        faults.append(f"{name}: {asked} bytes are asked for in all, and at most {most} held")
+    if beyond > 2 * ITEM:
+        faults.append(f"{name}: what has {ran.told['most_beyond_twice_of']} bytes asks for twice as many and {beyond} more")
+    return faults
+
+
 def faults_of(kind, count, ran):
     """What isn't as it should be in a run of so many requests."""
-    asked, most, beyond = (ran.told.get(it, 0) for it in ("asked", "most_held", "most_beyond_twice"))
+    name, most = f"growth, {count} of {kind}", ran.told.get("most_held", 0)
     if (ran.status, ran.errors) != (0, b"") or not most:
-        return [f"growth, {count} of {kind}: status {ran.status}, {ran.errors.decode(errors='replace')!r}, and {most} bytes held"]
-    faults = []
-    if not ran.output.splitlines()[-1].startswith(kind.reply):
-        faults.append(f"growth, {count} of {kind}: the last reply is {ran.output.splitlines()[-1]!r}")
-    if asked > TIMES * most and not kind.gives_back:
-        faults.append(f"growth, {count} of {kind}: {asked} bytes are asked for in all, and at most {most} held")
-    if beyond > 2 * ITEM:
-        faults.append(f"growth, {count} of {kind}: what has {ran.told['most_beyond_twice_of']} bytes asks for twice as many and {beyond} more")
-    return faults
+        return [f"{name}: status {ran.status}, {ran.errors.decode(errors='replace')!r}, and {most} bytes held"]
+    last = ran.output.splitlines()[-1]
+    faults = [] if last.startswith(kind.reply) else [f"{name}: the last reply is {last!r}"]
+    return faults + faults_of_growth(name, ran, kind.gives_back)
 
 
 def grown(program, kind):

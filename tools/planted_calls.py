@@ -5,19 +5,23 @@ from tools.calls import Calling, sweep_all
 from tools.planted_refusals import compiled_to
 
 # What is planted, by its number in wrong_calls.c: a word of what has to be said of it, and how often, of the three refusals alone and three in
-# pairs of both cases. Nothing is wrong with the first.
+# pairs of all five cases. Nothing is wrong with the first.
 PLANTS = {
     "nothing": ("", 0),
-    "a refusal that no call tells": ("no call tells it", 6),
-    "a change where there was no memory": ("it says", 12),
-    "a crash": ("ended by signal 6", 12),
-    "an end": ("status 1", 12),
-    "a refusal that is told twice": ("refusals were met, and", 12),
-    "a call without an end": ("begin and end in turn", 12),
-    "fewer allocations where some are refused": ("2 refusals fell into its calls, which make 3", 2),
-    "calls that ask for no memory": ("ask for no memory", 2),
+    "a refusal that no call tells": ("no call tells it", 15),
+    "a change where there was no memory": ("it says", 30),
+    "a crash": ("ended by signal 6", 30),
+    "an end": ("status 1", 30),
+    "a refusal that is told twice": ("refusals were met, and", 30),
+    "a call without an end": ("begin and end in turn", 30),
+    "fewer allocations where some are refused": ("2 refusals fell into its calls, which make 3", 5),
+    # (the SetWindows may)
+    "calls that ask for no memory": ("ask for no memory", 3),
     "a reply in whose place there is an error": ("and not as many as", 1),
     "a fault with ample memory": ("with ample memory", 1),
+    "memory for one more at a time": ("are asked for in all", 1),
+    "memory for four times as many": ("asks for twice as many", 1),
+    "room for refunds at a SetWindow": ("and not the number of those of set_window_over_none", 1),
 }
 
 

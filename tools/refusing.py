@@ -49,10 +49,6 @@ class Ran:
         """How many allocations each thread asked for."""
         return {int(name[7:]): count for name, count in self.told.items() if name.startswith("thread_")}
 
-    def threads_made(self):
-        """How many threads were made beside the first."""
-        return len(self.by_thread()) - 1 - self.told.get("threads_not_made", 0)
-
     def met_none(self):
         """Whether the library told that nothing was refused. It tells nothing of a run that a signal ended."""
         return self.told.get("refusals") == 0

@@ -70,21 +70,13 @@ STEPS = [
 CALLERS = {0: 8, 1: 7, 2: 0} | dict.fromkeys(AUDITORS, 0)
 
 
-# How many threads a server of one worker makes.
-THREADS = 2
-# What isn't as docs/OPERATIONS.md says, and is known: these runs don't count as wrong.
-NO_THREAD = "where a thread can't be made nobody is served, and nothing is told"
-NO_WATCH = "want of memory for a worker's watch is told as `cannot listen`"
+# What is known, and told in docs/OPERATIONS.md and docs/LIMITS.md: these runs don't count as wrong.
 TOLD_TO_LISTEN = "it tells that it listens, and then that there is no memory"
-KNOWN = (NO_THREAD, NO_WATCH, TOLD_TO_LISTEN)
+KNOWN = (TOLD_TO_LISTEN,)
 
 
 def known(heard, ran, listens):
-    """Which known thing it is that isn't right, or none."""
-    if ran.met() and listens and ran.status < 0 and ran.threads_made() < THREADS:
-        return NO_THREAD
-    if ran.met() and not listens and not ran.output and (ran.status, ran.errors) == (1, b"s4d: cannot listen\n"):
-        return NO_WATCH
+    """Which known thing it is, or none."""
     if ran.met() and listens and not any(it.reply for it in heard.asked) and (ran.status, ran.errors) == (1, ENDED):
         return TOLD_TO_LISTEN
     return None

@@ -27,7 +27,7 @@ THEOREMS = [
 
 IMPORTED = re.compile(r"\s*(?:ghost )?use Rattle\.([\w.]+)\.\{(.*)\};?\s*$")
 RENAMED = re.compile(r"\s*(?:ghost )?use Rattle\.([\w.]+?)(?: as (\w+))?;?\s*$")
-HEAD = re.compile(r"(?:abbrev )?(?:pub )?(?:record |abbrev )?([^\s:()]+)")
+HEAD = re.compile(r"(?:abbrev )?(?:pub )?(?:record |data |abbrev )?([^\s:()]+)")
 WORD = re.compile(r"[A-Za-z_◌][\w.'◌&>]*|>>=|>>|&")
 SIGNS = {">>=": "◌>>=◌", ">>": "◌>>◌", "&": "◌&◌"}
 VALUE = re.compile(r"\s*ghost (?:Value|view) = \{.*")

@@ -1,14 +1,15 @@
 // A small program in the place of s4_refusal_tests, in which mistakes are planted that show only where an allocation is refused. It is
-// compiled for each mistake by -DMISTAKE=K. Each of its two cases makes three calls, each of which takes a block of its own.
+// compiled for each mistake by -DMISTAKE=K. Each of its five cases makes three calls, each of which takes a block of its own.
 #include <stdio.h>
 #include <stdlib.h>
 #include <string.h>
 #include <unistd.h>
 
-enum { NONE, SWALLOWS, CHANGES_SOMETHING, CRASHES, ENDS, TELLS_TWICE, HAS_NO_END, ASKS_FOR_LESS, ASKS_FOR_NOTHING, TELLS_BY_AN_ERROR, FAILS_ANYWAY };
+enum { NONE, SWALLOWS, CHANGES_SOMETHING, CRASHES, ENDS, TELLS_TWICE, HAS_NO_END, ASKS_FOR_LESS, ASKS_FOR_NOTHING, TELLS_BY_AN_ERROR, FAILS_ANYWAY, GROWS_BY_ONE, GROWS_FOURFOLD, MAKES_ROOM_FOR_VALUES };
 
 #define CALLS 3
-static const char *const cases[] = {"step_arena_three_calls_at_five", "arrive"};
+#define CASES 5
+static const char *const cases[CASES] = {"step_arena_three_calls_at_five", "arrive", "serve_many", "set_window_over_none", "set_window_over_values"};
 
 static void mark(const char *text)
 {
@@ -16,23 +17,40 @@ static void mark(const char *text)
         abort();
 }
 
-// Whether a call gets its block.
-static int has_block(int call)
+// Whether a call of a case gets its block.
+static int has_block(const char *name, int call)
 {
     const char *from = getenv("REFUSE_FROM");
     if (MISTAKE == ASKS_FOR_NOTHING || (MISTAKE == ASKS_FOR_LESS && call == CALLS - 1 && from && strcmp(from, "0")))
         return 1;
+    if (MISTAKE == MAKES_ROOM_FOR_VALUES && !strcmp(name, "set_window_over_values") && !malloc(8))
+        return 0;
     return malloc(8) != NULL;
+}
+
+// Grows a vector to a thousand items, as a program does that keeps what it is asked.
+static void keep_a_thousand(void)
+{
+    size_t room = 1;
+    void *kept = malloc(room * 8);
+    while (kept && room < 1000) {
+        room = MISTAKE == GROWS_BY_ONE ? room + 1 : MISTAKE == GROWS_FOURFOLD ? 4 * room : 2 * room;
+        kept = realloc(kept, room * 8);
+    }
+    if (!kept)
+        abort();
 }
 
 // Carries out a case. Returns how much wasn't as it has to be.
 static int carry_out(const char *name)
 {
     int faults = MISTAKE == FAILS_ANYWAY, replies = 0, errors = 0;
+    if (!strcmp(name, "serve_many"))
+        keep_a_thousand();
     for (int call = 0; call < CALLS; call++) {
         int refused;
         mark("the call begins\n");
-        refused = !has_block(call);
+        refused = !has_block(name, call);
         if (!refused || MISTAKE != HAS_NO_END)
             mark("the call ends\n");
         if (!refused)
@@ -54,7 +72,7 @@ int main(int count, char **words)
     static char output[1 << 12];
     int carried_out = 0, wrong = 0;
     setvbuf(stdout, output, _IOFBF, sizeof output);
-    for (int it = 0; it < 2; it++)
+    for (int it = 0; it < CASES; it++)
         if (count < 2 || !strcmp(words[1], cases[it])) {
             carried_out++;
             wrong += carry_out(cases[it]);

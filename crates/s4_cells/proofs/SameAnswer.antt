@@ -10,7 +10,7 @@ use Rattle.s4_types.specs.Base.{Base, opened}
 use Rattle.s4_types.specs.Kinds.{is_wide}
 use Rattle.s4_types.specs.Answer.{answer}
 use Rattle.s4_types.specs.Play.{record_of}
-use Rattle.s4_state.specs.Log.{Log, base_of}
+use Rattle.s4_types.specs.Log.{Log, base_of}
 use Rattle.s4_cells.specs.Many.{Each, wide_record}
 
 pub same_answer : (base other : Base) (h g : List Record) (t u : ℕ) (caller : Caller) (request : Request) → is_wide caller request ≡ true → answer base h t caller request ≡ answer other g u caller request

@@ -5,7 +5,7 @@ use Rattle.s4_types.specs.declared.record.Record.{Record}
 use Rattle.s4_types.specs.declared.request.Request.{Request}
 use Rattle.s4_types.specs.Base.{opened}
 use Rattle.s4_types.specs.Play.{record_of}
-use Rattle.s4_state.specs.Log.{Log, with_record}
+use Rattle.s4_types.specs.Log.{Log, is_ready_for, with_record}
 
 -- the histories of the cells, in their order
 abbrev pub histories : List Log → List (List Record)
@@ -24,20 +24,22 @@ pub record AllAdd (r : Record) (old new : List Log) : Type 0 where
   pub count : length new ≡ length old
   pub each : (k : ℕ) (none : Log) → k < length old → slice_index_or new k none ≡ with_record (slice_index_or old k none) r
 
--- a log as it was, but that it may be ready or not
+-- a log as it was, but for what it is made ready for
 pub record Stays (old new : Log) : Type 0 where
-  pub window : new.window ≡ old.window
+  pub opened : new.opened ≡ old.opened
+  pub base : new.base ≡ old.base
   pub history : new.history ≡ old.history
   pub held : new.held ≡ old.held
 
--- the cells are as they were, each of them, but that some may be ready
+-- the cells are as they were, each of them, but for what they are made ready for
 pub record AllStay (old new : List Log) : Type 0 where
   pub count : length new ≡ length old
   pub each : (k : ℕ) (none : Log) → Stays (slice_index_or old k none) (slice_index_or new k none)
 
--- the first i cells are ready
-abbrev pub AreReady : ℕ → List Log → Type 0
-AreReady i cells = (k : ℕ) (none : Log) → k < i → k < length cells → (slice_index_or cells k none).ready ≡ true
+-- the first i cells are ready for the request
+abbrev pub AreReady : Request → ℕ → List Log → Type 0
+AreReady request i cells = (k : ℕ) (none : Log) → k < i → k < length cells
+    → is_ready_for (slice_index_or cells k none).ready request ≡ true
 
 -- the first i cells have the record more, and the others are as they were
 pub record FirstAdd (r : Record) (i : ℕ) (old new : List Log) : Type 0 where

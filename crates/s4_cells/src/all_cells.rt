@@ -5,7 +5,7 @@ ghost use Rattle.s4_types.specs.Answer.{answer as answer_of};
 ghost use Rattle.s4_types.specs.Kinds.{is_wide};
 ghost use Rattle.s4_types.specs.Limits.{is_within_limits};
 ghost use Rattle.s4_types.specs.Play.{last_of, is_no_memory};
-ghost use Rattle.s4_state.specs.Log.{base_of};
+ghost use Rattle.s4_types.specs.Log.{base_of};
 ghost use Rattle.s4_cells.specs.Many.{Each, AllAdd, AllStay, AreReady, wide_record};
 
 use crate::cell::Cell;
@@ -49,17 +49,17 @@ pub fn wide_with_copy(
     ensures refused { OnErr result (AllStay cells.old cells.new) }
     ensures limits { IfOk result (λ told. IsTrue (is_within_limits told.reply)) }
 {
-    make_ready(cells)?;
+    make_ready(cells, request)?;
     Ok(step_all(cells, moment, caller, request))
 }
 
-// Makes every cell ready, so that none is refused a growth once the first was stepped.
-fn make_ready(cells: &mut [Cell]) -> Result<(), NoMemory>
+// Makes every cell ready for the request, so that none is refused a growth once the first was stepped.
+fn make_ready(cells: &mut [Cell], request: &Request) -> Result<(), NoMemory>
     ensures stay { AllStay cells.old cells.new }
-    ensures ready { OnOk result (AreReady (length cells.new) cells.new) }
+    ensures ready { OnOk result (AreReady request.now (length cells.new) cells.new) }
 {
     for place in 0..cells.len() {
-        cells[place].ready()?;
+        cells[place].ready_for(request)?;
     }
     Ok(())
 }
@@ -67,7 +67,7 @@ fn make_ready(cells: &mut [Cell]) -> Result<(), NoMemory>
 // Adds the record to every cell, each of which is ready.
 fn step_all(cells: &mut [Cell], moment: Moment, caller: Caller, request: &Request) -> Answered
     requires some { 0 < length cells.old }
-    requires ready { AreReady (length cells.old) cells.old }
+    requires ready { AreReady request.now (length cells.old) cells.old }
     requires wide { is_wide caller request.now ≡ true }
     requires later { Each (λ c. last_of c.history ≤ moment) cells.old }
     ensures reply { result.reply ≡ (wide_record moment caller request.now).reply }

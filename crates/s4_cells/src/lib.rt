@@ -3,7 +3,9 @@
 
 mod all_cells;
 mod cell;
+mod measure;
 
 pub use all_cells::{wide, wide_with_copy};
 pub use cell::Cell;
+pub use measure::Measure;
 pub use s4_drive::Answered;

@@ -1,4 +1,4 @@
-//! A wide request, on two cells and on three.
+//! A wide request, on a few cells and on many, and at each moment.
 
 ghost use Rattle.std.specs.Prelude.{◌≤◌, ℕ};
 ghost use Rattle.s4_types.specs.Play.{last_of};
@@ -127,10 +127,25 @@ fn open_cells(alloc: Global, count: usize) -> Result<Vec<Cell>, AllocError> {
 }
 
 #[test]
-fn two_and_three_cells_are_asked_at_once(rt: HostRuntime) -> Result<(), Fail> {
-    for count in [2, 3] {
+fn all_cells_are_asked_at_once(rt: HostRuntime) -> Result<(), Fail> {
+    for count in [1, 2, 3, 8, 9, 16, 17] {
         let mut cells = open_cells(rt.alloc(), count)?;
         check_wide(&rt, rt.alloc(), &mut cells)?;
     }
     Ok(())
+}
+
+// Sets the window of all at each power of two, and at the last moment.
+fn check_moments(rt: &impl Abort, cells: &mut [Cell]) -> Result<(), Fail> {
+    let window = Request::SetWindow { ticks: 50 };
+    for power in 0..64u32 {
+        check_all(rt, cells, 1 << power, &window, power as usize)?;
+    }
+    check_all(rt, cells, u64::MAX, &window, 64)
+}
+
+#[test]
+fn all_cells_are_asked_at_each_moment(rt: HostRuntime) -> Result<(), Fail> {
+    let mut cells = open_cells(rt.alloc(), 2)?;
+    check_moments(&rt, &mut cells)
 }

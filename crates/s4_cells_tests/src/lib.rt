@@ -1,4 +1,4 @@
-//! Tests of cells: each call once, and a wide request on two and on three cells. What is proved stands
+//! Tests of cells: each call once, and a wide request on a few cells and on many. What is proved stands
 //! in `s4_cells`; here stands what no clause says: that memory that is there is enough.
 #![tactic(auto)]
 

@@ -156,3 +156,20 @@ fn a_cell_answers_and_keeps_its_records(rt: HostRuntime) -> Result<(), Fail> {
     let mut cell = Cell::open(rt.alloc(), 100)?;
     check_calls(&rt, rt.alloc(), &mut cell)
 }
+
+// Writes and reads at each power of two from 8 on, and at the last moment.
+fn check_moments(rt: &impl Abort, alloc: Global, cell: &mut Cell) -> Result<(), Fail> {
+    check_create(rt, cell, 5)?;
+    for power in 3..64u32 {
+        check_write(rt, alloc, cell, 1 << power, b"then")?;
+        check_read(rt, alloc, cell, 1 << power, b"then")?;
+    }
+    check_write(rt, alloc, cell, u64::MAX, b"last")?;
+    check_read(rt, alloc, cell, u64::MAX, b"last")
+}
+
+#[test]
+fn a_cell_answers_at_each_moment(rt: HostRuntime) -> Result<(), Fail> {
+    let mut cell = Cell::open(rt.alloc(), 100)?;
+    check_moments(&rt, rt.alloc(), &mut cell)
+}

@@ -4,12 +4,12 @@ use Rattle.std.specs.Io.KnownBytes.{Appends, Consumes}
 use Rattle.s4_types.specs.declared.request.Request.{Request}
 use Rattle.s4_codec.specs.Frames.{framed}
 use Rattle.s4_codec.specs.Requests as requests
-use Rattle.s4_session.specs.declared.hello.Hello.{Hello}
-use Rattle.s4_session.specs.declared.event.Fault.{Fault}
-use Rattle.s4_session.specs.Hello as hellos
+use Rattle.s4_stream.specs.declared.hello.Hello.{Hello}
+use Rattle.s4_stream.specs.declared.event.SessionFault.{SessionFault}
+use Rattle.s4_stream.specs.Hello as hellos
 use Rattle.s4_client.specs.declared.fault.CallFault.{CallFault}
 use Rattle.s4_client.specs.declared.fault.CallFault.TheVariants as fault
-use Rattle.s4_session.specs.Sent.{welcome, fault_frame}
+use Rattle.s4_stream.specs.Talk.{welcome, fault_frame}
 
 -- the frame of the Hello, and then that of the request
 abbrev pub message_of : Hello → Request → List ℕ
@@ -20,7 +20,7 @@ abbrev pub Begins : Option (List ℕ) → Option (List ℕ) → List ℕ → Typ
 Begins old new bytes = (n : ℕ) × Appends old new (take n bytes)
 
 -- What is read is the frame of the fault, or the Welcome and then that frame.
-abbrev pub HearsFault : Option (List ℕ) → Option (List ℕ) → Fault → Type 0
+abbrev pub HearsFault : Option (List ℕ) → Option (List ℕ) → SessionFault → Type 0
 HearsFault old new fault = Consumes old new (fault_frame fault) ⊎ Consumes old new (welcome ++ fault_frame fault)
 
 -- There is no reply, or not enough memory.

@@ -1,6 +1,6 @@
 -- What is told where a call has no reply.
 use Rattle.std.specs.Prelude.{ℕ, List, ◌++◌, codes, decimal}
-use Rattle.s4_session.specs.Sent.{fault_number}
+use Rattle.s4_stream.specs.Talk.{fault_number}
 use Rattle.s4_client.specs.declared.fault.CallFault.{CallFault}
 use Rattle.s4_client.specs.declared.fault.CallFault.TheVariants as fault
 

@@ -4,7 +4,7 @@ ghost use Rattle.std.specs.Prelude.{◌≡◌, Some};
 ghost use Rattle.s4_client.specs.Texts.{call_fault_text};
 ghost use Rattle.s4_client.specs.declared.fault.CallFault.TheVariants as fault;
 
-use s4_session::Fault;
+use s4_stream::SessionFault;
 use std::alloc::{AllocError, AllocFailed};
 use std::fmt;
 use thiserror::Error;
@@ -19,7 +19,7 @@ pub enum CallFault {
     /// The connection failed or ended before the reply, or gave no spelling of one.
     ConnectionLost,
     /// The session told this fault.
-    Session(Fault),
+    Session(SessionFault),
     /// There isn't enough memory.
     NoMemory,
 }

@@ -4,14 +4,14 @@ ghost use Rattle.std.specs.Prelude.{◌≡◌, ◌≤◌, ◌++◌, ◌∷◌, [
 ghost use Rattle.std.specs.Io.KnownBytes.{Appends, Consumes, Keeps};
 ghost use Rattle.byteorder.specs.Endian.{big_bytes};
 ghost use Rattle.s4_codec.specs.Frames.{framed};
-ghost use Rattle.s4_session.specs.declared.event.Fault as faults;
-ghost use Rattle.s4_session.specs.Sent.{welcome, reply_frame, fault_frame, fault_number};
+ghost use Rattle.s4_stream.specs.declared.event.SessionFault as faults;
+ghost use Rattle.s4_stream.specs.Talk.{welcome, reply_frame, fault_frame, fault_number};
 ghost use Rattle.s4_client.specs.Calls.{Begins, HearsFault, IsLoss, IsMet};
 ghost use Rattle.s4_client.specs.declared.fault.CallFault.TheVariants as fault;
 
 use crate::fault::CallFault;
 use s4_codec::{FRAME_LIMIT, ReadError, read_reply};
-use s4_session::{FAULT, Fault, VERSION, WELCOME};
+use s4_stream::{FAULT, SessionFault, VERSION, WELCOME};
 use s4_types::Reply;
 use std::alloc::Global;
 use std::io::{ErrorKind, Read, Write};
@@ -31,7 +31,7 @@ pub fn call<R: Read, W: Write>(
     ensures all_sent { OnOk result (Appends (W.contents writer.old) (W.contents writer.new) message.now) }
     // The bytes that were heard are the Welcome and the frame of the reply, or end by the frame of the fault.
     ensures reply { IfOk result (λ reply. Consumes (R.remaining reader.old) (R.remaining reader.new) (welcome ++ reply_frame reply)) }
-    ensures fault { (f : faults.Fault) → IsErrOf result (fault.Session f) → HearsFault (R.remaining reader.old) (R.remaining reader.new) f }
+    ensures fault { (f : faults.SessionFault) → IsErrOf result (fault.Session f) → HearsFault (R.remaining reader.old) (R.remaining reader.new) f }
     ensures met { IfErr result IsMet }
 {
     send(writer, message)?;
@@ -76,7 +76,7 @@ fn send_some<W: Write>(writer: &mut W, bytes: &[u8]) -> Result<usize, CallFault>
 /// Hears the Welcome.
 fn hear_welcome<R: Read>(alloc: Global, reader: &mut R) -> Result<(), CallFault>
     ensures welcome { OnOk result (Consumes (R.remaining reader.old) (R.remaining reader.new) welcome) }
-    ensures fault { (f : faults.Fault) → IsErrOf result (fault.Session f)
+    ensures fault { (f : faults.SessionFault) → IsErrOf result (fault.Session f)
         → Consumes (R.remaining reader.old) (R.remaining reader.new) (fault_frame f) }
     ensures met { IfErr result IsMet }
 {
@@ -90,7 +90,7 @@ fn hear_welcome<R: Read>(alloc: Global, reader: &mut R) -> Result<(), CallFault>
 /// Hears the reply.
 fn hear_reply<R: Read>(alloc: Global, reader: &mut R) -> Result<Reply, CallFault>
     ensures reply { IfOk result (λ reply. Consumes (R.remaining reader.old) (R.remaining reader.new) (reply_frame reply)) }
-    ensures fault { (f : faults.Fault) → IsErrOf result (fault.Session f)
+    ensures fault { (f : faults.SessionFault) → IsErrOf result (fault.Session f)
         → Consumes (R.remaining reader.old) (R.remaining reader.new) (fault_frame f) }
     ensures met { IfErr result IsMet }
 {
@@ -158,13 +158,13 @@ fn fill<R: Read>(reader: &mut R, bytes: &mut [u8]) -> Result<(), CallFault>
 
 /// The fault that a body tells; the connection is lost where it tells none.
 fn fault_in(body: &[u8]) -> CallFault
-    ensures fault { (f : faults.Fault) → result ≡ fault.Session f → body.now ≡ 17 ∷ fault_number f ∷ [] }
+    ensures fault { (f : faults.SessionFault) → result ≡ fault.Session f → body.now ≡ 17 ∷ fault_number f ∷ [] }
     ensures met { IsMet result }
 {
     match body {
-        [FAULT, 1] => CallFault::Session(Fault::Malformed),
-        [FAULT, 2] => CallFault::Session(Fault::BadLogin),
-        [FAULT, 3] => CallFault::Session(Fault::FrameLength),
+        [FAULT, 1] => CallFault::Session(SessionFault::Malformed),
+        [FAULT, 2] => CallFault::Session(SessionFault::BadLogin),
+        [FAULT, 3] => CallFault::Session(SessionFault::FrameLength),
         _ => CallFault::ConnectionLost,
     }
 }

@@ -4,14 +4,15 @@ ghost use Rattle.std.specs.Prelude.{◌≡◌, ◌<◌, ◌≤◌, ◌++◌, ◌
 ghost use Rattle.byteorder.specs.Endian.{big_bytes};
 ghost use Rattle.s4_codec.specs.Frames.{frame_limit, framed};
 ghost use Rattle.s4_codec.specs.Requests.{IsRequestBody};
-ghost use Rattle.s4_session.specs.Hello as format;
+ghost use Rattle.s4_stream.specs.Hello as format;
 ghost use Rattle.s4_client.specs.Calls.{message_of};
 ghost use Rattle.s4_client.specs.declared.fault.CallFault.TheVariants as fault;
 
 use crate::fault::CallFault;
 use byteorder::{BigEndian, ByteOrder};
-use s4_codec::{WriteError, write_frame, write_request};
-use s4_session::{Hello, VERSION};
+use bytes::BytesMut;
+use s4_codec::{WriteError, write_request};
+use s4_stream::{Hello, VERSION, add_frame};
 use s4_types::{NoMemory, Request};
 use std::alloc::Global;
 
@@ -39,10 +40,10 @@ fn framed(alloc: Global, hello: &Hello, body: &[u8]) -> Result<Vec<u8>, NoMemory
     requires limit { length body.now ≤ frame_limit }
     ensures { IfOk result (λ message. message.items ≡ framed (format.hello.spell hello.now) ++ framed body.now) }
 {
-    let mut message = Vec::new(alloc);
-    write_frame(&mut message, write_hello(alloc, hello)?.as_slice())?;
-    write_frame(&mut message, body)?;
-    Ok(message)
+    let mut message = BytesMut::new(alloc);
+    add_frame(&mut message, write_hello(alloc, hello)?.as_slice())?;
+    add_frame(&mut message, body)?;
+    Ok(message.into_vec()?)
 }
 
 /// The body that spells a Hello, 26 bytes.

@@ -1,12 +1,10 @@
 //! Frames.
 
-ghost use Rattle.std.specs.Prelude.{◌≡◌, ◌<◌, ◌≤◌, ◌++◌, length, OnOk};
-ghost use Rattle.s4_codec.specs.Frames.{frame_limit, framed, front_of};
+ghost use Rattle.std.specs.Prelude.{◌≡◌};
+ghost use Rattle.s4_codec.specs.Frames.{front_of};
 ghost use Rattle.s4_codec.specs.Fronts.{lists_of};
 
-use crate::write_parts::write_u32;
 use byteorder::{BigEndian, ByteOrder};
-use std::alloc::AllocError;
 
 /// The most bytes that the body of a request or a reply has, 8192.
 pub const FRAME_LIMIT: usize = 8192;
@@ -39,14 +37,4 @@ pub fn read_frame(limit: usize, bytes: &[u8]) -> Front
     }
     let (body, rest) = rest.split_at(length);
     Front::Whole { body, rest }
-}
-
-/// Adds the frame of a body to bytes. A body has a byte at least, since no frame is empty.
-pub fn write_frame(out: &mut Vec<u8>, body: &[u8]) -> Result<(), AllocError>
-    requires some { 0 < length body.now }
-    requires limit { length body.now ≤ frame_limit }
-    ensures { OnOk result (out.new.items ≡ out.old.items ++ framed body.now) }
-{
-    write_u32(out, body.len() as u32)?;
-    out.extend_from_slice(body)
 }

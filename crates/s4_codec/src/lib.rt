@@ -15,7 +15,7 @@ mod write_replies;
 mod write_requests;
 
 pub use error::{ReadError, WriteError};
-pub use frames::{FRAME_LIMIT, Front, read_frame, write_frame};
+pub use frames::{FRAME_LIMIT, Front, read_frame};
 pub use input::Input;
 pub use laws::{
     framed_bodies_are_read_back, no_spelling_begins_another, read_values_are_spelled,

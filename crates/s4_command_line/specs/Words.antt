@@ -1,15 +1,11 @@
 -- What the words of the command line spell.
-use Rattle.std.specs.Prelude.{◌≡◌, ◌≢◌, ℕ, Option, Some, List, [], codes, string_bytes, unwrap_or, bytes_eq, if◌then◌else◌}
+use Rattle.std.specs.Prelude.{◌≡◌, ◌≢◌, ◌==◌, ℕ, Bool, false, ◌∷◌, Option, Some, List, [], codes, string_bytes, unwrap_or, bytes_eq, if◌then◌else◌}
 use Rattle.clap.specs.Matches.{first_value}
 use Rattle.clap.specs.declared.parser.matches.Found.{Found}
-use Rattle.s4_client.specs.declared.fault.CallFault.{CallFault}
-use Rattle.s4_client.specs.declared.fault.CallFault.TheVariants as call_fault
-use Rattle.s4_commands.specs.declared.command.Command.{Command}
-use Rattle.s4_commands.specs.declared.command.Command.TheVariants as command
-use Rattle.s4_script.specs.declared.error.ParseError.{ParseError}
-use Rattle.s4_script.specs.declared.error.ParseError.TheVariants as parse_error
-use Rattle.s4_session.specs.LoginText.{principal_in, secret_in}
-use Rattle.s4_session.specs.declared.hello.Hello.{Hello}
+use Rattle.s4_command.specs.declared.command.Command.{Command}
+use Rattle.s4_command.specs.declared.command.Command.TheVariants as command
+use Rattle.s4_stream.specs.LoginText.{principal_in, secret_in}
+use Rattle.s4_stream.specs.declared.hello.Hello.{Hello}
 
 -- the word of the command line that has this name, or no bytes
 abbrev pub word_of : Found → List ℕ → List ℕ
@@ -19,11 +15,16 @@ word_of found name = unwrap_or (first_value found name) []
 abbrev pub client_in : List ℕ → Option ℕ
 client_in word = if bytes_eq word (codes "4294967295") then Some 4294967295 else principal_in word
 
--- it is the Hello that the words of the command line spell
+-- whether a word names a file, which has what stands in its place: it begins with an @
+abbrev pub names_file : List ℕ → Bool
+names_file [] = false
+names_file (first ∷ rest) = first == 64
+
+-- it is the Hello that the words of the command line spell; of the secret in a file nothing is said
 pub record IsHelloOf (found : Found) (hello : Hello) : Type 0 where
   pub who : principal_in (word_of found (codes "WHO")) ≡ Some hello.caller.who
   pub client : client_in (word_of found (codes "CLIENT")) ≡ Some hello.caller.client
-  pub secret : secret_in (word_of found (codes "SECRET")) ≡ Some hello.secret
+  pub secret : names_file (word_of found (codes "SECRET")) ≡ false → secret_in (word_of found (codes "SECRET")) ≡ Some hello.secret
 
 -- a script is to be struck for a principal other than the administrator
 abbrev pub IsForTenant : Command → Type 0
@@ -34,8 +35,3 @@ IsForTenant other = ⊥
 abbrev pub IsCallOf : Found → Command → Type 0
 IsCallOf found (command.Call call) = (string_bytes call.address ≡ word_of found (codes "ADDRESS")) × IsHelloOf found call.hello
 IsCallOf found other = ⊥
-
--- the fault of words that spell no request
-abbrev pub fault_of_request : ParseError → CallFault
-fault_of_request parse_error.Bad = call_fault.BadRequest
-fault_of_request parse_error.NoMemory = call_fault.NoMemory

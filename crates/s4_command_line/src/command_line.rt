@@ -5,67 +5,71 @@ ghost use Rattle.clap.specs.Matches.{found_of};
 ghost use Rattle.std.specs.IoError.{error_kind};
 ghost use Rattle.std.specs.declared.io.ErrorKind.TheVariants as io_kind;
 ghost use Rattle.clap.specs.Values.{kind_of};
-ghost use Rattle.s4_session.specs.LoginText.{principal_in};
-ghost use Rattle.s4_commands.specs.Faults.{IsFaultOf};
-ghost use Rattle.s4_commands.specs.declared.fault.Fault.TheVariants as fault;
-ghost use Rattle.s4_run.specs.declared.fault.RunFault.TheVariants as run_fault;
-ghost use Rattle.s4_command_line.specs.Words.{IsCallOf, IsForTenant, IsHelloOf, client_in, fault_of_request, word_of};
+ghost use Rattle.s4_stream.specs.LoginText.{principal_in};
+ghost use Rattle.s4_command.specs.Faults.{IsFaultOf};
+ghost use Rattle.s4_command.specs.declared.fault.WordsFault.TheVariants as fault;
+ghost use Rattle.s4_command_line.specs.Words.{IsCallOf, IsForTenant, IsHelloOf, client_in, word_of};
 
+use crate::meaning::{all_meant, secret_of};
 use crate::parser::{
-    ADDRESS, CELLS, CLIENT, CONNECTIONS, IDLE, LOGINS, OPEN, SECRET, WHO, WINDOW, WORD, WORKERS,
-    parser,
+    ADDRESS, CELLS, CLIENT, CONNECTIONS, FIRST, HELLO, IDLE, LOGINS, OPEN, RELOAD, SECRET, SETUP,
+    STATUS, UNTIL, WAIT, WHO, WINDOW, WORD, WORKERS, parser,
 };
 use clap::error::ErrorKind;
 use clap::{ArgMatches, Error};
-use s4_client::CallFault;
-use s4_commands::{Call, Command, Fault, Service};
-use s4_run::RunFault;
-use s4_script::{ParseError, parse_number, parse_principal, parse_request};
-use s4_server::Settings;
-use s4_session::{Hello, principal_in, secret_in};
+use s4_command::{Call, Command, Patience, Service, Settings, WordsFault};
+use s4_script::{parse_number, parse_principal, parse_request};
+use s4_stream::{Hello, principal_in};
 use s4_types::{Caller, Principal, Request};
 use std::alloc::Global;
-use std::rt::Env;
+use std::rt::{Env, Files};
 use std::{env, io};
 
-/// The command that the program's arguments spell.
-pub fn given<R: Env + AllocGlobal>(rt: &R) -> Result<Command, Fault> {
+/// The greatest moment at the start of a server. Those behind it are for more than 292 million years.
+const LAST_FIRST: u64 = 9223372036854775807;
+
+/// The command that the program's arguments spell. Files that these name are read.
+pub fn given<E: Env + AllocGlobal, R: Files + AllocGlobal>(
+    env: &E,
+    rt: &R,
+) -> Result<Command, WordsFault> {
     let alloc = rt.alloc();
-    let words: Vec<String> = match env::args(rt) {
+    let words: Vec<String> = match env::args(env) {
         Ok(arguments) => arguments.collect(alloc)?,
         Err(error) => return Err(unread(alloc, &error)),
     };
-    parse(alloc, &words)
+    parse(rt, &words)
 }
 
 /// The command that the words spell, of which the first is the program's name.
-pub fn parse(alloc: Global, words: &[String]) -> Result<Command, Fault> {
-    match parser(alloc)?.try_get_matches_from(words) {
-        Ok(matches) => chosen(alloc, &matches),
-        Err(error) => told(alloc, &error),
+pub fn parse<R: Files + AllocGlobal>(rt: &R, words: &[String]) -> Result<Command, WordsFault> {
+    match parser(rt.alloc())?.try_get_matches_from(words) {
+        Ok(matches) => chosen(rt, &matches),
+        Err(error) => told(rt.alloc(), &error),
     }
 }
 
-fn chosen(alloc: Global, matches: &ArgMatches) -> Result<Command, Fault> {
+fn chosen<R: Files + AllocGlobal>(rt: &R, matches: &ArgMatches) -> Result<Command, WordsFault> {
+    let alloc = rt.alloc();
     match matches.subcommand() {
         Some(("run", _)) => Ok(Command::Run),
         Some(("hall", words)) => hall(alloc, words.get_str(LOGINS)),
         Some(("strike", words)) => strike(alloc, words.get_str(WHO).unwrap_or_default()),
         Some(("serve", words)) => serve(alloc, words),
-        Some(("call", words)) => call(alloc, words),
-        _ => Err(Fault::of_words(alloc, "error: a command is wanted, as run")),
+        Some(("call", words)) => call(rt, words),
+        _ => Err(WordsFault::wrong(alloc, "error: a command is wanted, as run")),
     }
 }
 
-fn hall(alloc: Global, logins: Option<&str>) -> Result<Command, Fault> {
+fn hall(alloc: Global, logins: Option<&str>) -> Result<Command, WordsFault> {
     match logins {
         Some(path) => Ok(Command::Hall(String::from_str(alloc, path)?)),
-        None => Err(Fault::of_words(alloc, "error: a file of logins is wanted")),
+        None => Err(WordsFault::wrong(alloc, "error: a file of logins is wanted")),
     }
 }
 
 /// A script is to be struck for the principal of that number, which isn't the administrator.
-fn strike(alloc: Global, word: &str) -> Result<Command, Fault>
+fn strike(alloc: Global, word: &str) -> Result<Command, WordsFault>
     ensures { IfOk result (λ command. IsForTenant command) }
 {
     match parse_principal(word) {
@@ -75,27 +79,53 @@ fn strike(alloc: Global, word: &str) -> Result<Command, Fault>
                 "error: invalid value '{word}' for '<WHO>': it isn't a number from 1 to 4294967294\n\n\
                  For more information, try '--help'."
             )?;
-            Err(Fault::CommandLine(text))
+            Err(WordsFault::Wrong(text))
         }
     }
 }
 
-fn serve(alloc: Global, words: &ArgMatches) -> Result<Command, Fault> {
+fn serve(alloc: Global, words: &ArgMatches) -> Result<Command, WordsFault> {
     let settings = Settings {
         window: number(alloc, words, WINDOW, 0, u64::MAX)?,
         cells: number(alloc, words, CELLS, 1, 16)? as usize,
         workers: number(alloc, words, WORKERS, 1, 8)?,
         connections: number(alloc, words, CONNECTIONS, 0, u64::from(u32::MAX))? as u32,
-        idle: number(alloc, words, IDLE, 0, u64::MAX)?,
+        patience: Patience {
+            idle: number(alloc, words, IDLE, 0, u64::MAX)?,
+            hello: number(alloc, words, HELLO, 0, u64::MAX)?,
+        },
         open: number(alloc, words, OPEN, 1, u64::from(u32::MAX))? as u32,
+        first: number(alloc, words, FIRST, 0, LAST_FIRST)?,
     };
     let address = String::from_str(alloc, word(words, ADDRESS))?;
     let logins = String::from_str(alloc, word(words, LOGINS))?;
+    let until = path(alloc, words, UNTIL)?;
+    let setup = path(alloc, words, SETUP)?;
+    let status = path(alloc, words, STATUS)?;
+    let reload = number(alloc, words, RELOAD, 0, u64::MAX)?;
     Ok(Command::Serve(Service {
         address,
         logins,
+        until,
+        reload,
+        setup,
+        status,
         settings,
     }))
+}
+
+/// The path behind a flag, where that is given.
+fn path(alloc: Global, words: &ArgMatches, flag: &str) -> Result<Option<String>, WordsFault> {
+    match words.get_str(flag) {
+        Some("") => {
+            let text = format!(in alloc;
+                "error: invalid value for '--{flag} <FILE>': it is no path\n\nFor more information, try '--help'."
+            )?;
+            Err(WordsFault::Wrong(text))
+        }
+        Some(path) => Ok(Some(String::from_str(alloc, path)?)),
+        None => Ok(None),
+    }
 }
 
 /// The number behind a flag, which has to be within these bounds.
@@ -105,7 +135,7 @@ fn number(
     flag: &str,
     least: u64,
     most: u64,
-) -> Result<u64, Fault>
+) -> Result<u64, WordsFault>
     ensures least { IfOk result (λ number. least ≤ number) }
     ensures most { IfOk result (λ number. number ≤ most) }
 {
@@ -116,49 +146,51 @@ fn number(
                 "error: invalid value for '--{flag} <N>': it isn't a number from {least} to {most}\n\n\
                  For more information, try '--help'."
             )?;
-            Err(Fault::CommandLine(text))
+            Err(WordsFault::Wrong(text))
         }
     }
 }
 
-fn call(alloc: Global, words: &ArgMatches) -> Result<Command, Fault>
+fn call<R: Files + AllocGlobal>(rt: &R, words: &ArgMatches) -> Result<Command, WordsFault>
     ensures { IfOk result (IsCallOf (found_of words.now)) }
 {
-    let hello = hello(alloc, words)?;
-    let request = request(alloc, words.get_strs(WORD).unwrap_or_default())?;
+    let alloc = rt.alloc();
+    let wait = number(alloc, words, WAIT, 0, u64::MAX)?;
+    let hello = hello(rt, words)?;
+    let request = request(rt, words.get_strs(WORD).unwrap_or_default())?;
     let call = Call::new(alloc, word(words, ADDRESS), hello, request)?;
-    Ok(Command::Call(call))
+    Ok(Command::Call(call.waiting(wait)))
 }
 
 /// The request that the words spell, of which the first is its verb.
-fn request(alloc: Global, words: &[&str]) -> Result<Request, CallFault> {
-    match words {
-        [verb, words @ ..] => parse_request(alloc, verb, words).map_err(of_request),
-        [] => Err(CallFault::BadRequest),
+fn request<R: Files + AllocGlobal>(rt: &R, words: &[&str]) -> Result<Request, WordsFault> {
+    let texts = all_meant(rt, words)?;
+    let mut words = Vec::new(rt.alloc());
+    for text in &texts {
+        words.push(text.as_str())?;
     }
+    request_of(rt.alloc(), words.as_slice())
 }
 
-/// The fault of words that spell no request.
-fn of_request(error: ParseError) -> CallFault
-    ensures { result ≡ fault_of_request error }
-{
-    match error {
-        ParseError::Bad => CallFault::BadRequest,
-        ParseError::NoMemory => CallFault::NoMemory,
+fn request_of(alloc: Global, words: &[&str]) -> Result<Request, WordsFault> {
+    match words {
+        [verb, words @ ..] => Ok(parse_request(alloc, verb, words)?),
+        [] => Err(WordsFault::BadRequest),
     }
 }
 
 /// The Hello of a call.
-fn hello(alloc: Global, words: &ArgMatches) -> Result<Hello, Fault>
+fn hello<R: Files + AllocGlobal>(rt: &R, words: &ArgMatches) -> Result<Hello, WordsFault>
     ensures { IfOk result (IsHelloOf (found_of words.now)) }
 {
+    let alloc = rt.alloc();
     let Some(who) = who_in(word(words, WHO)) else {
         return Err(misfit(alloc, WHO, "a number from 0 to 4294967294"));
     };
     let Some(client) = client_in(word(words, CLIENT)) else {
         return Err(misfit(alloc, CLIENT, "a number from 0 to 4294967295"));
     };
-    let Some(secret) = secret_in(word(words, SECRET).as_bytes()) else {
+    let Some(secret) = secret_of(rt, word(words, SECRET))? else {
         return Err(misfit(alloc, SECRET, "32 hexadecimal digits"));
     };
     let caller = Caller { who, client };
@@ -194,40 +226,40 @@ fn client_in(word: &str) -> Option<u32>
 
 /// The fault of an argument that isn't what it has to be. It doesn't tell the word, which may be a
 /// secret.
-fn misfit(alloc: Global, name: &str, wanted: &str) -> Fault {
+fn misfit(alloc: Global, name: &str, wanted: &str) -> WordsFault {
     let text = format!(in alloc;
         "error: invalid value for '<{name}>': it isn't {wanted}\n\nFor more information, try '--help'."
     );
-    text.map_or_else(Fault::from, Fault::CommandLine)
+    text.map_or_else(WordsFault::from, WordsFault::Wrong)
 }
 
 /// What comes of words that spell no command: a text, which was asked for, or a fault.
-fn told(alloc: Global, error: &Error) -> Result<Command, Fault>
-    ensures no_memory { kind_of error.now ≡ ErrorKind.OutOfMemory → result ≡ Err (fault.Run run_fault.NoMemory) }
+fn told(alloc: Global, error: &Error) -> Result<Command, WordsFault>
+    ensures no_memory { kind_of error.now ≡ ErrorKind.OutOfMemory → result ≡ Err fault.NoMemory }
     ensures asked_for { IfOk result (λ _. (kind_of error.now ≡ ErrorKind.DisplayHelp) ⊎ (kind_of error.now ≡ ErrorKind.DisplayVersion)) }
 {
     if error.kind() == ErrorKind::OutOfMemory {
-        return Err(Fault::Run(RunFault::NoMemory));
+        return Err(WordsFault::NoMemory);
     }
     let text = format!(in alloc; "{error}")?;
     if error.use_stderr() {
-        Err(Fault::of_words(alloc, text.trim_end()))
+        Err(WordsFault::wrong(alloc, text.trim_end()))
     } else {
         Ok(Command::Show(text))
     }
 }
 
 /// The fault of arguments that can't be read, as those that aren't UTF-8.
-fn unread(alloc: Global, error: &io::Error) -> Fault
-    ensures no_memory { error_kind error.now ≡ io_kind.OutOfMemory → result ≡ fault.Run run_fault.NoMemory }
+fn unread(alloc: Global, error: &io::Error) -> WordsFault
+    ensures no_memory { error_kind error.now ≡ io_kind.OutOfMemory → result ≡ fault.NoMemory }
     ensures not_utf8 { error_kind error.now ≡ io_kind.InvalidData → IsFaultOf (codes "error: an argument isn't UTF-8") result }
     ensures other { error_kind error.now ≢ io_kind.OutOfMemory
         → error_kind error.now ≢ io_kind.InvalidData
         → IsFaultOf (codes "error: the arguments can't be read") result }
 {
     match error.kind() {
-        io::ErrorKind::OutOfMemory => Fault::Run(RunFault::NoMemory),
-        io::ErrorKind::InvalidData => Fault::of_words(alloc, "error: an argument isn't UTF-8"),
-        _ => Fault::of_words(alloc, "error: the arguments can't be read"),
+        io::ErrorKind::OutOfMemory => WordsFault::NoMemory,
+        io::ErrorKind::InvalidData => WordsFault::wrong(alloc, "error: an argument isn't UTF-8"),
+        _ => WordsFault::wrong(alloc, "error: the arguments can't be read"),
     }
 }

@@ -3,6 +3,7 @@
 #![tactic(auto)]
 
 mod command_line;
+mod meaning;
 mod parser;
 
 pub use command_line::{given, parse};

@@ -65,6 +65,9 @@ pub const SECRET: &str = "SECRET";
 
 pub const WORD: &str = "WORD";
 
+/// The flag of a call.
+pub const WAIT: &str = "wait";
+
 /// The flags of a server.
 pub const WINDOW: &str = "window";
 
@@ -76,7 +79,19 @@ pub const CONNECTIONS: &str = "connections";
 
 pub const IDLE: &str = "idle";
 
+pub const HELLO: &str = "hello";
+
 pub const OPEN: &str = "open";
+
+pub const FIRST: &str = "first-moment";
+
+pub const UNTIL: &str = "until";
+
+pub const RELOAD: &str = "reload";
+
+pub const SETUP: &str = "setup";
+
+pub const STATUS: &str = "status";
 
 /// What parses a command line.
 pub fn parser<'a>(alloc: Global) -> Result<Parser<'a>, AllocError> {
@@ -140,7 +155,9 @@ fn serve_parser<'a>(alloc: Global) -> Result<Parser<'a>, AllocError> {
             "A file of the principals that may log in, each with its secret",
         ))?;
     let parser = with_flags_of_drives(alloc, parser)?;
-    with_flags_of_peers(alloc, parser)
+    let parser = with_flags_of_peers(alloc, parser)?;
+    let parser = with_flags_of_times(alloc, parser)?;
+    with_flags_of_files(alloc, parser)
 }
 
 /// Adds the flags that say how a drive is set up.
@@ -175,8 +192,55 @@ fn with_flags_of_peers<'a>(alloc: Global, parser: Parser<'a>) -> Result<Parser<'
         "How many milliseconds a peer may be silent, or 0 for ever",
         "60000",
     );
+    let hello = flag(
+        alloc,
+        HELLO,
+        "How many milliseconds a peer may take up to its welcome, or 0 for ever",
+        "10000",
+    );
     let open = flag(alloc, OPEN, "How many connections may be open", "1024");
-    parser.arg(connections)?.arg(idle)?.arg(open)
+    parser.arg(connections)?.arg(idle)?.arg(hello)?.arg(open)
+}
+
+/// Adds the flags that say how the clock begins, and how often logins are looked at.
+fn with_flags_of_times<'a>(alloc: Global, parser: Parser<'a>) -> Result<Parser<'a>, AllocError> {
+    let first = flag(
+        alloc,
+        FIRST,
+        "The moment at the start, in milliseconds",
+        "0",
+    );
+    let reload = flag(
+        alloc,
+        RELOAD,
+        "After how many milliseconds it looks again at LOGINS, or 0 for never",
+        "0",
+    );
+    parser.arg(first)?.arg(reload)
+}
+
+/// Adds the flags that name files.
+fn with_flags_of_files<'a>(alloc: Global, parser: Parser<'a>) -> Result<Parser<'a>, AllocError> {
+    let until = file(alloc, UNTIL, "It ends once there is this file");
+    let setup = file(
+        alloc,
+        SETUP,
+        "It carries out the lines of this file before it listens",
+    );
+    let status = file(
+        alloc,
+        STATUS,
+        "It tells of itself in this file each second, as JSON",
+    );
+    parser.arg(until)?.arg(setup)?.arg(status)
+}
+
+/// A flag with a file.
+fn file<'a>(alloc: Global, name: &'a str, help: &'a str) -> Arg<'a> {
+    Arg::new(alloc, name)
+        .long(name)
+        .value_name("FILE")
+        .help(help)
 }
 
 /// A flag with a number, which is this one where it isn't given.
@@ -202,9 +266,15 @@ fn call_parser<'a>(alloc: Global) -> Result<Parser<'a>, AllocError> {
     let word = wanted(
         alloc,
         WORD,
-        "The request, as in a line of a script from its verb on",
+        "The request, as in a line of a script from its verb on; @ and a file for what it has",
     );
-    parser.arg(word.num_args(1..))
+    let wait = flag(
+        alloc,
+        WAIT,
+        "How many milliseconds it is tried to connect again",
+        "0",
+    );
+    parser.arg(word.num_args(1..))?.arg(wait)
 }
 
 /// Adds the arguments that say who calls.
@@ -222,7 +292,7 @@ fn with_caller<'a>(alloc: Global, parser: Parser<'a>) -> Result<Parser<'a>, Allo
     let secret = wanted(
         alloc,
         SECRET,
-        "The principal's secret, 32 hexadecimal digits",
+        "The principal's secret, 32 hexadecimal digits, or @ and a file that has them",
     );
     parser.arg(who)?.arg(client)?.arg(secret)
 }

@@ -77,13 +77,19 @@ Arguments:
   <LOGINS>   A file of the principals that may log in, each with its secret
 
 Options:
-      --window <N>       The detection window at the start, in milliseconds [default: 86400000]
-      --cells <N>        How many cells there are, from 1 to 16 [default: 4]
-      --workers <N>      How many threads serve connections, from 1 to 8 [default: 4]
-      --connections <N>  After how many connections it ends, or 0 for never [default: 0]
-      --idle <N>         How many milliseconds a peer may be silent, or 0 for ever [default: 60000]
-      --open <N>         How many connections may be open [default: 1024]
-  -h, --help             Print help
+      --window <N>        The detection window at the start, in milliseconds [default: 86400000]
+      --cells <N>         How many cells there are, from 1 to 16 [default: 4]
+      --workers <N>       How many threads serve connections, from 1 to 8 [default: 4]
+      --connections <N>   After how many connections it ends, or 0 for never [default: 0]
+      --idle <N>          How many milliseconds a peer may be silent, or 0 for ever [default: 60000]
+      --hello <N>         How many milliseconds a peer may take up to its welcome, or 0 for ever [default: 10000]
+      --open <N>          How many connections may be open [default: 1024]
+      --first-moment <N>  The moment at the start, in milliseconds [default: 0]
+      --reload <N>        After how many milliseconds it looks again at LOGINS, or 0 for never [default: 0]
+      --until <FILE>      It ends once there is this file
+      --setup <FILE>      It carries out the lines of this file before it listens
+      --status <FILE>     It tells of itself in this file each second, as JSON
+  -h, --help              Print help
 
 Example: s4d serve 127.0.0.1:4710 examples/first.logins
 docs/OPERATIONS.md says what it writes, what it holds in memory, and what ends it.
@@ -92,17 +98,18 @@ docs/OPERATIONS.md says what it writes, what it holds in memory, and what ends i
 pub const CALL_HELP: &str = "\
 Asks a served drive once, and writes the reply
 
-Usage: s4d call <ADDRESS> <WHO> <CLIENT> <SECRET> <WORD>...
+Usage: s4d call [OPTIONS] <ADDRESS> <WHO> <CLIENT> <SECRET> <WORD>...
 
 Arguments:
   <ADDRESS>  Where the drive is served, a host and a port
   <WHO>      The principal that asks, a number from 0 to 4294967294
   <CLIENT>   The client that is recorded, a number from 0 to 4294967295
-  <SECRET>   The principal's secret, 32 hexadecimal digits
-  <WORD>...  The request, as in a line of a script from its verb on
+  <SECRET>   The principal's secret, 32 hexadecimal digits, or @ and a file that has them
+  <WORD>...  The request, as in a line of a script from its verb on; @ and a file for what it has
 
 Options:
-  -h, --help  Print help
+      --wait <N>  How many milliseconds it is tried to connect again [default: 0]
+  -h, --help      Print help
 
 Example: s4d call 127.0.0.1:4710 7 1 000102030405060708090a0b0c0d0e0f read 7.0.1 0 100 at 9
 docs/SCRIPTS.md has the words and the replies; \"Calls\" there says what else is told.

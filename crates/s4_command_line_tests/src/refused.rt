@@ -166,8 +166,80 @@ pub const FLAGS: &[Row] = &[
         Refused("invalid value for '--idle <N>': it isn't a number from 0 to 18446744073709551615"),
     ),
     Row(
+        b"s4d|serve|nowhere|first.logins|--first-moment|9223372036854775808",
+        Refused(
+            "invalid value for '--first-moment <N>': it isn't a number from 0 to 9223372036854775807",
+        ),
+    ),
+    Row(
+        b"s4d|serve|nowhere|first.logins|--first-moment|+1",
+        Refused(
+            "invalid value for '--first-moment <N>': it isn't a number from 0 to 9223372036854775807",
+        ),
+    ),
+    Row(
+        b"s4d|serve|nowhere|first.logins|--until|",
+        Refused("invalid value for '--until <FILE>': it is no path"),
+    ),
+    Row(
+        b"s4d|serve|nowhere|first.logins|--hello|1s",
+        Refused(
+            "invalid value for '--hello <N>': it isn't a number from 0 to 18446744073709551615",
+        ),
+    ),
+    Row(
+        b"s4d|serve|nowhere|first.logins|--reload|1.5",
+        Refused(
+            "invalid value for '--reload <N>': it isn't a number from 0 to 18446744073709551615",
+        ),
+    ),
+    Row(
+        b"s4d|serve|nowhere|first.logins|--setup|",
+        Refused("invalid value for '--setup <FILE>': it is no path"),
+    ),
+    Row(
+        b"s4d|serve|nowhere|first.logins|--status|",
+        Refused("invalid value for '--status <FILE>': it is no path"),
+    ),
+    Row(
         b"s4d|serve|nowhere|first.logins|--open|0",
         Refused("invalid value for '--open <N>': it isn't a number from 1 to 4294967295"),
+    ),
+];
+
+/// Flags without a value, and a call's wait that is out of its bounds or no number.
+pub const VALUES: &[Row] = &[
+    Row(
+        b"s4d|serve|nowhere|first.logins|--cells",
+        Refused("a value is required for '--cells <N>' but none was supplied"),
+    ),
+    Row(
+        b"s4d|serve|nowhere|first.logins|--first-moment",
+        Refused("a value is required for '--first-moment <N>' but none was supplied"),
+    ),
+    Row(
+        b"s4d|serve|nowhere|first.logins|--until",
+        Refused("a value is required for '--until <FILE>' but none was supplied"),
+    ),
+    Row(
+        b"s4d|serve|nowhere|first.logins|--setup",
+        Refused("a value is required for '--setup <FILE>' but none was supplied"),
+    ),
+    Row(
+        b"s4d|serve|nowhere|first.logins|--status",
+        Refused("a value is required for '--status <FILE>' but none was supplied"),
+    ),
+    Row(
+        b"s4d|call|nowhere|7|1|000102030405060708090a0b0c0d0e0f|create|0|--wait",
+        Refused("a value is required for '--wait <N>' but none was supplied"),
+    ),
+    Row(
+        b"s4d|call|--wait|18446744073709551616|nowhere|7|1|000102030405060708090a0b0c0d0e0f|create|0",
+        Refused("invalid value for '--wait <N>': it isn't a number from 0 to 18446744073709551615"),
+    ),
+    Row(
+        b"s4d|call|--wait|1s|nowhere|7|1|000102030405060708090a0b0c0d0e0f|create|0",
+        Refused("invalid value for '--wait <N>': it isn't a number from 0 to 18446744073709551615"),
     ),
 ];
 
@@ -176,7 +248,7 @@ const NO_WHO: &str = "invalid value for '<WHO>': it isn't a number from 0 to 429
 
 const NO_CLIENT: &str = "invalid value for '<CLIENT>': it isn't a number from 0 to 4294967295";
 
-const NO_SECRET: &str = "invalid value for '<SECRET>': it isn't 32 hexadecimal digits";
+pub const NO_SECRET: &str = "invalid value for '<SECRET>': it isn't 32 hexadecimal digits";
 
 /// Calls of nobody.
 pub const CALLERS: &[Row] = &[

@@ -1,20 +1,18 @@
 //! A command line, and what it is.
 
-use s4_client::CallFault;
+use s4_command::{Call, Command, Patience, Service, Settings, WordsFault};
 use s4_command_line::given;
-use s4_commands::{Call, Command, Fault, FaultText, Service};
-use s4_server::Settings;
-use s4_session::Hello;
+use s4_stream::Hello;
 use s4_types::{Bytes, Caller, Moment, ObjectId, Principal, Purse, PurseNo, Request, Serial};
 use std::alloc::Global;
 use std::env::FillError;
 use std::process::Abort;
-use std::rt::Env;
+use std::rt::{Env, Files};
 use std::str;
 use std::test::Fail;
 
 /// What a fault of a command line begins with, and what most of them end with.
-const BEFORE: &str = "s4d: error: ";
+const BEFORE: &str = "error: ";
 
 const AFTER: &str = "\n\nFor more information, try '--help'.";
 
@@ -24,19 +22,34 @@ const STANDARD: Settings = Settings {
     cells: 4,
     workers: 4,
     connections: 0,
-    idle: 60000,
+    patience: Patience {
+        idle: 60000,
+        hello: 10000,
+    },
     open: 1024,
+    first: 0,
 };
 
-/// The greatest settings, but for the least number of open connections.
+/// The greatest settings, but for the least number of open connections. The first moment is 2^63 - 1.
 const GREATEST: Settings = Settings {
     window: u64::MAX,
     cells: 16,
     workers: 8,
     connections: u32::MAX,
-    idle: u64::MAX,
+    patience: Patience {
+        idle: u64::MAX,
+        hello: u64::MAX,
+    },
     open: 1,
+    first: 9223372036854775807,
 };
+
+/// The files of a server: what ends it, what it carries out first, and in which it tells of itself.
+const FILES: [Option<&str>; 3] = [
+    Some("a folder/end"),
+    Some("a folder/begin"),
+    Some("a folder/told"),
+];
 
 /// The words of a command line, with a `|` between each two, and what they are.
 pub struct Row(pub &'static [u8], pub Wanted);
@@ -50,11 +63,16 @@ pub enum Wanted {
     Strike(u32),
     /// They ask for a server at 127.0.0.1:4710 of the logins in first.logins, without flags.
     StandardServer,
-    /// The same with the greatest settings, but for the least number of open connections.
+    /// The same with the greatest settings, but for the least number of open connections, and with the
+    /// files `end`, `begin` and `told` of `a folder`, each for its flag.
     GreatestServer,
     /// They ask for a call at `nowhere` as this principal and client, with the secret of bytes 0
     /// to 15.
     Call(u32, u32, Asked),
+    /// The same, where it is tried to connect for so many milliseconds.
+    PatientCall(u32, u32, Asked, u64),
+    /// They name a file of this name in the folder, which can't be read.
+    NoFile(&'static str),
     /// They ask for a call of words that are no request.
     NoRequest,
     /// They are told as this error, behind which the help is named.
@@ -97,23 +115,47 @@ impl Env for Words<'_> {
     }
 }
 
-/// That the words of a row are what is wanted of it.
-pub fn check<R: Abort>(rt: &R, alloc: Global, row: &Row) -> Result<(), Fail> {
+/// That the words of a row are what is wanted of it, where files that they name stand in this folder.
+pub fn check<R: Abort + Files + AllocGlobal>(rt: &R, folder: &str, row: &Row) -> Result<(), Fail> {
     let Row(words, wanted) = row;
-    let outcome = spelled(alloc, words);
-    let is_as_wanted = is_wanted(alloc, &outcome, wanted)?;
+    let alloc = rt.alloc();
+    let outcome = spelled(rt, placed(alloc, folder, words)?.as_slice());
+    let is_as_wanted = match (&outcome, wanted) {
+        (Err(fault), Wanted::NoFile(name)) => is_no_file(alloc, fault, folder, name)?,
+        _ => is_wanted(alloc, &outcome, wanted)?,
+    };
     assert!(rt; is_as_wanted, "{:?}: {outcome:?}", str::from_utf8(words));
     Ok(())
 }
 
+/// The words, with the folder behind each `@`.
+fn placed(alloc: Global, folder: &str, words: &[u8]) -> Result<Vec<u8>, Fail> {
+    let mut placed = Vec::new(alloc);
+    for byte in words {
+        placed.push(*byte)?;
+        if *byte == b'@' {
+            placed.extend_from_slice(folder.as_bytes())?;
+        }
+    }
+    Ok(placed)
+}
+
+/// Whether it is the fault of a file of that name in this folder.
+fn is_no_file(alloc: Global, fault: &WordsFault, folder: &str, name: &str) -> Result<bool, Fail> {
+    let told = fault.to_string(alloc)?;
+    let path = told.as_str().strip_prefix("cannot read ");
+    let is_path = path.and_then(|path| path.strip_prefix(folder)) == Some(name);
+    Ok(is_path && fault.status() == 1)
+}
+
 /// The command that these words spell.
-pub fn spelled(alloc: Global, words: &[u8]) -> Result<Command, Fault> {
-    given(&(Words(words), alloc))
+pub fn spelled<R: Files + AllocGlobal>(rt: &R, words: &[u8]) -> Result<Command, WordsFault> {
+    given(&(Words(words), rt.alloc()), rt)
 }
 
 fn is_wanted(
     alloc: Global,
-    outcome: &Result<Command, Fault>,
+    outcome: &Result<Command, WordsFault>,
     wanted: &Wanted,
 ) -> Result<bool, Fail> {
     match outcome {
@@ -128,27 +170,50 @@ fn is_command(alloc: Global, command: &Command, wanted: &Wanted) -> Result<bool,
         (Command::Show(text), Wanted::Show(wanted)) => Ok(text.as_str() == *wanted),
         (Command::Hall(path), Wanted::Hall(wanted)) => Ok(path.as_str() == *wanted),
         (Command::Strike(who), Wanted::Strike(wanted)) => Ok(who.number() == *wanted),
-        (Command::Serve(service), Wanted::StandardServer) => Ok(is_service(service, &STANDARD)),
-        (Command::Serve(service), Wanted::GreatestServer) => Ok(is_service(service, &GREATEST)),
+        (Command::Serve(service), Wanted::StandardServer) => {
+            Ok(is_service(service, &STANDARD, 0, &[None; 3]))
+        },
+        (Command::Serve(service), Wanted::GreatestServer) => {
+            Ok(is_service(service, &GREATEST, u64::MAX, &FILES))
+        },
         (Command::Call(call), Wanted::Call(who, client, asked)) => {
             Ok(*call == call_of(alloc, *who, *client, asked)?)
+        }
+        (Command::Call(call), Wanted::PatientCall(who, client, asked, wait)) => {
+            Ok(*call == call_of(alloc, *who, *client, asked)?.waiting(*wait))
         }
         _ => Ok(false),
     }
 }
 
-fn is_service(service: &Service, settings: &Settings) -> bool {
+/// Whether these are the settings of the service, how often it looks at its logins, and the files that end
+/// it, that it carries out first, and in which it tells of itself.
+fn is_service(
+    service: &Service,
+    settings: &Settings,
+    reload: u64,
+    files: &[Option<&str>; 3],
+) -> bool {
+    let [until, setup, status] = *files;
     service.settings == *settings
+        && service.reload == reload
+        && is_path(&service.until, until)
+        && is_path(&service.setup, setup)
+        && is_path(&service.status, status)
         && service.address.as_str() == "127.0.0.1:4710"
         && service.logins.as_str() == "first.logins"
 }
 
-fn is_fault(alloc: Global, fault: &Fault, wanted: &Wanted) -> Result<bool, Fail> {
+fn is_path(path: &Option<String>, wanted: Option<&str>) -> bool {
+    path.as_ref().map(|path| path.as_str()) == wanted
+}
+
+fn is_fault(alloc: Global, fault: &WordsFault, wanted: &Wanted) -> Result<bool, Fail> {
     if let Wanted::NoRequest = wanted {
-        return Ok(*fault == Fault::Call(CallFault::BadRequest));
+        return Ok(*fault == WordsFault::BadRequest);
     }
-    let line = FaultText(fault).to_string(alloc)?;
-    let text = line.as_str().strip_prefix(BEFORE);
+    let told = fault.to_string(alloc)?;
+    let text = told.as_str().strip_prefix(BEFORE);
     let is_text = match wanted {
         Wanted::Refused(wanted) => text.and_then(|text| text.strip_suffix(AFTER)) == Some(*wanted),
         Wanted::RefusedAlone(wanted) => text == Some(*wanted),

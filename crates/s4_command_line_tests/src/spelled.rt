@@ -3,11 +3,15 @@
 use crate::helps::{CALL_HELP, HALL_HELP, HELP, RUN_HELP, SERVE_HELP, STRIKE_HELP};
 use crate::row::Asked::{Create, Read, Write};
 use crate::row::Row;
-use crate::row::Wanted::{Call, GreatestServer, Hall, Run, Show, StandardServer, Strike};
+use crate::row::Wanted::{
+    Call, GreatestServer, Hall, PatientCall, Run, Show, StandardServer, Strike,
+};
 
 /// The flags of the greatest server.
 const GREATEST_WORDS: &[u8] = b"s4d|serve|127.0.0.1:4710|first.logins|--window|18446744073709551615\
-    |--cells|16|--workers|8|--connections|4294967295|--idle|18446744073709551615|--open|1";
+    |--cells|16|--workers|8|--connections|4294967295|--idle|18446744073709551615|--hello|18446744073709551615|--open|1\
+    |--first-moment|9223372036854775807|--reload|18446744073709551615|--until|a folder/end\
+    |--setup|a folder/begin|--status|a folder/told";
 
 /// Texts that are asked for.
 pub const TEXTS: &[Row] = &[
@@ -66,5 +70,18 @@ pub const CALLS: &[Row] = &[
     Row(
         b"s4d|call|nowhere|1|4294967294|000102030405060708090A0B0C0D0E0F|create|15",
         Call(1, 4294967294, Create(15)),
+    ),
+    Row(
+        b"s4d|call|--wait|0|nowhere|7|1|000102030405060708090a0b0c0d0e0f|create|0",
+        Call(7, 1, Create(0)),
+    ),
+    Row(
+        b"s4d|call|--wait|5000|nowhere|7|1|000102030405060708090a0b0c0d0e0f|create|0",
+        PatientCall(7, 1, Create(0), 5000),
+    ),
+    Row(
+        b"s4d|call|nowhere|7|1|000102030405060708090a0b0c0d0e0f|read|7.0.1|0|100|at|9\
+            |--wait|18446744073709551615",
+        PatientCall(7, 1, Read, u64::MAX),
     ),
 ];

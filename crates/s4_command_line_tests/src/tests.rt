@@ -1,17 +1,16 @@
-use crate::refused::{CALLERS, FLAGS, PRINCIPALS, REQUESTS, WORDS};
+use crate::refused::{CALLERS, FLAGS, PRINCIPALS, REQUESTS, VALUES, WORDS};
 use crate::row::{check, spelled};
 use crate::spelled::{CALLS, RUNS, SERVERS, TEXTS};
-use s4_client::CallFault;
-use s4_commands::{Command, Fault};
+use s4_command::{Command, WordsFault};
 use std::test::Fail;
 
 #[test]
 fn each_command_line_is_what_is_wanted(rt: HostRuntime) -> Result<(), Fail> {
     for rows in [
-        TEXTS, RUNS, SERVERS, CALLS, WORDS, PRINCIPALS, FLAGS, CALLERS, REQUESTS,
+        TEXTS, RUNS, SERVERS, CALLS, WORDS, PRINCIPALS, FLAGS, VALUES, CALLERS, REQUESTS,
     ] {
         for row in rows {
-            check(&rt, rt.alloc(), row)?;
+            check(&rt, "", row)?;
         }
     }
     Ok(())
@@ -28,10 +27,10 @@ fn a_request_fits_a_frame(rt: HostRuntime) -> Result<(), Fail> {
     for _ in 0..8181 {
         words.extend_from_slice(b"66")?;
     }
-    let fits = spelled(alloc, words.as_slice());
+    let fits = spelled(&rt, words.as_slice());
     assert!(rt; matches!(&fits, Ok(Command::Call(_))));
     words.extend_from_slice(b"66")?;
-    let told = spelled(alloc, words.as_slice());
-    assert_eq!(rt; told, Err(Fault::Call(CallFault::BadRequest)));
+    let told = spelled(&rt, words.as_slice());
+    assert_eq!(rt; told, Err(WordsFault::BadRequest));
     Ok(())
 }

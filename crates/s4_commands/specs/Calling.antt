@@ -3,7 +3,7 @@ use Rattle.std.specs.Prelude.{ℕ, Option, List, [], ◌∷◌, ◌++◌}
 use Rattle.std.specs.Io.KnownBytes.{Appends, Consumes}
 use Rattle.s4_types.specs.declared.reply.Reply.{Reply}
 use Rattle.s4_script.specs.Texts.{reply_text}
-use Rattle.s4_session.specs.Sent.{welcome, reply_frame}
+use Rattle.s4_stream.specs.Talk.{welcome, reply_frame}
 
 -- the Welcome and a reply are read, and the reply's text is written, with a line feed
 abbrev pub TellsReply : Option (List ℕ) → Option (List ℕ) → Option (List ℕ) → Option (List ℕ) → Type 0

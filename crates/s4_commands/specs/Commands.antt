@@ -3,8 +3,8 @@ use Rattle.std.specs.Prelude.{ℕ, ⊤, List, Option, string_bytes}
 use Rattle.std.specs.Io.KnownBytes.{Appends}
 use Rattle.s4_commands.specs.Calling.{TellsSomeReply}
 use Rattle.s4_commands.specs.Serving.{TellsService}
-use Rattle.s4_commands.specs.declared.command.Command.{Command}
-use Rattle.s4_commands.specs.declared.command.Command.TheVariants as command
+use Rattle.s4_command.specs.declared.command.Command.{Command}
+use Rattle.s4_command.specs.declared.command.Command.TheVariants as command
 
 -- a text that is to be shown, the text of a reply to a call, or the lines of a server
 -- follow what was written before, where that is known; of runs nothing is said

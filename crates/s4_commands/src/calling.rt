@@ -1,9 +1,9 @@
 //! Calls of a served drive (docs/SCRIPTS.md, "Calls").
 
-ghost use Rattle.std.specs.Prelude.{◌≡◌, ◌++◌, ◌∷◌, [], ℕ, List, IfOk, IsErrOf, OnOk, string_bytes};
+ghost use Rattle.std.specs.Prelude.{◌++◌, ◌∷◌, [], IsErrOf, OnOk};
 ghost use Rattle.std.specs.Io.KnownBytes.{Appends, Keeps};
 ghost use Rattle.s4_script.specs.Texts.{reply_text};
-ghost use Rattle.s4_session.specs.declared.event.Fault as faults;
+ghost use Rattle.s4_stream.specs.declared.event.SessionFault as faults;
 ghost use Rattle.s4_client.specs.Calls.{Begins, HearsFault, message_of};
 ghost use Rattle.s4_client.specs.declared.fault.CallFault as call_faults;
 ghost use Rattle.s4_client.specs.declared.fault.CallFault.TheVariants as call_fault;
@@ -11,50 +11,23 @@ ghost use Rattle.s4_commands.specs.Calling.{TellsReply, TellsSomeReply};
 ghost use Rattle.s4_commands.specs.declared.fault.Fault.TheVariants as fault;
 
 use crate::fault::Fault;
-use s4_client::{CallFault, connect, message};
+use s4_client::{CallFault, connect};
+use s4_command::Call;
 use s4_run::RunFault;
 use s4_script::ReplyText;
-use s4_session::Hello;
-use s4_types::{Reply, Request};
+use s4_types::Reply;
 use std::alloc::Global;
 use std::io::{Read, Write};
 use std::net::{Net, TcpStream};
+use std::sync::Wait;
+use std::thread;
+use std::time::{Clock, Duration, Instant};
 
-/// A call: where, as whom, and what is asked.
-#[derive(Debug, PartialEq, Drop)]
-pub struct Call {
-    pub address: String,
-    pub hello: Hello,
-    pub request: Request,
-    /// What is sent.
-    message: Vec<u8>,
-    ghost spelled: { message.items ≡ message_of hello request },
-}
-
-impl Call {
-    /// `BadRequest` where the request has no spelling within a frame.
-    pub fn new(
-        alloc: Global,
-        address: &str,
-        hello: Hello,
-        request: Request,
-    ) -> Result<Call, CallFault>
-        ensures address { IfOk result (λ call. string_bytes call.address ≡ address.now) }
-        ensures hello { IfOk result (λ call. call.hello ≡ hello) }
-        ensures request { IfOk result (λ call. call.request ≡ request) }
-    {
-        let message = message(alloc, &hello, &request)?;
-        Ok(Call {
-            address: String::from_str(alloc, address)?,
-            hello,
-            request,
-            message,
-        })
-    }
-}
+/// How long it waits before it tries to connect again, in milliseconds.
+const PAUSE: u64 = 10;
 
 /// Calls at the address, and writes the text of the reply.
-pub fn call_at<N: Net<Stream = TcpStream>, W: Write>(
+pub fn call_at<N: Net<Stream = TcpStream> + Wait + Clock, W: Write>(
     net: &N,
     alloc: Global,
     call: &Call,
@@ -62,8 +35,34 @@ pub fn call_at<N: Net<Stream = TcpStream>, W: Write>(
 ) -> Result<(), Fault>
     ensures told { OnOk result (TellsSomeReply (W.contents output.old) (W.contents output.new)) }
 {
-    let stream = connect(net, call.address.as_str())?;
+    let stream = reach(net, call.address.as_str(), call.wait)?;
     call_over(alloc, call, &mut &stream, &mut &stream, output)
+}
+
+/// Connects, and tries again for so many milliseconds while that fails. Where the clock can't be read
+/// it tries once.
+fn reach<N: Net<Stream = TcpStream> + Wait + Clock>(
+    net: &N,
+    address: &str,
+    wait: u64,
+) -> Result<TcpStream, CallFault> {
+    let start = Instant::now(net).ok();
+    for _ in net.forever() {
+        let reached = connect(net, address);
+        if reached.is_ok() || is_over(net, start, wait) {
+            return reached;
+        }
+        thread::sleep(net, Duration::from_millis(PAUSE));
+    }
+    unreachable!()
+}
+
+/// Whether so many milliseconds have passed since the start, as far as the clock tells.
+fn is_over<C: Clock>(clock: &C, start: Option<Instant>, wait: u64) -> bool {
+    match start.and_then(|start| start.elapsed(clock).ok()) {
+        Some(passed) => passed >= Duration::from_millis(wait),
+        None => true,
+    }
 }
 
 /// Calls over a reader and a writer, and writes the text of the reply, which ends in a line feed.
@@ -80,12 +79,12 @@ pub fn call_over<R: Read, W: Write, O: Write>(
     ensures told { OnOk result (TellsReply (R.remaining reader.old) (R.remaining reader.new)
         (O.contents output.old) (O.contents output.new)) }
     // A fault of the session is told where the peer told it, and then no reply is.
-    ensures fault { (f : faults.Fault) → IsErrOf result (fault.Call (call_fault.Session f))
+    ensures fault { (f : faults.SessionFault) → IsErrOf result (fault.Call (call_fault.Session f))
         → HearsFault (R.remaining reader.old) (R.remaining reader.new) f }
     ensures silent { (why : call_faults.CallFault) → IsErrOf result (fault.Call why)
         → Keeps (O.contents output.old) (O.contents output.new) }
 {
-    let reply = s4_client::call(alloc, reader, writer, call.message.as_slice())?;
+    let reply = s4_client::call(alloc, reader, writer, call.message())?;
     tell(output, &reply)?;
     Ok(())
 }

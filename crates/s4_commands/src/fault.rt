@@ -1,26 +1,39 @@
 //! What ends the program without success.
 
 ghost use Rattle.std.specs.Prelude.{◌≡◌, ◌++◌, Some, codes};
-ghost use Rattle.s4_commands.specs.Faults.{IsFaultOf, exit_status, fault_text};
+ghost use Rattle.s4_commands.specs.Faults.{exit_status, fault_text};
 ghost use Rattle.s4_commands.specs.declared.fault.Fault.TheVariants as fault;
 ghost use Rattle.s4_run.specs.declared.fault.RunFault.TheVariants as run_fault;
 
 use s4_client::CallFault;
+use s4_command::WordsFault;
 use s4_run::RunFault;
 use s4_server::ServerFault;
-use std::alloc::{AllocError, AllocFailed, Global};
+use std::alloc::{AllocError, AllocFailed};
 use std::fmt;
 use thiserror::Error;
 
 /// Why the program ends without success.
 #[derive(Debug, PartialEq, Drop, Error)]
 pub enum Fault {
-    /// The command line spells no command; the text says how.
-    CommandLine(String),
+    /// The words of the command line spell no command.
+    CommandLine(WordsFault),
     /// The run ended so.
     Run(RunFault),
+    /// The file with the setup of a server, which has this path, can't be read, or is no text.
+    CannotReadFile(String),
     /// The call has no reply.
     Call(CallFault),
+    /// The file that ends a server is there before it begins.
+    EndIsThere,
+    /// It can't be told whether the file that ends a server is there.
+    CannotLook,
+    /// The line of this number in the setup of a server is none.
+    SetupLine(usize),
+    /// The line of this number in the setup of a server is refused; the text is that of the reply.
+    SetupRefused(usize, String),
+    /// The file in which a server tells of itself can't be written.
+    CannotWriteFile(String),
     /// The address of a server can't be had.
     CannotListen,
     /// The server ended so.
@@ -28,19 +41,12 @@ pub enum Fault {
 }
 
 impl Fault {
-    /// The fault of words that spell no command, of which the text says how.
-    pub fn of_words(alloc: Global, text: &str) -> Fault
-        ensures { IsFaultOf text.now result }
-    {
-        String::from_str(alloc, text).map_or_else(Fault::from, Fault::CommandLine)
-    }
-
     /// What the program exits with.
     pub fn status(&self) -> u8
         ensures { result ≡ exit_status self.now }
     {
         match self {
-            Fault::CommandLine(_) => 2,
+            Fault::CommandLine(fault) => fault.status(),
             _ => 1,
         }
     }
@@ -51,12 +57,26 @@ impl fmt::Display for Fault {
 
     fn fmt<W: fmt::Write>(&self, f: &mut fmt::Formatter<W>) -> fmt::Result {
         match self {
-            Fault::CommandLine(text) => write!(f, "{text}"),
+            Fault::CommandLine(fault) => write!(f, "{fault}"),
             Fault::Run(fault) => write!(f, "{fault}"),
+            Fault::CannotReadFile(path) => write!(f, "cannot read {path}"),
             Fault::Call(fault) => write!(f, "{fault}"),
+            Fault::EndIsThere => write!(f, "the file of --until is there already"),
+            Fault::CannotLook => write!(f, "cannot look for the file of --until"),
+            Fault::SetupLine(number) => write!(f, "setup line {number}"),
+            Fault::SetupRefused(number, told) => write!(f, "setup line {number}: {told}"),
+            Fault::CannotWriteFile(path) => write!(f, "cannot write {path}"),
             Fault::CannotListen => write!(f, "cannot listen"),
             Fault::Serve(fault) => write!(f, "{fault}"),
         }
+    }
+}
+
+impl From<WordsFault> for Fault {
+    ghost from_gives = { λ words why. why ≡ fault.CommandLine words };
+
+    fn from(fault: WordsFault) -> Fault {
+        Fault::CommandLine(fault)
     }
 }
 

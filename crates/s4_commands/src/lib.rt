@@ -3,13 +3,13 @@
 #![tactic(auto)]
 
 mod calling;
-mod command;
+mod descriptors;
 mod fault;
 mod obeying;
 mod serving;
+mod setting_up;
 
-pub use calling::{Call, call_over};
-pub use command::Command;
+pub use calling::call_over;
 pub use fault::{Fault, FaultText};
 pub use obeying::obey;
-pub use serving::{Service, serve_on};
+pub use serving::serve_on;

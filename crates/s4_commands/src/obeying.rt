@@ -5,9 +5,9 @@ ghost use Rattle.std.specs.Io.KnownBytes.{Appends};
 ghost use Rattle.s4_commands.specs.Commands.{IsObeyed};
 
 use crate::calling::call_at;
-use crate::command::Command;
 use crate::fault::Fault;
 use crate::serving::serve_at;
+use s4_command::Command;
 use s4_run::RunFault;
 use std::io::{Read, Write};
 use std::net::{Net, TcpListener, TcpStream};
@@ -16,27 +16,27 @@ use std::sync::Wait;
 use std::thread::Threads;
 use std::time::Clock;
 
-/// Does what the command asks for, from the input to the output. Files, sockets, threads and the clock
-/// are those of `system`.
+/// Does what the command asks for, from the input to the output. Sockets, threads and the clock are those
+/// of `system`; files are the machine's.
 pub fn obey<
-    S: Files
-        + Net<Listener = TcpListener, Stream = TcpStream>
+    S: Net<Listener = TcpListener, Stream = TcpStream>
         + Threads
         + Wait
         + Clock
+        + Eprint
         + Sync
         + AllocGlobal,
     R: Read + Drop,
     W: Write,
->(system: &S, command: &Command, input: R, output: &mut W) -> Result<(), Fault>
+>(system: &S, files: &HostRuntime, command: &Command, input: R, output: &mut W) -> Result<(), Fault>
     ensures shown { OnOk result (IsObeyed command.now (W.contents output.old) (W.contents output.new)) }
 {
     match command {
         Command::Show(text) => show(output, text)?,
         Command::Run => s4_run::run_script(system.alloc(), input, output)?,
-        Command::Hall(path) => run_hall(system, path, input, output)?,
+        Command::Hall(path) => run_hall(files, path, input, output)?,
         Command::Strike(who) => s4_run::run_strike(system.alloc(), *who, input, output)?,
-        Command::Serve(service) => serve_at(system, service, output)?,
+        Command::Serve(service) => serve_at(system, files, service, output)?,
         Command::Call(call) => call_at(system, system.alloc(), call, output)?,
     }
     Ok(())

@@ -5,9 +5,12 @@ ghost use Rattle.std.specs.Io.KnownBytes.{Appends};
 ghost use Rattle.s4_commands.specs.Serving.{TellsService, closed_line, listening_line};
 
 use crate::fault::Fault;
+use crate::{descriptors, setting_up};
+use s4_command::Service;
 use s4_run::RunFault;
-use s4_server::{Server, Settings, Stopwatch, Ticks};
-use s4_session::Logins;
+use s4_server::{Server, Stopwatch, Ticks, Upkeep, beside};
+use s4_stream::Logins;
+use std::fs;
 use std::io::Write;
 use std::net::{Net, TcpListener, TcpStream};
 use std::rt::Files;
@@ -15,51 +18,90 @@ use std::sync::Wait;
 use std::thread::Threads;
 use std::time::Clock;
 
-/// A served drive: where it listens, the file of who may log in, and how it is set up.
-#[derive(Debug, PartialEq, Drop)]
-pub struct Service {
-    pub address: String,
-    pub logins: String,
-    pub settings: Settings,
-}
-
-/// Serves at the address of the service. Logins are read before it listens.
+/// Serves at the address of the service. Logins are read, and it is looked for the file that ends it,
+/// before it listens.
 pub fn serve_at<
-    R: Files
-        + Net<Listener = TcpListener, Stream = TcpStream>
+    R: Net<Listener = TcpListener, Stream = TcpStream>
         + Threads
         + Wait
         + Clock
+        + Eprint
         + Sync
         + AllocGlobal,
     W: Write,
->(rt: &R, service: &Service, output: &mut W) -> Result<(), Fault>
+>(rt: &R, files: &HostRuntime, service: &Service, output: &mut W) -> Result<(), Fault>
     ensures told { OnOk result (TellsService (string_bytes service.now.address) (W.contents output.old) (W.contents output.new)) }
 {
-    let logins = s4_run::open_logins(rt, service.logins.as_str())?;
+    look(files, path_in(&service.until))?;
+    try_status(files, path_in(&service.status))?;
+    descriptors::warn(rt, files, &service.settings);
+    let logins = s4_run::open_logins(files, service.logins.as_str())?;
     let listener = TcpListener::bind(rt, service.address.as_str());
     let listener = listener.map_err(|_| Fault::CannotListen)?;
-    let clock = Stopwatch::start(rt);
-    serve_on(rt, service, &clock, &listener, &logins, output)
+    let clock = Stopwatch::start(rt, service.settings.first);
+    serve_on(rt, files, service, &clock, &listener, logins, output)
+}
+
+/// That nothing is there yet which ends the server.
+fn look<F: Files>(files: &F, until: Option<&str>) -> Result<(), Fault> {
+    match until.map(|path| fs::exists(files, path)) {
+        None | Some(Ok(false)) => Ok(()),
+        Some(Ok(true)) => Err(Fault::EndIsThere),
+        Some(Err(_)) => Err(Fault::CannotLook),
+    }
+}
+
+/// That the file in which the server tells of itself can be written: it is no folder, and one beside it can
+/// be made.
+fn try_status(files: &HostRuntime, path: Option<&str>) -> Result<(), Fault> {
+    let Some(path) = path else {
+        return Ok(());
+    };
+    let is_folder = fs::metadata(files, path).is_ok_and(|metadata| metadata.is_dir());
+    let beside = beside(files.alloc(), path)?;
+    let written = fs::write(files, beside.as_str(), "");
+    if is_folder || written.is_err() || fs::remove_file(files, beside.as_str()).is_err() {
+        return Err(Fault::CannotWriteFile(String::from_str(files.alloc(), path)?));
+    }
+    Ok(())
+}
+
+/// The path that is named, where one is.
+fn path_in(path: &Option<String>) -> Option<&str> {
+    path.as_ref().map(|path| path.as_str())
 }
 
 /// Serves the connections of the listener to the end of the service, and tells that it listens, and
 /// how many records there are at its end.
-pub fn serve_on<R: Net + Threads + Wait + Clock + Sync + AllocGlobal, C: Ticks, W: Write>(
+pub fn serve_on<R: Net + Threads + Wait + Clock + Eprint + Sync + AllocGlobal, C: Ticks, W: Write>(
     rt: &R,
+    files: &HostRuntime,
     service: &Service,
     clock: &C,
     listener: &TcpListener,
-    logins: &Logins,
+    logins: Logins,
     output: &mut W,
 ) -> Result<(), Fault>
     ensures told { OnOk result (TellsService (string_bytes service.now.address) (W.contents output.old) (W.contents output.new)) }
 {
-    let server = Server::open(rt, rt.alloc(), service.settings)?;
+    let mut server = Server::open(rt, rt.alloc(), service.settings)?;
+    setting_up::set_up(rt, files, &mut server, clock, path_in(&service.setup))?;
     tell_listening(output, service.address.as_str())?;
-    let closed = server.run(rt, clock, listener, logins)?;
+    let upkeep = upkeep_of(files, service);
+    let closed = server.run(rt, clock, &upkeep, listener, logins)?;
     tell_closed(output, closed.history.len())?;
     Ok(())
+}
+
+/// What the server looks after in files.
+fn upkeep_of<'a>(files: &'a HostRuntime, service: &'a Service) -> Upkeep<'a> {
+    Upkeep {
+        files,
+        until: path_in(&service.until),
+        logins: service.logins.as_str(),
+        reload: service.reload,
+        status: path_in(&service.status),
+    }
 }
 
 /// Writes where it listens, at once.

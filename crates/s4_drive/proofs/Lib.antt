@@ -8,3 +8,4 @@ pub mod Following
 pub mod Carried
 pub mod Isolated
 pub mod CutLimits
+pub mod Ready

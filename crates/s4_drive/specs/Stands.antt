@@ -1,8 +1,10 @@
 -- What a drive holds beside its state stands for its history: the window, and the ledger.
-use Rattle.std.specs.Prelude.{◌≡◌, ℕ, ◌+◌, ◌<◌, ◌≤◌, nat_lt, true, Option, Some, None, List, [], ◌∷◌, length, sum, sum_by, if◌then◌else◌}
+use Rattle.std.specs.Prelude.{◌≡◌, ℕ, ◌+◌, ◌<◌, ◌≤◌, nat_lt, true, Option, Some, None, List, [], ◌∷◌, length, sum, sum_by, vec_capacity, if◌then◌else◌}
+use Rattle.std.specs.Global.{Vec}
 use Rattle.std.specs.List.{AllByRecursion}
 use Rattle.std.specs.Option.{option_map}
 use Rattle.s4_types.specs.declared.object.Purse.{Purse}
+use Rattle.s4_types.specs.declared.readiness.Readiness.TheVariants.{ForEither}
 use Rattle.s4_types.specs.declared.record.Record.{Record}
 use Rattle.s4_types.specs.declared.request.Request.{Request}
 use Rattle.s4_types.specs.declared.request.Request.TheVariants.{SetBudget}
@@ -14,6 +16,8 @@ use Rattle.s4_types.specs.Play.{last_of}
 use Rattle.s4_ledger.specs.declared.accounts.Payer.{Payer}
 use Rattle.s4_ledger.specs.declared.charge.Charge.{Charge}
 use Rattle.s4_ledger.specs.Books as books
+use Rattle.s4_objects.specs.declared.flushes.Refund.{Refund}
+use Rattle.s4_types.specs.Log.{Log, base_of}
 use Rattle.s4_state.specs.Sound.{IsSound}
 use Rattle.s4_state.specs.Weights.{purse_weight}
 use Rattle.s4_drive.specs.declared.limits.Limits.{Limits}
@@ -40,6 +44,12 @@ pub record LimitsStand (base : Base) (h : List Record) (limits : Limits) : Type 
 pub record DriveStands (base : Base) (h : List Record) (spending : Limits) : Type 0 where
   pub sound : IsSound base h
   pub limits : LimitsStand base h spending
+
+-- beside its log the drive holds what stands for its history, and where it was made ready for either wide request there is
+-- room for a refund to each value that is held
+pub record DriveHolds (log : Log) (spending : Limits) (refunds : Vec Refund) : Type 0 where
+  pub stands : DriveStands (base_of log) log.history spending
+  pub room : log.ready ≡ ForEither → log.held ≤ vec_capacity refunds
 
 -- what the values cost that a request makes past
 abbrev pub costs_of : Past → List ℕ

@@ -12,7 +12,7 @@ use Rattle.s4_types.specs.Base.{Base}
 use Rattle.s4_types.specs.Answer.{answer}
 use Rattle.s4_types.specs.Play.{record_of, play, replies as replies_in, is_no_memory}
 use Rattle.s4_types.specs.Strike.{records_of, strike}
-use Rattle.s4_state.specs.Log.{Log, base_of, with_record}
+use Rattle.s4_types.specs.Log.{Log, base_of, with_record}
 
 -- the reply is the definition's answer, and its record is added
 pub record Answers (old new : Log) (t : ℕ) (caller : Caller) (request : Request) (reply : Reply) : Type 0 where

@@ -3,7 +3,8 @@
 ghost use Rattle.std.specs.Prelude.{◌≡◌, ◌≤◌};
 ghost use Rattle.s4_types.specs.Answer.{entry_read_by_user, entry_read_by_index, acl_set};
 ghost use Rattle.s4_types.specs.Play.{last_of};
-ghost use Rattle.s4_state.specs.Log.{base_of, IsTold};
+ghost use Rattle.s4_types.specs.Log.{base_of};
+ghost use Rattle.s4_state.specs.Told.{IsTold};
 
 use s4_acl::{by_index, entry_of, set};
 use s4_state::State;

@@ -3,7 +3,8 @@
 ghost use Rattle.std.specs.Prelude.{◌≡◌, ◌≤◌};
 ghost use Rattle.s4_types.specs.Answer.{attributes_read, attributes_set};
 ghost use Rattle.s4_types.specs.Play.{last_of};
-ghost use Rattle.s4_state.specs.Log.{base_of, IsTold};
+ghost use Rattle.s4_types.specs.Log.{base_of};
+ghost use Rattle.s4_state.specs.Told.{IsTold};
 ghost use Rattle.s4_drive.specs.Step.{IsOutcome};
 
 use crate::read::copied;

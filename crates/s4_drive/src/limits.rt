@@ -13,7 +13,7 @@ ghost use Rattle.s4_types.specs.Spending.{spent_at, budget_of, budget_by};
 ghost use Rattle.s4_ledger.specs.declared.accounts.Payer.{Payer};
 ghost use Rattle.s4_ledger.specs.Books as books;
 ghost use Rattle.s4_objects.specs.Flushes.{refunded};
-ghost use Rattle.s4_state.specs.Log.{base_of};
+ghost use Rattle.s4_types.specs.Log.{base_of};
 ghost use Rattle.s4_drive.specs.Stands.{LimitsStand, HasRoom, HasBudget, IsReady, Pays, ArePositive, above, charge_weight, charged, costs_of, paying};
 ghost use Rattle.s4_drive.specs.Step.{is_wanting};
 

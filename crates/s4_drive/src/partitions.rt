@@ -5,7 +5,8 @@ ghost use Rattle.s4_types.specs.Answer.{name_bound, name_unbound, names_listed, 
 ghost use Rattle.s4_types.specs.Judgement.{denied_absent};
 ghost use Rattle.s4_types.specs.declared.reply.Refusal.TheVariants as refusal;
 ghost use Rattle.s4_types.specs.Play.{last_of};
-ghost use Rattle.s4_state.specs.Log.{base_of, IsTold};
+ghost use Rattle.s4_types.specs.Log.{base_of};
+ghost use Rattle.s4_state.specs.Told.{IsTold};
 ghost use Rattle.s4_drive.specs.Step.{IsOutcome};
 
 use s4_state::State;

@@ -4,7 +4,7 @@ ghost use Rattle.std.specs.Prelude.{◌≡◌, ◌≤◌, ℕ, length, sum};
 ghost use Rattle.s4_types.specs.Answer.{made_past};
 ghost use Rattle.s4_types.specs.Play.{last_of};
 ghost use Rattle.s4_types.specs.Spending.{binding_cost as cost_of_binding};
-ghost use Rattle.s4_state.specs.Log.{base_of};
+ghost use Rattle.s4_types.specs.Log.{base_of};
 ghost use Rattle.s4_drive.specs.Stands.{ArePositive, costs_of};
 
 use s4_state::State;

@@ -3,7 +3,8 @@
 ghost use Rattle.std.specs.Prelude.{◌≡◌, ◌≤◌, take, drop, IfOk, IfErr};
 ghost use Rattle.s4_types.specs.Answer.{data_read};
 ghost use Rattle.s4_types.specs.Play.{last_of};
-ghost use Rattle.s4_state.specs.Log.{base_of, IsTold};
+ghost use Rattle.s4_types.specs.Log.{base_of};
+ghost use Rattle.s4_state.specs.Told.{IsTold};
 ghost use Rattle.s4_drive.specs.Step.{IsOutcome};
 
 use s4_state::State;

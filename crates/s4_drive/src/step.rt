@@ -5,7 +5,8 @@ ghost use Rattle.s4_types.specs.Answer.{answer as answer_of, outcome as outcome_
 ghost use Rattle.s4_types.specs.Horizon.{horizon_at};
 ghost use Rattle.s4_types.specs.Kinds.{at_of, is_wide};
 ghost use Rattle.s4_types.specs.Play.{last_of};
-ghost use Rattle.s4_state.specs.Log.{base_of, IsTold};
+ghost use Rattle.s4_types.specs.Log.{base_of};
+ghost use Rattle.s4_state.specs.Told.{IsTold};
 ghost use Rattle.s4_drive.specs.Stands.{LimitsStand};
 ghost use Rattle.s4_drive.specs.Step.{IsOutcome, is_wanting};
 

@@ -3,7 +3,7 @@
 ghost use Rattle.std.specs.Prelude.{◌≡◌, ◌≤◌};
 ghost use Rattle.s4_types.specs.Answer.{data_written};
 ghost use Rattle.s4_types.specs.Play.{last_of};
-ghost use Rattle.s4_state.specs.Log.{base_of};
+ghost use Rattle.s4_types.specs.Log.{base_of};
 
 use s4_state::State;
 use s4_store::Store;

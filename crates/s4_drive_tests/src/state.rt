@@ -1,6 +1,6 @@
 //! A state without records. The calls on one with records are tried through the drive.
 
-ghost use Rattle.s4_state.specs.Log.{fresh_log};
+ghost use Rattle.s4_types.specs.Log.{fresh_log};
 ghost use Rattle.std.specs.Prelude.{◌≡◌, []};
 
 use crate::given::{caller, object};

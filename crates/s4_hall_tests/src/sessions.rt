@@ -1,5 +1,5 @@
 use crate::stream::{CREATE, HELLO, LOGINS, READ, WRITE, logins};
-use s4_session::{Event, Fault, FeedError, Session};
+use s4_session::{Event, FeedError, Session, SessionFault};
 use std::alloc::Global;
 use std::test::Fail;
 
@@ -48,7 +48,7 @@ fn a_fault_closes_a_session(rt: HostRuntime) -> Result<(), Fail> {
     let mut session = Session::open(alloc);
     let events = session.feed(&logins, b"\x00\x00\x00\x00");
     assert!(rt;
-        matches!(&events, Ok(events) if matches!(events.as_slice(), [Event::Fault(Fault::FrameLength)]))
+        matches!(&events, Ok(events) if matches!(events.as_slice(), [Event::Fault(SessionFault::FrameLength)]))
     );
     let later = session.feed(&logins, HELLO);
     assert!(rt; matches!(&later, Err(FeedError::Closed)));

@@ -6,6 +6,8 @@
 #[cfg(test)]
 mod one_thread;
 #[cfg(test)]
+mod sleeping;
+#[cfg(test)]
 mod task;
 #[cfg(test)]
 mod threads;

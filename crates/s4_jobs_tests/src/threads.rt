@@ -17,15 +17,15 @@ const WORKERS: u64 = 2;
 
 /// A seat with its queue: the first puts, and each other works.
 #[derive(Drop)]
-struct Place<'a> {
-    jobs: &'a Jobs<Job<Task>>,
-    seat: Seat<Job<Task>>,
-    puts: bool,
+pub struct Place<'a> {
+    pub jobs: &'a Jobs<Job<Task>>,
+    pub seat: Seat<Job<Task>>,
+    pub puts: bool,
     ghost same: { seat.queue ≡ jobs.now.queue },
 }
 
 /// A place for each seat.
-fn places<'a>(
+pub fn places<'a>(
     alloc: Global,
     jobs: &'a Jobs<Job<Task>>,
     seats: Vec<Seat<Job<Task>>>,
@@ -44,7 +44,7 @@ fn places<'a>(
 }
 
 /// Puts a job, and tries again while the queue is full.
-fn put<R: Wait>(rt: &R, jobs: &Jobs<Job<Task>>, seat: &mut Seat<Job<Task>>, job: Job<Task>)
+pub fn put<R: Wait>(rt: &R, jobs: &Jobs<Job<Task>>, seat: &mut Seat<Job<Task>>, job: Job<Task>)
     requires { seat.old.queue ≡ jobs.now.queue }
     ensures { seat.new.queue ≡ seat.old.queue }
 {

@@ -26,7 +26,7 @@ module _ {V : Type 0} where
   erased-old c span [] f = f
   erased-old c span (u ∷ us) f = (f.0, f.1, erased-old c span us f.2)
 
-  flushed-old : (c : ℕ) (span : Option Span) (is_flushed : Bool) (us : List (Value V)) → Old c us → Old c (flushed_by span is_flushed us)
+  pub flushed-old : (c : ℕ) (span : Option Span) (is_flushed : Bool) (us : List (Value V)) → Old c us → Old c (flushed_by span is_flushed us)
   flushed-old c None is_flushed us f = f
   flushed-old c (Some span) true us f = erased-old c span us f
   flushed-old c (Some span) false us f = f

@@ -10,7 +10,7 @@ use Rattle.s4_types.specs.declared.record.Record.{Record}
 use Rattle.s4_types.specs.declared.reply.Refusal.TheVariants.{Flushed, TooLong, Exists, PartsFull, Named, NamesSpent}
 use Rattle.s4_types.specs.declared.reply.Reply.TheVariants.{Done, Made, Data, Attr, Mounted}
 use Rattle.s4_types.specs.declared.request.Request.{Request}
-use Rattle.s4_types.specs.declared.request.Request.TheVariants.{Create, Delete, Read, Write, Append, Truncate, GetAttr, SetAttr, GetAclByUser, GetAclByIndex, SetAcl, PCreate, PDelete, PList, PMount, Flush, FlushO, SetWindow, SetBudget, ReadAudit}
+use Rattle.s4_types.specs.declared.request.Request.TheVariants.{Create, Delete, Read, Write, Append, Truncate, GetAttr, SetAttr, GetAclByUser, GetAclByIndex, SetAcl, PCreate, PDelete, PList, PMount, ReadAudit}
 use Rattle.s4_laws.specs.Agree.{AgreeOn}
 use Rattle.s4_types.specs.Base.{Base}
 use Rattle.s4_types.specs.Names.{object_in}
@@ -110,11 +110,8 @@ by_kind-agree base t caller (PCreate name o) h k e = name_bound-agree base t cal
 by_kind-agree base t caller (PDelete purse name) h k e = name_unbound-agree base t caller purse name h k e
 by_kind-agree base t caller (PList range after at) h k e = absurd e
 by_kind-agree base t caller (PMount purse name at) h k e = name_mounted-agree base t caller purse name at h k e
-by_kind-agree base t caller (Flush from to) h k e = refl
-by_kind-agree base t caller (FlushO o from to) h k e = refl
-by_kind-agree base t caller (SetWindow ticks) h k e = refl
-by_kind-agree base t caller (SetBudget purse budget) h k e = refl
 by_kind-agree base t caller (ReadAudit range skip) h k e = absurd e
+by_kind-agree base t caller _ h k e = refl
 
 -- CHARGES
 

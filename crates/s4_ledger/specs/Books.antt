@@ -1,5 +1,5 @@
 -- What a ledger tells: the charges that count, what they sum up to, and the budgets.
-use Rattle.std.specs.Prelude.{◌≡◌, ℕ, suc, Bool, nat_lt, Option, Some, None, List, [], ◌∷◌, sum_by, filter, unwrap_or, is_some, if◌then◌else◌}
+use Rattle.std.specs.Prelude.{◌≡◌, ℕ, suc, Bool, true, false, nat_lt, Option, Some, None, List, [], ◌∷◌, sum_by, filter, unwrap_or, is_some, if◌then◌else◌}
 use Rattle.std.specs.Map.{lookup, keys_of}
 use Rattle.std.specs.Option.{option_map}
 use Rattle.std.specs.BTreeMap.{is_at}
@@ -51,3 +51,12 @@ place_of purse budgets = place_among purse (keys_of budgets)
 -- the payer's account is in its place
 abbrev pub HasAccount : Payer → List (Purse × ℕ) → Type 0
 HasAccount payer budgets = place_of payer.purse budgets ≡ Some payer.place
+
+-- no account is opened but the purse's, each that was there stays in its place, and neither the charges nor their room are changed
+pub record OpensAccount (purse : Purse) (before after : Books) : Type 0 where
+  pub accounts : (p : Purse) → has_budget p before.budgets ≡ true → has_budget p after.budgets ≡ true
+  pub others : (p : Purse) → same_purse purse p ≡ false → has_budget p after.budgets ≡ has_budget p before.budgets
+  pub places : (p : Payer) → HasAccount p before.budgets → HasAccount p after.budgets
+  pub horizon : after.horizon ≡ before.horizon
+  pub charges : after.charges ≡ before.charges
+  pub room : after.room ≡ before.room

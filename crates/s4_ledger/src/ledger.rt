@@ -1,11 +1,11 @@
 //! What the past of each purse costs, and what each purse may spend on it.
 
-ghost use Rattle.std.specs.Prelude.{◌≡◌, ◌+◌, ◌<◌, ◌≤◌, ◌↔◌, [], ◌∷◌, Contains, IfOk, OnOk, OnErr, IsOk, IsTrue, true, false, if◌then◌else◌};
+ghost use Rattle.std.specs.Prelude.{◌≡◌, ◌+◌, ◌<◌, ◌≤◌, ◌↔◌, [], ◌∷◌, Contains, IfOk, OnOk, OnErr, IsOk, IsTrue, true, if◌then◌else◌};
 ghost use Rattle.std.specs.List.Sorted.{IsPermutation};
 ghost use Rattle.s4_types.specs.declared.object.Purse.{Purse};
 ghost use Rattle.s4_types.specs.Names.{same_purse};
 ghost use Rattle.s4_ledger.specs.declared.accounts.Payer.{Payer};
-ghost use Rattle.s4_ledger.specs.Books.{spending, lasting, budget_of, has_budget, HasAccount};
+ghost use Rattle.s4_ledger.specs.Books.{spending, lasting, budget_of, has_budget, HasAccount, OpensAccount};
 
 use crate::accounts::{Accounts, Payer};
 use crate::charge::{Charge, Entry};
@@ -88,17 +88,9 @@ impl Ledger {
         ensures ok { OnOk result (has_budget purse.now self.new.budgets ≡ true) }
         ensures there { has_budget purse.now self.old.budgets ≡ true → IsOk result }
         ensures err { OnErr result (self.new.budgets ≡ self.old.budgets) }
+        ensures opens { OpensAccount purse.now self.old self.new }
         ensures budgets { (p : Purse) → budget_of p self.new.budgets
             ≡ budget_of p self.old.budgets }
-        ensures accounts { (p : Purse) → has_budget p self.old.budgets ≡ true
-            → has_budget p self.new.budgets ≡ true }
-        ensures others { (p : Purse) → same_purse purse.now p ≡ false
-            → has_budget p self.new.budgets ≡ has_budget p self.old.budgets }
-        ensures places { (p : Payer) → HasAccount p self.old.budgets
-            → HasAccount p self.new.budgets }
-        ensures horizon { self.new.horizon ≡ self.old.horizon }
-        ensures charges { self.new.charges ≡ self.old.charges }
-        ensures room { self.new.room ≡ self.old.room }
     {
         self.accounts.open(purse)
     }
@@ -229,18 +221,10 @@ impl Ledger {
     pub fn set_budget(&mut self, purse: &Purse, budget: u32) -> Result<(), NoMemory>
         ensures room { has_budget purse.now self.old.budgets ≡ true → IsOk result }
         ensures set { OnOk result (has_budget purse.now self.new.budgets ≡ true) }
+        ensures err { OnErr result (self.new.budgets ≡ self.old.budgets) }
+        ensures opens { OpensAccount purse.now self.old self.new }
         ensures ok { OnOk result ((p : Purse) → budget_of p self.new.budgets
             ≡ (if same_purse purse.now p then budget else budget_of p self.old.budgets)) }
-        ensures err { OnErr result (self.new.budgets ≡ self.old.budgets) }
-        ensures accounts { (p : Purse) → has_budget p self.old.budgets ≡ true
-            → has_budget p self.new.budgets ≡ true }
-        ensures others { (p : Purse) → same_purse purse.now p ≡ false
-            → has_budget p self.new.budgets ≡ has_budget p self.old.budgets }
-        ensures places { (p : Payer) → HasAccount p self.old.budgets
-            → HasAccount p self.new.budgets }
-        ensures horizon { self.new.horizon ≡ self.old.horizon }
-        ensures charges { self.new.charges ≡ self.old.charges }
-        ensures reserved { self.new.room ≡ self.old.room }
     {
         let payer = self.accounts.open(purse)?;
         self.accounts.set_budget(&payer, budget);

@@ -6,7 +6,8 @@ use Rattle.s4_types.specs.declared.record.Record.{Record}
 use Rattle.s4_types.specs.Audit.{is_wide_record}
 use Rattle.s4_types.specs.Kinds.{range_of}
 use Rattle.s4_types.specs.Play.{InOrder}
-use Rattle.s4_state.specs.Log.{Log}
+use Rattle.s4_types.proofs.InTime.{order-between}
+use Rattle.s4_types.specs.Log.{Log}
 use Rattle.s4_calls.specs.Calls.{Call, CallList}
 use Rattle.s4_merge.specs.Merged.{IsMergeOf, AreHome, no_state}
 use Rattle.s4_merge_laws.specs.Cells.{is_in_cell, records_in}
@@ -104,18 +105,6 @@ call_stands cells ps all i c merge match some e =
     let s = stands n k 0 all c.receipt.place (record_of c) (ap (λ l. slice_get l c.receipt.place) (merge k no_state (home_in n c some)) ∙ r) in
     ap (λ (q : ℕ). slice_get all q) (s.1 ∙ zero_more s.0) ∙ s.2
 
-rises_above : (m : ℕ) (xs : List Record) (p : ℕ) (r : Record) → InOrder m xs → slice_get xs p ≡ Some r → m ≤ r.moment
-rises_above m [] p r h e = cc
-rises_above m (x ∷ xs) zero r h e = let same : x ≡ r = cc in rw (← same) h.0
-rises_above m (x ∷ xs) (suc p) r h e = let more = rises_above x.moment xs p r h.1 e in omega (arith, h.0)
-
-rises_later : (m : ℕ) (xs : List Record) (p q : ℕ) (r s : Record) → InOrder m xs → slice_get xs p ≡ Some r → slice_get xs q ≡ Some s → p ≤ q → r.moment ≤ s.moment
-rises_later m [] p q r s h e f le = cc
-rises_later m (x ∷ xs) zero zero r s h e f le = let same : r ≡ s = cc in rw same (omega arith)
-rises_later m (x ∷ xs) zero (suc q) r s h e f le = let same : x ≡ r = cc in rw (← same) (rises_above x.moment xs q s h.1 f)
-rises_later m (x ∷ xs) (suc p) zero r s h e f le = absurd (omega arith)
-rises_later m (x ∷ xs) (suc p) (suc q) r s h e f le = rises_later x.moment xs p q r s h.1 e f (omega arith)
-
 -- the one with the smaller moment stands first
 pub earlier_first : (all : List Record) (p q : ℕ) (r s : Record) → InOrder 0 all → slice_get all p ≡ Some r → slice_get all q ≡ Some s → r.moment < s.moment → p < q
-earlier_first all p q r s rises e f lt = let back : q ≤ p → s.moment ≤ r.moment = λ le. rises_later 0 all q p s r rises f e le in grind arith
+earlier_first all p q r s rises e f lt = let back : q ≤ p → s.moment ≤ r.moment = λ le. order-between 0 all q p s r rises f e le in grind arith

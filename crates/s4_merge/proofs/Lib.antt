@@ -1,4 +1,3 @@
-pub mod Snoc
 pub mod Steps
 pub mod Ascending
 pub mod Claiming
@@ -6,7 +5,3 @@ pub mod Ordering
 pub mod Wides
 pub mod Closing
 pub mod Transfer
-pub mod SameRights
-pub mod SameRefusals
-pub mod SameRequests
-pub mod SameReplies

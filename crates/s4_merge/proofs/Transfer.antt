@@ -5,7 +5,7 @@ use Rattle.std.proofs.lemmas.Bool.{eqb-true, true≢false}
 use Rattle.s4_types.specs.declared.record.Record.{Record}
 use Rattle.s4_types.specs.Audit.{is_wide_record}
 use Rattle.s4_types.specs.Kinds.{range_of}
-use Rattle.s4_state.specs.Log.{Log}
+use Rattle.s4_types.specs.Log.{Log}
 use Rattle.s4_calls.specs.Calls.{Call, CallList}
 use Rattle.s4_merge.specs.Merged.{wide_records, IsMergeOf, no_state}
 use Rattle.s4_merge_laws.specs.Cells.{is_in_cell, records_in}

@@ -4,7 +4,7 @@ use Rattle.s4_types.specs.declared.principal.Caller.{Caller}
 use Rattle.s4_types.specs.declared.request.Request.{Request}
 use Rattle.s4_types.specs.Audit.{is_wide_record}
 use Rattle.s4_types.specs.Kinds.{is_wide, range_of}
-use Rattle.s4_state.specs.Log.{Log}
+use Rattle.s4_types.specs.Log.{Log}
 use Rattle.s4_calls.specs.Calls.{Call, CallList}
 
 -- the record that a call's receipt speaks of

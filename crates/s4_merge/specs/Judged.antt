@@ -1,5 +1,5 @@
 use Rattle.std.specs.Prelude.{ℕ, List}
-use Rattle.s4_state.specs.Log.{Log}
+use Rattle.s4_types.specs.Log.{Log}
 use Rattle.s4_calls.specs.Calls.{CallList}
 use Rattle.s4_merge.specs.declared.judging.Verdict.{Verdict}
 use Rattle.s4_merge.specs.declared.judging.Verdict.TheVariants.{Whole, Torn, Stray, NoMemory}

@@ -4,7 +4,7 @@ use Rattle.s4_types.specs.Audit.{is_wide_record}
 use Rattle.s4_types.specs.Play.{play, InOrder}
 use Rattle.s4_types.specs.Base.{opened}
 use Rattle.s4_types.specs.Strike.{strike, records_of}
-use Rattle.s4_state.specs.Log.{Log}
+use Rattle.s4_types.specs.Log.{Log}
 use Rattle.s4_calls.specs.Calls.{Call, CallList}
 use Rattle.s4_merge.specs.Merged.{IsMergeOf}
 use Rattle.s4_merge_laws.specs.Cells.{is_in_cell, requests_in, IsPlain}

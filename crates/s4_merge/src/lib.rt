@@ -6,7 +6,6 @@ mod judging;
 mod matching;
 mod merge;
 mod order;
-mod same;
 mod torn;
 
 pub use judging::{Verdict, judge};

@@ -4,7 +4,6 @@ ghost use Rattle.std.specs.Prelude.{◌≡◌, ◌<◌, ◌++◌, ◌∷◌, [],
 ghost use Rattle.s4_calls.specs.Calls.{Call, call_of};
 ghost use Rattle.s4_merge.specs.Claims.{home_of as number_of_home, Matches, Claimed, record_of, all_calls, AllMatch, AllClaimed, OneUnclaimed, NoneClaimed};
 
-use crate::same::is_record_of;
 use s4_calls::{Asked, Pass, Receipt};
 use s4_cells::Cell;
 use s4_types::{Caller, NoMemory, Record, Request};
@@ -20,6 +19,16 @@ fn home_of(n: usize, caller: &Caller, request: &Request) -> usize
     } else {
         request.range(caller).number() as usize % n
     }
+}
+
+/// Whether the record is that of the call.
+fn is_record_of(found: &Record, asked: &Asked, receipt: &Receipt) -> bool
+    ensures { IsTrue result ↔ (found.now ≡ record_of (call_of asked.now receipt.now)) }
+{
+    found.moment == receipt.moment
+        && found.caller == asked.caller
+        && found.request.is_same(&asked.request)
+        && found.reply.is_same(&receipt.reply)
 }
 
 /// Whether the record at a place is that of the call.

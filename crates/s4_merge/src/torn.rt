@@ -3,7 +3,6 @@
 ghost use Rattle.std.specs.Prelude.{◌≡◌, ◌<◌, ◌≤◌, [], length, drop, MatchBool, MatchOption};
 ghost use Rattle.s4_merge.specs.Merged.{wide_records, HaveSameWides, AreWhole, HaveWindow, IsNextWide, IsNotNext, IsPassed};
 
-use crate::same::is_same;
 use s4_cells::Cell;
 use s4_types::Record;
 
@@ -26,7 +25,7 @@ fn go_past(found: &Record, history: &[Record], from: usize) -> Option<usize>
     ensures { MatchOption result (IsNotNext history.now from found.now) (λ y. IsPassed history.now from found.now y) }
 {
     let j = next_wide(history, from)?;
-    if !is_same(&history[j], found) {
+    if !history[j].is_same(found) {
         return None;
     }
     Some(j + 1)

@@ -1,5 +1,5 @@
 -- How many names are bound, and whether one is bound to an object.
-use Rattle.std.proofs.Common.{◌≡◌, ℕ, ◌+◌, Bool, true, false, cond, Option, Some, None, List, [], ◌∷◌, refl, sym, ◌∙◌, ap, subst, arith, length, filter}
+use Rattle.std.proofs.Common.{◌≡◌, ℕ, ◌+◌, Bool, true, false, Option, Some, None, List, [], ◌∷◌, refl, sym, ◌∙◌, ap, subst, arith, length}
 use Rattle.std.specs.Prelude.{◌==◌, ◌||◌, is_some, nat_lt, count_by}
 use Rattle.std.specs.List.{list_any}
 use Rattle.s4_types.specs.declared.object.Purse.{Purse}
@@ -11,17 +11,7 @@ use Rattle.s4_types.proofs.Booleans.{by_test}
 use Rattle.s4_store.specs.Chains.{Chains}
 use Rattle.s4_parts.specs.declared.parts.Parts.{Parts}
 use Rattle.s4_parts.specs.Table.{shelf_of, chain_on, names_on, serials_on, bindings_in, names_in, is_any, passes, serial_now, Holds}
-use Rattle.s4_parts.proofs.Ordered.{tally, count-cons}
-
--- those that a second test leaves out fail the first
-pub count-filter : {A : Type 0} (p q : A → Bool) → ((x : A) → q x ≡ false → p x ≡ false) → (xs : List A) → count_by p (filter q xs) ≡ count_by p xs
-count-filter p q fails [] = refl
-count-filter p q fails (x ∷ xs) = by_test (q x)
-    (λ e. ap (λ b. count_by p (cond b (x ∷ filter q xs) (filter q xs))) e ∙ count-cons p x (filter q xs) ∙ ap (λ n. tally (p x) + n) (count-filter p q fails xs) ∙ sym (count-cons p x xs))
-    (λ e. let none : tally (p x) ≡ 0 = ap tally (fails x e) in
-    let more : count_by p (x ∷ xs) ≡ tally (p x) + count_by p xs = count-cons p x xs in
-    let same : count_by p (x ∷ xs) ≡ count_by p xs = omega arith in
-    ap (λ b. count_by p (cond b (x ∷ filter q xs) (filter q xs))) e ∙ count-filter p q fails xs ∙ sym same)
+use Rattle.s4_types.proofs.Ordered.{tally, count-cons, count-filter}
 
 pub any-count : {A : Type 0} (p : A → Bool) (xs : List A) → list_any p xs ≡ nat_lt 0 (count_by p xs)
 any-count p [] = refl
@@ -59,13 +49,13 @@ module _ {chains : Chains Version} (parts : Parts) (s : Holds chains parts) (p :
   count-bound =
       sym (count-all (serials_on (shelf_of parts p))) ∙ s.known p (λ y. true)
       ∙ ap (λ f. count_by f (names_on (shelf_of parts p))) (λ i n. passes-all (serial_now (bindings_in chains parts p n)) i)
-      ∙ sym (count-filter (λ n. is_some (serial_now (bindings_in chains parts p n))) (λ n. is_any (bindings_in chains parts p n)) (λ n e. none-fails is_some refl (bindings_in chains parts p n) e) (names_on (shelf_of parts p)))
+      ∙ sym (count-filter (λ n. is_some (serial_now (bindings_in chains parts p n))) (λ n. is_any (bindings_in chains parts p n)) (names_on (shelf_of parts p)) (λ n e. none-fails is_some refl (bindings_in chains parts p n) e))
 
   pub any-bound : (serial : ℕ) → list_any (λ y. y == serial) (serials_on (shelf_of parts p)) ≡ list_any (λ n. is_serial serial (serial_now (bindings_in chains parts p n))) (names_in chains parts p)
   any-bound serial =
       any-count (λ y. y == serial) (serials_on (shelf_of parts p)) ∙ ap (nat_lt 0) (s.known p (λ y. y == serial)
       ∙ ap (λ f. count_by f (names_on (shelf_of parts p))) (λ i n. passes-one serial (serial_now (bindings_in chains parts p n)) i)
-      ∙ sym (count-filter (λ n. is_serial serial (serial_now (bindings_in chains parts p n))) (λ n. is_any (bindings_in chains parts p n)) (λ n e. none-fails (is_serial serial) refl (bindings_in chains parts p n) e) (names_on (shelf_of parts p))))
+      ∙ sym (count-filter (λ n. is_serial serial (serial_now (bindings_in chains parts p n))) (λ n. is_any (bindings_in chains parts p n)) (names_on (shelf_of parts p)) (λ n e. none-fails (is_serial serial) refl (bindings_in chains parts p n) e)))
       ∙ sym (any-count (λ n. is_serial serial (serial_now (bindings_in chains parts p n))) (names_in chains parts p))
 
 -- a table without shelves

@@ -1,6 +1,6 @@
 -- One more of the bindings that wait is gone.
-use Rattle.std.proofs.Common.{◌≡◌, ℕ, ◌+◌, true, false, Some, List, ◌∷◌, refl, sym, ◌∙◌, ap, subst, arith, filter, drop}
-use Rattle.std.specs.Prelude.{◌&&◌, if◌then◌else◌}
+use Rattle.std.proofs.Common.{◌≡◌, ℕ, ◌+◌, true, false, Option, Some, None, List, ◌∷◌, refl, sym, ◌∙◌, ap, subst, arith, filter, drop}
+use Rattle.std.specs.Prelude.{◌&&◌, is_some, if◌then◌else◌}
 use Rattle.std.specs.Option.{option_map}
 use Rattle.std.proofs.lemmas.List.{drop-drop}
 use Rattle.s4_types.specs.declared.object.ObjectId.{ObjectId}
@@ -8,25 +8,27 @@ use Rattle.s4_types.specs.declared.object.Purse.{Purse}
 use Rattle.s4_types.specs.declared.version.Version.{Version}
 use Rattle.s4_types.specs.Names.{same_purse}
 use Rattle.s4_types.specs.Name.{same_name}
-use Rattle.s4_types.proofs.Booleans.{by_test}
+use Rattle.s4_types.proofs.Booleans.{by_test, not_both}
 use Rattle.s4_types.proofs.SameNames.{purse_self, name_self}
 use Rattle.s4_store.specs.Chains.{Chains, item_count}
 use Rattle.s4_tracks.specs.Swept.{IsSwept}
 use Rattle.s4_tracks.proofs.Sweeping.{swept_none, swept_through, swept_current}
 use Rattle.s4_parts.specs.declared.ends.Ended.{Ended}
 use Rattle.s4_parts.specs.declared.parts.Parts.{Parts}
-use Rattle.s4_parts.specs.Table.{shelf_of, names_on, chain_at, bindings_in, names_in, is_any, object_of, serial_now, IsForeign, KeepsForeign, LeavesNoChain}
+use Rattle.s4_parts.specs.Table.{shelf_of, names_on, chain_at, bindings_in, names_in, is_any, object_of, serial_now, IsForeign, KeepsForeign, LeavesNoChain, GivesUpEmpty}
 use Rattle.s4_parts.specs.Waiting.{is_of, ends_of, is_gone, IsRising, HasEnds, waiting_in, bound_in, Waits, Sweeps}
 use Rattle.s4_parts.proofs.Queueing.{freed-has, freed-any, freed-swept}
-use Rattle.s4_parts.proofs.Freeing.{filter-filter, any-drop}
+use Rattle.s4_types.proofs.Ordered.{filter-twice}
+use Rattle.s4_parts.proofs.Freeing.{any-drop}
 
 -- nothing is gone
 pub sweeps-none : (hz : ℕ) (chains : Chains Version) (parts : Parts) → Sweeps hz chains chains parts parts 0
 sweeps-none hz chains parts = record {
   waiting = refl;
   bindings = λ p n. swept_none hz (bindings_in chains parts p n);
-  names = λ p. sym (filter-filter (λ n. is_any (bindings_in chains parts p n)) (λ n. is_any (bindings_in chains parts p n)) (λ n e. e) (names_on (shelf_of parts p)));
+  names = λ p. sym (filter-twice (λ n. is_any (bindings_in chains parts p n)) (λ n. is_any (bindings_in chains parts p n)) (names_on (shelf_of parts p)) (λ n e. e));
   own = λ p n c got. got;
+  given_up = λ p n had there. had;
   others = record { still = λ c open' foreign. open'; items = λ c open' foreign. refl };
   leaves = λ c open' foreign. (open', foreign);
   used = omega arith;
@@ -84,13 +86,14 @@ module _ (hz : ℕ) {chains : Chains Version} {before : Parts} (new : Chains Ver
   pub sweeps-more : (first : Chains Version) (start : Parts) (k : ℕ) (s : Sweeps hz first chains start before k)
       → ((q : Purse) → names_in new after q ≡ filter (λ m. is_any (bindings_in new after q m)) (names_in chains before q))
       → ((q : Purse) (m : List ℕ) (c : ℕ) → chain_at after q m ≡ Some c → chain_at before q m ≡ Some c)
-      → KeepsForeign chains new before → LeavesNoChain chains new before after → item_count new + 1 ≡ item_count chains → Sweeps hz first new start after (k + 1)
-  sweeps-more first start k s names own others leaves used = record {
+      → GivesUpEmpty chains new before after → KeepsForeign chains new before → LeavesNoChain chains new before after → item_count new + 1 ≡ item_count chains → Sweeps hz first new start after (k + 1)
+  sweeps-more first start k s names own given others leaves used = record {
     waiting = ap (drop 1) (sym is) ∙ ap (drop 1) s.waiting ∙ drop-drop 1 k (waiting_in start);
     bindings = λ q m. swept_through hz (bindings_in new after q m) (bindings_in chains before q m) (bindings_in first start q m) (swept-one q m) (s.bindings q m);
     names = λ q. names q ∙ ap (filter (λ m. is_any (bindings_in new after q m))) (s.names q)
-        ∙ filter-filter (λ m. is_any (bindings_in new after q m)) (λ m. is_any (bindings_in chains before q m)) (none-drained q) (names_in first start q);
+        ∙ filter-twice (λ m. is_any (bindings_in new after q m)) (λ m. is_any (bindings_in chains before q m)) (names_in first start q) (none-drained q);
     own = λ q m c got. s.own q m c (own q m c got);
+    given_up = λ q m had there. given q m (s.given_up q m had (chain-was q m (chain_at after q m) refl there)) there;
     others = record {
       still = λ c open' foreign. others.still c (s.others.still c open' foreign) (still-foreign c foreign);
       items = λ c open' foreign. others.items c (s.others.still c open' foreign) (still-foreign c foreign) ∙ s.others.items c open' foreign;
@@ -99,5 +102,9 @@ module _ (hz : ℕ) {chains : Chains Version} {before : Parts} (new : Chains Ver
     used = let before' = s.used in omega arith;
   }
     where
+      chain-was : (q : Purse) (m : List ℕ) (f : Option ℕ) → chain_at after q m ≡ f → is_some f ≡ true → is_some (chain_at before q m) ≡ true
+      chain-was q m None got there = absurd (not_both _ there refl)
+      chain-was q m (Some c) got there = ap is_some (own q m c got)
+
       still-foreign : (c : ℕ) → IsForeign start c → IsForeign before c
       still-foreign c foreign q m got = foreign q m (s.own q m c got)

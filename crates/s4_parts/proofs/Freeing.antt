@@ -19,20 +19,13 @@ use Rattle.s4_store.specs.Chains.{Chains, items_of, IsOpen}
 use Rattle.s4_store.specs.Laws.{items_here, items_elsewhere, open_still, items_elsewhere-remove, open_elsewhere-remove}
 use Rattle.s4_parts.specs.declared.parts.Parts.{Parts}
 use Rattle.s4_parts.specs.declared.shelf.Shelf.{Shelf}
-use Rattle.s4_parts.specs.Table.{shelf_of, chain_at, chain_on, names_on, serials_on, items_on, bindings_in, names_in, is_any, serial_now, passes, HoldsFor, Holds, IsForeign, KeepsForeign, LeavesNoChain}
+use Rattle.s4_parts.specs.Table.{shelf_of, chain_at, chain_on, names_on, serials_on, items_on, bindings_in, names_in, is_any, serial_now, passes, HoldsFor, Holds, IsForeign, KeepsForeign, LeavesNoChain, GivesUpEmpty}
 use Rattle.s4_parts.specs.Shelf.{KeepsName, GivesUp, Frees}
-use Rattle.s4_parts.proofs.Ordered.{tally}
+use Rattle.s4_types.proofs.Ordered.{tally, filter-twice}
 use Rattle.s4_parts.proofs.Shelving.{alike, shelf-here, shelf-there, found-at, named-on}
 use Rattle.s4_parts.proofs.Leaving.{open-changed, open-removed}
 use Rattle.s4_parts.proofs.Standing.{changed-at, holds-changed}
 use Rattle.s4_parts.proofs.Rebinding.{moved}
-
--- those that pass the stricter of two tests
-pub filter-filter : {A : Type 0} (p q : A → Bool) → ((x : A) → q x ≡ false → p x ≡ false) → (xs : List A) → filter p (filter q xs) ≡ filter p xs
-filter-filter p q fails [] = refl
-filter-filter p q fails (x ∷ xs) = by_test (q x)
-    (λ e. ap (λ b. filter p (cond b (x ∷ filter q xs) (filter q xs))) e ∙ ap (λ ys. cond (p x) (x ∷ ys) ys) (filter-filter p q fails xs))
-    (λ e. ap (λ b. filter p (cond b (x ∷ filter q xs) (filter q xs))) e ∙ filter-filter p q fails xs ∙ sym (ap (λ b. cond b (x ∷ filter p xs) (filter p xs)) (fails x e)))
 
 pub any-drop : (vs : List Version) → is_any vs ≡ false → is_any (drop 1 vs) ≡ false
 any-drop [] e = refl
@@ -246,10 +239,20 @@ module _ (chains new : Chains Version) (before after : Parts) (s : Holds chains 
   freed-names q =
       by_test (is_any left) (λ e. kept-names (g.kept e) q) (λ e. gone-names (g.given e) e q)
       ∙ ap (λ f. filter f (names_on (shelf_of before q))) (λ i m. is_any (sym (freed-mid q m) i))
-      ∙ sym (filter-filter (λ m. is_any (bindings_in new after q m)) (λ m. is_any (bindings_in chains before q m)) (freed-none q) (names_on (shelf_of before q)))
+      ∙ sym (filter-twice (λ m. is_any (bindings_in new after q m)) (λ m. is_any (bindings_in chains before q m)) (names_on (shelf_of before q)) (freed-none q))
 
   pub freed-own : (q : Purse) (m : List ℕ) (d : ℕ) → chain_at after q m ≡ Some d → chain_at before q m ≡ Some d
   freed-own q m d got = by_test (is_any left) (λ e. sym (own-kept (g.kept e) q m) ∙ got) (λ e. gone-own (g.given e) e q m d got)
+
+  -- a name without bindings left has no chain
+  pub freed-empty : GivesUpEmpty chains new before after
+  freed-empty q m had there = ap is_any (freed-bindings q m) ∙ by_test (same_purse purse q && same_name name m)
+      (λ e. ap (λ b. is_any (if b then drop 1 (bindings_in chains before q m) else bindings_in chains before q m)) e
+      ∙ (let parts = both (same_purse purse q) (same_name name m) e in
+      subst (λ x. is_any (drop 1 (bindings_in chains before x m)) ≡ true) (purse_is purse q parts.0) (subst (λ y. is_any (drop 1 (bindings_in chains before purse y)) ≡ true) (name_is name m parts.1)
+      (ap (λ vs. is_any (drop 1 vs)) old-here ∙ by_test (is_any left) (λ f. f) (λ f. absurd (not_both _ there (ap is_some (chains-gone (g.given f) f q m ∙ ap (λ b. if b then None else chain_at before q m) e)))))))
+      )
+      (λ e. ap (λ b. is_any (if b then drop 1 (bindings_in chains before q m) else bindings_in chains before q m)) e ∙ had)
 
   foreign-differs : (d : ℕ) → IsForeign before d → (d == g.chain) ≡ false
   foreign-differs d foreign = by_test (d == g.chain)

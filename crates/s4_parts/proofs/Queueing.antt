@@ -12,7 +12,7 @@ use Rattle.s4_tracks.specs.Swept.{IsSwept}
 use Rattle.s4_parts.specs.declared.ends.Ended.{Ended}
 use Rattle.s4_parts.specs.Table.{is_any, object_of, serial_now}
 use Rattle.s4_parts.specs.Waiting.{is_of, ends_of, is_gone, all_by, IsRising, IsBound, HasEnds}
-use Rattle.s4_parts.proofs.Ordered.{tally, count-cons}
+use Rattle.s4_types.proofs.Ordered.{tally, count-cons}
 
 -- IN ORDER
 

@@ -24,7 +24,7 @@ use Rattle.s4_tracks.proofs.Ending.{with_end-snoc}
 use Rattle.s4_parts.specs.declared.parts.Parts.{Parts}
 use Rattle.s4_parts.specs.declared.shelf.Shelf.{Shelf}
 use Rattle.s4_parts.specs.Table.{shelf_of, chain_at, chain_on, names_on, serials_on, items_on, bindings_in, names_in, is_any, object_of, serial_now, passes, binding, HoldsFor, Holds, KeepsOthers}
-use Rattle.s4_parts.proofs.Ordered.{tally}
+use Rattle.s4_types.proofs.Ordered.{tally}
 use Rattle.s4_parts.proofs.Counting.{any-count}
 use Rattle.s4_parts.proofs.Shelving.{alike, any-at, count-more, count-less}
 use Rattle.s4_parts.proofs.Standing.{changed-at, names-more, names-same, holds-changed}

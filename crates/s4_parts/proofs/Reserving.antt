@@ -10,9 +10,9 @@ use Rattle.s4_store.specs.Chains.{Chains, items_of, item_count, IsOpen, StillOpe
 use Rattle.s4_store.specs.Counts.{item_count-open}
 use Rattle.s4_parts.specs.declared.parts.Parts.{Parts}
 use Rattle.s4_parts.specs.declared.shelf.Shelf.{Shelf}
-use Rattle.s4_parts.specs.Table.{shelf_of, chain_at, chain_on, names_on, serials_on, items_on, bindings_in, names_in, is_any, Holds, HasRoom, LeavesNoChain, OpensFor}
+use Rattle.s4_parts.specs.Table.{shelf_of, chain_at, chain_on, names_on, serials_on, items_on, bindings_in, names_in, is_any, Holds, HasRoom, KeepsChains, LeavesNoChain, OpensFor}
 use Rattle.s4_parts.specs.Shelf.{Grows, with_chain}
-use Rattle.s4_parts.proofs.Shelving.{shelf-here, named-on, grown-chains, grown-names, grown-sorted, grown-serials}
+use Rattle.s4_parts.proofs.Shelving.{shelf-here, named-on, alike, grown-chains, grown-names, grown-sorted, grown-serials}
 use Rattle.s4_parts.proofs.Standing.{items-kept, still-open, bindings-kept, own-old, own-kept, there-are, leaves-opened, names-kept, holds-opened}
 use Rattle.s4_parts.proofs.Rebinding.{moved}
 
@@ -62,6 +62,10 @@ module _ (chains new : Chains Version) (before mid after : Parts) (s : Holds cha
       of : (f : Option ℕ) → chain_at mid q n ≡ f → is_some (chain_at after q n) ≡ true
       of None got = let none : is_some (chain_at before q n) ≡ false = ap is_some (sym (chains-are q n) ∙ got) in cc
       of (Some c) got = ap is_some (own-kept at-mid purse name g.fresh g.unopened new g.opened (chain_at after) (grown-chains mid after purse shelf w found replaced chains new name g) q n c got)
+
+  -- where the shelf gave the name none
+  pub reserved-none : ((n : List ℕ) → chain_on (Some w) n ≡ chain_on (Some shelf) n) → KeepsChains before after
+  reserved-none same p n = alike mid after purse shelf w found replaced (λ x. chain_on x n) (same n) p ∙ chains-are p n
 
   pub reserved-leaves : LeavesNoChain chains new before after
   reserved-leaves c open' foreign =

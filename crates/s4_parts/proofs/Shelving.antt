@@ -20,7 +20,7 @@ use Rattle.s4_parts.specs.declared.parts.Parts.{Parts}
 use Rattle.s4_parts.specs.declared.shelf.Shelf.{Shelf}
 use Rattle.s4_parts.specs.Table.{shelf_of, chain_at, chain_on, names_on, serials_on}
 use Rattle.s4_parts.specs.Shelf.{or_else, Grows}
-use Rattle.s4_parts.proofs.Ordered.{tally, count-cons}
+use Rattle.s4_types.proofs.Ordered.{tally, count-cons}
 
 -- a name has a chain just where it is among the names
 pub named-on : (shelf : Option Shelf) (n : List ℕ) → is_some (chain_on shelf n) ≡ list_any (same_name n) (names_on shelf)

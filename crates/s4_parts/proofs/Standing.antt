@@ -18,7 +18,7 @@ use Rattle.s4_store.specs.Laws.{items_here, items_elsewhere, open_here, fresh_di
 use Rattle.s4_parts.specs.Table.{items_on, is_any, serial_now, passes, HoldsFor}
 use Rattle.s4_parts.specs.Shelf.{or_else, with_chain}
 use Rattle.s4_parts.proofs.Leaving.{open-elsewhere}
-use Rattle.s4_parts.proofs.Ordered.{tally, count-one, filter-one}
+use Rattle.s4_types.proofs.Ordered.{tally, count-one, filter-one}
 
 some_is : {A : Type 0} (x y : A) → Some x ≡ Some y → x ≡ y
 some_is x y e = cc

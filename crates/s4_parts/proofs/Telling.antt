@@ -1,8 +1,7 @@
 -- A sweep changes nothing that is told.
-use Rattle.std.proofs.Common.{◌≡◌, ℕ, Bool, false, cond, Option, Some, None, List, [], ◌∷◌, refl, sym, ◌∙◌, ap, filter}
+use Rattle.std.proofs.Common.{◌≡◌, ℕ, Bool, false, Option, Some, None, List, [], ◌∷◌, refl, sym, ◌∙◌, ap, filter}
 use Rattle.std.specs.Prelude.{is_some, count_by, filter_map, flat_map, nat_lt}
 use Rattle.std.specs.Option.{option_map}
-use Rattle.std.specs.List.{cons_option}
 use Rattle.s4_types.specs.declared.object.Purse.{Purse}
 use Rattle.s4_types.specs.declared.object.ObjectId.{ObjectId}
 use Rattle.s4_types.specs.declared.version.Version.{Version}
@@ -10,7 +9,6 @@ use Rattle.s4_types.specs.declared.request.After.{After}
 use Rattle.s4_types.specs.declared.reply.Grant.{Grant}
 use Rattle.s4_types.specs.Answer.{is_after, purse_numbers}
 use Rattle.s4_types.specs.Bindings.{is_serial}
-use Rattle.s4_types.proofs.Booleans.{by_test}
 use Rattle.s4_store.specs.Chains.{Chains}
 use Rattle.s4_tracks.specs.Chain.{version_in}
 use Rattle.s4_tracks.specs.Swept.{IsFrom}
@@ -20,20 +18,8 @@ use Rattle.s4_parts.specs.Table.{bindings_in, names_in, is_any, object_of, seria
 use Rattle.s4_parts.specs.Page.{line_to, line_of, lines_in}
 use Rattle.s4_parts.specs.Waiting.{Sweeps}
 use Rattle.s4_parts.specs.Telling.{TellsSame}
-use Rattle.s4_parts.proofs.Counting.{count-filter, any-count}
-
--- names that give no line may be left out
-lines-filter : {A B : Type 0} (f : A → Option B) (p q : A → Bool) → ((x : A) → q x ≡ false → f x ≡ None) → (xs : List A) → filter_map f (filter p (filter q xs)) ≡ filter_map f (filter p xs)
-lines-filter f p q none [] = refl
-lines-filter f p q none (x ∷ xs) =
-    let rest = lines-filter f p q none xs in
-    by_test (q x)
-    (λ e. ap (λ b. filter_map f (filter p (cond b (x ∷ filter q xs) (filter q xs)))) e ∙ by_test (p x)
-    (λ d. ap (λ b. filter_map f (cond b (x ∷ filter p (filter q xs)) (filter p (filter q xs)))) d ∙ ap (cons_option (f x)) rest ∙ sym (ap (λ b. filter_map f (cond b (x ∷ filter p xs) (filter p xs))) d))
-    (λ d. ap (λ b. filter_map f (cond b (x ∷ filter p (filter q xs)) (filter p (filter q xs)))) d ∙ rest ∙ sym (ap (λ b. filter_map f (cond b (x ∷ filter p xs) (filter p xs))) d)))
-    (λ e. ap (λ b. filter_map f (filter p (cond b (x ∷ filter q xs) (filter q xs)))) e ∙ rest ∙ by_test (p x)
-    (λ d. sym (ap (λ b. filter_map f (cond b (x ∷ filter p xs) (filter p xs))) d ∙ ap (λ o. cons_option o (filter_map f (filter p xs))) (none x e)))
-    (λ d. sym (ap (λ b. filter_map f (cond b (x ∷ filter p xs) (filter p xs))) d)))
+use Rattle.s4_types.proofs.Ordered.{count-filter, lines-filter}
+use Rattle.s4_parts.proofs.Counting.{any-count}
 
 none-left : (vs : List Version) → is_any vs ≡ false → vs ≡ []
 none-left [] e = refl
@@ -58,14 +44,14 @@ module _ {hz : ℕ} {old new : Chains Version} {before after : Parts} {freed : �
       let purse : Purse = record { creator = range; number = number } in
       ap (λ f. filter_map f (filter (is_after place number) (names_in new after purse))) (λ i n. line_to visible n (same-version purse n at l i))
       ∙ ap (λ ns. filter_map (λ n. line_of visible at n (bindings_in old before purse n)) (filter (is_after place number) ns)) (s.names purse)
-      ∙ lines-filter (λ n. line_of visible at n (bindings_in old before purse n)) (is_after place number) (λ n. is_any (bindings_in new after purse n))
-      (λ n e. ap (line_to visible n) (sym (same-version purse n at l) ∙ ap (λ vs. object_of (version_in at vs)) (none-left (bindings_in new after purse n) e) ∙ none-told at)) (names_in old before purse)
+      ∙ lines-filter (λ n. line_of visible at n (bindings_in old before purse n)) (is_after place number) (λ n. is_any (bindings_in new after purse n)) (names_in old before purse)
+      (λ n e. ap (line_to visible n) (sym (same-version purse n at l) ∙ ap (λ vs. object_of (version_in at vs)) (none-left (bindings_in new after purse n) e) ∙ none-told at))
 
   counted : (test : Option ℕ → Bool) → test None ≡ false → (p : Purse) → count_by (λ n. test (serial_now (bindings_in new after p n))) (names_in new after p) ≡ count_by (λ n. test (serial_now (bindings_in old before p n))) (names_in old before p)
   counted test none p =
       ap (λ f. count_by f (names_in new after p)) (λ i n. test (same-serial p n i))
       ∙ ap (count_by (λ n. test (serial_now (bindings_in old before p n)))) (s.names p)
-      ∙ count-filter (λ n. test (serial_now (bindings_in old before p n))) (λ n. is_any (bindings_in new after p n)) (λ n e. ap test (no-serial p n e) ∙ none) (names_in old before p)
+      ∙ count-filter (λ n. test (serial_now (bindings_in old before p n))) (λ n. is_any (bindings_in new after p n)) (names_in old before p) (λ n e. ap test (no-serial p n e) ∙ none)
 
   pub tells_same : TellsSame hz old new before after
   tells_same = record {

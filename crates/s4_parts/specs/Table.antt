@@ -133,6 +133,19 @@ pub record TakesRoom (before after : Parts) (p : Purse) : Type 0 where
   pub rooms : (q : Purse) (n : List ℕ) → HasRoom before q n → 1 < ends_room before
       → (same_purse p q ≡ true → 1 < names_room before q) → HasRoom after q n
 
+-- each name has the chain that it had, and none where it had none
+abbrev pub KeepsChains : Parts → Parts → Type 0
+KeepsChains before after = (p : Purse) (n : List ℕ) → chain_at after p n ≡ chain_at before p n
+
+-- each name that has a chain has a binding
+abbrev pub NoneIsEmpty : Chains Version → Parts → Type 0
+NoneIsEmpty chains parts = (p : Purse) (n : List ℕ) → is_some (chain_at parts p n) ≡ true → is_any (bindings_in chains parts p n) ≡ true
+
+-- a name that lost its last binding has no chain: where it had bindings and has a chain, it has bindings
+abbrev pub GivesUpEmpty : Chains Version → Chains Version → Parts → Parts → Type 0
+GivesUpEmpty old new before after = (p : Purse) (n : List ℕ) → is_any (bindings_in old before p n) ≡ true
+    → is_some (chain_at after p n) ≡ true → is_any (bindings_in new after p n) ≡ true
+
 -- only the name has another chain than before, and only where it had none
 pub record OpensFor (before after : Parts) (p : Purse) (name : List ℕ) : Type 0 where
   pub others : (q : Purse) (n : List ℕ) → (same_purse p q && same_name name n) ≡ false → chain_at after q n ≡ chain_at before q n

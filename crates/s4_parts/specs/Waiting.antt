@@ -10,7 +10,7 @@ use Rattle.s4_tracks.specs.Swept.{IsSwept}
 use Rattle.s4_parts.specs.declared.ends.Ended.{Ended}
 use Rattle.s4_parts.specs.declared.shelf.Shelf.{Shelf}
 use Rattle.s4_parts.specs.declared.parts.Parts.{Parts}
-use Rattle.s4_parts.specs.Table.{bindings_in, names_in, chain_at, is_any, object_of, KeepsForeign, LeavesNoChain}
+use Rattle.s4_parts.specs.Table.{bindings_in, names_in, chain_at, is_any, object_of, KeepsForeign, LeavesNoChain, GivesUpEmpty}
 
 -- whether the binding was one of that name in the purse
 abbrev pub is_of : Purse → List ℕ → Ended → Bool
@@ -79,6 +79,8 @@ pub record Sweeps (horizon : ℕ) (old new : Chains Version) (before after : Par
   pub names : (p : Purse) → names_in new after p ≡ filter (λ n. is_any (bindings_in new after p n)) (names_in old before p)
   -- a name's chain is the one that it had
   pub own : (p : Purse) (n : List ℕ) (c : ℕ) → chain_at after p n ≡ Some c → chain_at before p n ≡ Some c
+  -- and a name without bindings left gave it up
+  pub given_up : GivesUpEmpty old new before after
   pub others : KeepsForeign old new before
   pub leaves : LeavesNoChain old new before after
   pub used : item_count new + freed ≡ item_count old

@@ -1,6 +1,6 @@
 //! The table of partitions.
 
-ghost use Rattle.std.specs.Prelude.{◌≡◌, ◌<◌, ◌≤◌, ◌+◌, ◌==◌, ◌&&◌, ℕ, true, IfSome, slice_get, Some, None, List, [], ◌∷◌, ◌++◌, OnOk, IsOk, is_some, count_by, min, drop, filter, if◌then◌else◌};
+ghost use Rattle.std.specs.Prelude.{◌≡◌, ◌<◌, ◌≤◌, ◌+◌, ◌==◌, ◌&&◌, ℕ, true, IfSome, slice_get, Some, None, List, [], ◌∷◌, ◌++◌, OnOk, OnErr, IsOk, is_some, count_by, min, drop, filter, if◌then◌else◌};
 ghost use Rattle.std.specs.List.{list_any};
 ghost use Rattle.s4_types.specs.declared.object.Purse.{Purse};
 ghost use Rattle.s4_types.specs.declared.version.Version.{Version};
@@ -9,7 +9,7 @@ ghost use Rattle.s4_types.specs.Name.{same_name};
 ghost use Rattle.s4_types.specs.Names.{same_purse};
 ghost use Rattle.s4_store.specs.Chains.{Chains, items_of, item_count, IsOpen, StillOpen};
 ghost use Rattle.s4_tracks.specs.Chain.{current_of, version_in, with_end};
-ghost use Rattle.s4_parts.specs.Table.{bindings_in, binding, chain_at, names_in, names_on, object_of, serial_now, serials_on, shelf_of, is_any, names_room, HasRoom, KeepsRoom, TakesRoom, Holds, KeepsOthers, KeepsForeign, LeavesNoChain, OpensFor};
+ghost use Rattle.s4_parts.specs.Table.{bindings_in, binding, chain_at, names_in, names_on, object_of, serial_now, serials_on, shelf_of, is_any, names_room, HasRoom, KeepsRoom, TakesRoom, Holds, KeepsOthers, KeepsForeign, KeepsChains, LeavesNoChain, GivesUpEmpty, OpensFor};
 ghost use Rattle.s4_parts.specs.Waiting.{waiting_in, all_by, bound_in, is_gone, Waits, Sweeps};
 ghost use Rattle.s4_parts.specs.Telling.{TellsSame};
 
@@ -47,7 +47,8 @@ impl Parts {
     }
 
     /// Makes room for the next binding of a name in the purse, and opens a chain for the name where it
-    /// has none. Where there is room already it takes no memory. Room in the store is reserved apart.
+    /// has none; an `Err` leaves it without one. Where there is room already it takes no memory. Room in
+    /// the store is reserved apart.
     pub fn reserve<S: Store<Version>>(
         &mut self,
         store: &mut S,
@@ -71,6 +72,7 @@ impl Parts {
         ensures own { (p : Purse) (n : List ℕ) (c : ℕ) → chain_at self.new p n ≡ Some c → IsOpen (S.chains store.old) c
             → chain_at self.old p n ≡ Some c }
         ensures asked { OpensFor self.old self.new purse.now name.now }
+        ensures refused { OnErr result (KeepsChains self.old self.new) }
         ensures leaves { LeavesNoChain (S.chains store.old) (S.chains store.new) self.old self.new }
         ensures used { item_count (S.chains store.new) ≡ item_count (S.chains store.old) }
         ensures store_room { S.room store.new ≡ S.room store.old }
@@ -83,7 +85,7 @@ impl Parts {
 
     // Gives the purse a shelf, if it has none.
     fn shelve(&mut self, purse: &Purse) -> Result<(), NoMemory>
-        ensures chains { (p : Purse) (n : List ℕ) → chain_at self.new p n ≡ chain_at self.old p n }
+        ensures chains { KeepsChains self.old self.new }
         ensures names { (p : Purse) → names_on (shelf_of self.new p) ≡ names_on (shelf_of self.old p) }
         ensures serials { (p : Purse) → serials_on (shelf_of self.new p) ≡ serials_on (shelf_of self.old p) }
         ensures there { OnOk result (is_some (shelf_of self.new purse.now) ≡ true) }
@@ -125,7 +127,7 @@ impl Parts {
             then bindings_in (S.chains store.old) self.old p n ++ binding moment name.now object.now ∷ []
             else bindings_in (S.chains store.old) self.old p n) }
         ensures others { KeepsOthers (S.chains store.old) (S.chains store.new) self.old }
-        ensures own { (p : Purse) (n : List ℕ) → chain_at self.new p n ≡ chain_at self.old p n }
+        ensures own { KeepsChains self.old self.new }
         ensures leaves { LeavesNoChain (S.chains store.old) (S.chains store.new) self.old self.new }
         ensures rooms { TakesRoom self.old self.new object.now.purse }
         ensures used { item_count (S.chains store.new) ≡ item_count (S.chains store.old) + 1 }
@@ -165,7 +167,7 @@ impl Parts {
             ≡ (if same_purse purse.now p && same_name name.now n
             then with_end moment (bindings_in (S.chains store.old) self.old p n) else bindings_in (S.chains store.old) self.old p n) }
         ensures others { KeepsOthers (S.chains store.old) (S.chains store.new) self.old }
-        ensures own { (p : Purse) (n : List ℕ) → chain_at self.new p n ≡ chain_at self.old p n }
+        ensures own { KeepsChains self.old self.new }
         ensures leaves { LeavesNoChain (S.chains store.old) (S.chains store.new) self.old self.new }
         ensures rooms { (p : Purse) (n : List ℕ) → HasRoom self.old p n → HasRoom self.new p n }
         ensures keeps_room { KeepsRoom self.old self.new }
@@ -219,6 +221,8 @@ impl Parts {
         ensures names { (p : Purse) → names_in (S.chains store.new) self.new p
             ≡ filter (λ n. is_any (bindings_in (S.chains store.new) self.new p n)) (names_in (S.chains store.old) self.old p) }
         ensures own { (p : Purse) (n : List ℕ) (c : ℕ) → chain_at self.new p n ≡ Some c → chain_at self.old p n ≡ Some c }
+        ensures given_up { GivesUpEmpty (S.chains store.old) (S.chains store.new)
+            self.old self.new }
         ensures others { KeepsForeign (S.chains store.old) (S.chains store.new) self.old }
         ensures leaves { LeavesNoChain (S.chains store.old) (S.chains store.new) self.old self.new }
         ensures keeps_room { KeepsRoom self.old self.new }

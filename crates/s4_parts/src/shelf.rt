@@ -1,6 +1,6 @@
 //! The names of one purse.
 
-ghost use Rattle.std.specs.Prelude.{◌≡◌, ℕ, ◌+◌, ◌<◌, ◌≤◌, true, is_some, Some, List, [], OnOk, IsOk, vec_len, vec_capacity};
+ghost use Rattle.std.specs.Prelude.{◌≡◌, ℕ, ◌+◌, ◌<◌, ◌≤◌, true, is_some, Some, List, [], OnOk, OnErr, IsOk, vec_len, vec_capacity};
 ghost use Rattle.std.specs.Option.{option_map};
 ghost use Rattle.s4_store.specs.Chains.{items_of, item_count, IsOpen};
 ghost use Rattle.s4_parts.specs.Table.{chain_on, is_any, serials_spare};
@@ -44,6 +44,8 @@ impl Shelf {
         requires { (c : ℕ) (n : List ℕ) → chain_on (Some self.old) n ≡ Some c → IsOpen (S.chains store.old) c }
         ensures grows { Grows (S.chains store.old) (S.chains store.new) self.old self.new name.now }
         ensures chain { OnOk result (is_some (chain_on (Some self.new) name.now) ≡ true) }
+        ensures refused { OnErr result ((n : List ℕ)
+            → chain_on (Some self.new) n ≡ chain_on (Some self.old) n) }
         ensures serials { OnOk result (vec_len self.new.bound < vec_capacity self.new.bound) }
         ensures spare { serials_spare (Some self.old) ≤ serials_spare (Some self.new) }
         ensures there { is_some (chain_on (Some self.old) name.now) ≡ true → 0 < serials_spare (Some self.old) → IsOk result }

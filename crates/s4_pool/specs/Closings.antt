@@ -1,6 +1,6 @@
 -- What a closing that fails says.
 use Rattle.std.specs.Prelude.{◌≡◌, List}
-use Rattle.s4_state.specs.Log.{Log}
+use Rattle.s4_types.specs.Log.{Log}
 use Rattle.s4_calls.specs.Calls.{CallList}
 use Rattle.s4_merge.specs.Merged.{AreWhole}
 use Rattle.s4_merge.specs.Order.{IsStray}

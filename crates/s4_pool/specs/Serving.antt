@@ -5,7 +5,7 @@ use Rattle.s4_types.specs.declared.request.Request.{Request}
 use Rattle.s4_types.specs.declared.reply.Reply.{Reply}
 use Rattle.s4_types.specs.declared.record.Record.{Record}
 use Rattle.s4_types.specs.Play.{is_no_memory}
-use Rattle.s4_state.specs.Log.{Log}
+use Rattle.s4_types.specs.Log.{Log}
 use Rattle.s4_cells.specs.Many.{AllAdd}
 use Rattle.s4_calls.specs.declared.call.Asked.{Asked}
 use Rattle.s4_calls.specs.declared.call.Receipt.{Receipt}

@@ -14,4 +14,4 @@ pub use front::Front;
 pub use gate::{Gate, OpenGate};
 pub use locks::MOST_CELLS;
 pub use s4_calls::{Asked, Pass, Receipt};
-pub use s4_cells::Cell;
+pub use s4_cells::{Cell, Measure};

@@ -30,7 +30,7 @@ pub fn serve_one(
     ensures cell { IfOk result (λ reply. Adds number cell.old.history cell.new.history pass.old pass.new) }
     ensures idle { OnErr result (IsIdle pass.old pass.new) }
     ensures still { OnErr result (cell.new ≡ cell.old) }
-    ensures window { cell.new.window ≡ cell.old.window }
+    ensures opened { cell.new.opened ≡ cell.old.opened }
 {
     let moment = clock.max(pass.last()).max(cell.last());
     let place = cell.history().len() as u64;

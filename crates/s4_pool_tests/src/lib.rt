@@ -2,13 +2,19 @@
 #![tactic(auto)]
 
 #[cfg(test)]
+mod calls;
+#[cfg(test)]
 mod faults;
+#[cfg(test)]
+mod fronts;
 #[cfg(test)]
 mod gate;
 #[cfg(test)]
 mod given;
 #[cfg(test)]
 mod jobs;
+#[cfg(test)]
+mod many;
 #[cfg(test)]
 mod sweep;
 #[cfg(test)]

@@ -1,4 +1,4 @@
-//! A sweep of a front's cell frees what is expired there.
+//! A sweep of a front's cell frees what is expired there, and no more than it is asked for.
 
 use crate::given::{Ask, is_made, object, write_a};
 use s4_pool::{Front, OpenGate, Pass};
@@ -7,22 +7,61 @@ use std::alloc::Global;
 use std::sync::Wait;
 use std::test::Fail;
 
-// Whether the object is written at that moment.
+/// Principals in cells 0 to 3 of four, and how many values of their object are expired.
+const EXPIRED: [(u32, u64); 4] = [(4, 3), (5, 990), (6, 0), (7, 7)];
+
+/// A sweep: of which cell, of how many values at most, and how many it frees.
+struct Sweep(usize, u64, u64);
+
+const SWEEPS: [Sweep; 11] = [
+    Sweep(0, 0, 0),
+    Sweep(0, 2, 2),
+    Sweep(3, 1, 1),
+    Sweep(1, 255, 255),
+    Sweep(2, 9, 0),
+    Sweep(3, 6, 6),
+    Sweep(3, 6, 0),
+    Sweep(0, u64::MAX, 1),
+    Sweep(0, 1, 0),
+    Sweep(1, 735, 735),
+    Sweep(1, 1, 0),
+];
+
+// Whether the principal writes their object at that moment.
 fn is_written<R: Wait>(
     rt: &R,
     alloc: Global,
     front: &Front<OpenGate>,
     pass: &mut Pass,
-    moment: u64,
+    (who, moment): (u32, u64),
 ) -> Result<bool, Fail> {
-    let object = object(7, 1)?;
+    let object = object(who, 1)?;
     let request = write_a(alloc, object)?;
-    let write = Ask::new(7, moment, request)?;
+    let write = Ask::new(who, moment, request)?;
     Ok(write.serve(rt, front, pass) == Reply::Done)
 }
 
-// Creates an object at moment 10, and writes it at each moment up to 1010. Tells whether all was done.
+// Makes the principal's object, and writes it so often, each time a moment later. Tells whether all
+// was done.
 fn write_often<R: Wait>(
+    rt: &R,
+    alloc: Global,
+    front: &Front<OpenGate>,
+    pass: &mut Pass,
+    (who, count): (u32, u64),
+) -> Result<bool, Fail> {
+    let made = u64::from(who) * 1000;
+    let mut done = is_made(rt, front, pass, (who, made), 1)?;
+    for later in 1..=count {
+        let moment = made.saturating_add(later);
+        done = is_written(rt, alloc, front, pass, (who, moment))? && done;
+    }
+    Ok(done)
+}
+
+// Writes all objects, and then each once more when what ended before is expired. Tells whether all
+// was done.
+fn write_all<R: Wait>(
     rt: &R,
     alloc: Global,
     front: &Front<OpenGate>,
@@ -32,19 +71,28 @@ fn write_often<R: Wait>(
         return Err("pass 0".into());
     }
     let pass = &mut passes[0];
-    let mut done = is_made(rt, front, pass, (7, 10), 1)?;
-    for moment in 11..1011u64 {
-        done = is_written(rt, alloc, front, pass, moment)? && done;
+    let mut done = true;
+    for expired in EXPIRED {
+        done = write_often(rt, alloc, front, pass, expired)? && done;
+    }
+    for (who, _count) in EXPIRED {
+        done = is_written(rt, alloc, front, pass, (who, 9000))? && done;
     }
     Ok(done)
 }
 
 #[test]
-fn a_cell_is_swept(rt: HostRuntime) -> Result<(), Fail> {
-    let (front, mut passes) = Front::open(rt.alloc(), 10, 2, 1, OpenGate)?;
-    assert!(rt; write_often(&rt, rt.alloc(), &front, &mut passes)?);
-    assert_eq!(rt; front.sweep(&rt, 1, 2000), 990);
-    assert_eq!(rt; front.sweep(&rt, 1, 2000), 0);
-    assert_eq!(rt; front.sweep(&rt, 0, 2000), 0);
+fn each_cell_is_swept_of_as_much_as_is_asked_for(rt: HostRuntime) -> Result<(), Fail> {
+    let (front, mut passes) = Front::open(rt.alloc(), 10, 4, 1, OpenGate)?;
+    assert!(rt; write_all(&rt, rt.alloc(), &front, &mut passes)?);
+    for sweep in &SWEEPS {
+        let (cell, most) = (sweep.0, sweep.1);
+        assert!(rt; cell < 4);
+        assert_eq!(rt;
+            front.sweep(&rt, cell, most),
+            sweep.2,
+            "{most} of cell {cell}"
+        );
+    }
     Ok(())
 }

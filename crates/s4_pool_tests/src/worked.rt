@@ -1,50 +1,38 @@
-//! The worked case of two cells and two passes.
+//! The worked case of two cells and two passes, and one of clocks that lag.
 
-use crate::given::{Ask, closed, is_made, open_two, receipt};
+use crate::calls::{Call, check_calls};
+use crate::given::{closed, two_of};
 use s4_pool::{CloseFault, Closed, Front, Left, OpenGate, Pass, Why};
-use s4_types::{Record, Reply, Request};
+use s4_types::Record;
 use std::alloc::Global;
 use std::process::Abort;
-use std::sync::Wait;
 use std::test::Fail;
 
-// Whether the administrator's window is set.
-fn is_set<R: Wait>(rt: &R, front: &Front<OpenGate>, pass: &mut Pass) -> Result<bool, Fail> {
-    let window = Ask::new(0, 3, Request::SetWindow { ticks: 10 })?;
-    Ok(window.serve(rt, front, pass) == Reply::Done)
-}
+/// On two cells.
+const FIVE: &[Call] = &[
+    Call(0, 7, 5, 1, (5, 1, 0)),
+    Call(1, 8, 5, 1, (5, 0, 0)),
+    Call(1, 0, 3, 0, (5, 0, 1)),
+    Call(0, 7, 9, 2, (9, 1, 2)),
+    Call(1, 8, 8, 2, (8, 0, 2)),
+];
 
-// The five calls of the worked case: whether each has the reply that it has to have.
-fn serve_five<R: Wait>(
-    rt: &R,
-    front: &Front<OpenGate>,
-    a: &mut Pass,
-    b: &mut Pass,
-) -> Result<bool, Fail> {
-    let first = is_made(rt, front, a, (7, 5), 1)?;
-    let second = is_made(rt, front, b, (8, 5), 1)?;
-    let third = is_set(rt, front, b)?;
-    let fourth = is_made(rt, front, a, (7, 9), 2)?;
-    let fifth = is_made(rt, front, b, (8, 8), 2)?;
-    Ok(first && second && third && fourth && fifth)
-}
-
-// That the five calls are made, and their moments, cells and places.
-fn check_five<R: Abort + Wait>(
-    rt: &R,
-    front: &Front<OpenGate>,
-    a: &mut Pass,
-    b: &mut Pass,
-) -> Result<(), Fail> {
-    assert_eq!(rt; front.window(), 100);
-    assert!(rt; serve_five(rt, front, a, b)?);
-    assert_eq!(rt; receipt(a, 0), Some((5, 1, 0)));
-    assert_eq!(rt; receipt(b, 0), Some((5, 0, 0)));
-    assert_eq!(rt; receipt(b, 1), Some((5, 0, 1)));
-    assert_eq!(rt; receipt(a, 1), Some((9, 1, 2)));
-    assert_eq!(rt; receipt(b, 2), Some((8, 0, 2)));
-    Ok(())
-}
+/// On three cells. A clock lags behind the cell's last moment, the pass's, and another cell's at a
+/// request of all.
+const LAGGING: &[Call] = &[
+    Call(0, 7, 9, 1, (9, 1, 0)),
+    Call(1, 4, 5, 1, (9, 1, 1)),
+    Call(1, 6, 2, 1, (9, 0, 0)),
+    Call(0, 5, 12, 1, (12, 2, 0)),
+    Call(0, 9, 11, 1, (12, 0, 1)),
+    Call(1, 0, 3, 0, (12, 0, 2)),
+    Call(1, 4, 10, 2, (12, 1, 3)),
+    Call(0, 7, 13, 2, (13, 1, 4)),
+    Call(1, 10, 0, 1, (13, 1, 5)),
+    Call(1, 8, 14, 1, (14, 2, 2)),
+    Call(0, 0, u64::MAX, 0, (u64::MAX, 0, 3)),
+    Call(1, 4, 15, 3, (u64::MAX, 1, 7)),
+];
 
 // What is handed back where a pass is missing.
 fn missing(fault: CloseFault<OpenGate>) -> Option<(Front<OpenGate>, Vec<Pass>)> {
@@ -89,9 +77,20 @@ fn check_history<R: Abort>(rt: &R, history: &[Record]) {
 
 #[test]
 fn two_cells(rt: HostRuntime) -> Result<(), Fail> {
-    let (front, mut a, mut b) = open_two(rt.alloc(), 2)?;
-    check_five(&rt, &front, &mut a, &mut b)?;
+    let (front, mut passes) = Front::open(rt.alloc(), 100, 2, 2, OpenGate)?;
+    check_calls(&rt, &front, &mut passes, FIVE)?;
+    assert_eq!(rt; front.window(), 100);
+    let (a, b) = two_of(passes)?;
     let closed = closed_again(rt.alloc(), front, a, b)?;
     check_history(&rt, closed.history.as_slice());
+    Ok(())
+}
+
+#[test]
+fn a_clock_that_lags_is_put_forward_no_more_than_it_must(rt: HostRuntime) -> Result<(), Fail> {
+    let (front, mut passes) = Front::open(rt.alloc(), 100, 3, 2, OpenGate)?;
+    check_calls(&rt, &front, &mut passes, LAGGING)?;
+    let closed = closed(rt.alloc(), front, passes)?;
+    assert_eq!(rt; closed.history.len(), LAGGING.len());
     Ok(())
 }

@@ -1,5 +1,5 @@
-//! The worked case of two cells and two passes. A request that met want of memory leaves no record
-//! and no receipt, and a front that met it at its closing is closed then.
+//! The worked case of five cells and two passes. A request that met want of memory leaves no record
+//! and no receipt, and a front that met it at its closing has all its cells, and is closed then.
 
 use crate::case::Case;
 use crate::steps::is_no_memory;
@@ -16,23 +16,25 @@ use std::sync::Wait;
 #[derive(Clone, Copy)]
 struct Call(usize, u32, u64, Option<u16>, (u64, usize, u64));
 
-const CALLS: [Call; 5] = [
-    Call(0, 7, 5, Some(1), (5, 1, 0)),
-    Call(1, 8, 5, Some(1), (5, 0, 0)),
-    Call(1, 0, 3, None, (5, 0, 1)),
-    Call(0, 7, 9, Some(2), (9, 1, 2)),
-    Call(1, 8, 8, Some(2), (8, 0, 2)),
+const CALLS: [Call; 7] = [
+    Call(0, 7, 5, Some(1), (5, 2, 0)),
+    Call(1, 8, 5, Some(1), (5, 3, 0)),
+    Call(1, 0, 3, None, (5, 0, 0)),
+    Call(0, 7, 9, Some(2), (9, 2, 2)),
+    Call(1, 8, 8, Some(2), (8, 3, 2)),
+    Call(1, 10, 6, Some(1), (8, 0, 1)),
+    Call(0, 9, 9, Some(1), (9, 4, 1)),
 ];
 
 /// Of each record of the one history its moment and who asked.
-const HISTORY: [(u64, u32); 5] = [(5, 8), (5, 7), (5, 0), (8, 8), (9, 7)];
+const HISTORY: [(u64, u32); 7] = [(5, 7), (5, 8), (5, 0), (8, 10), (8, 8), (9, 7), (9, 9)];
 
 /// How many records each cell has then.
-const RECORDS: [usize; 2] = [3, 3];
+const RECORDS: [usize; 5] = [2, 1, 3, 3, 2];
 
 /// The calls are what is marked.
 pub fn serve<R: Wait>(case: &mut Case, rt: &R) -> io::Result<()> {
-    let (front, mut passes) = Front::open(case.alloc(), 100, 2, 2, OpenGate)?;
+    let (front, mut passes) = Front::open(case.alloc(), 100, 5, 2, OpenGate)?;
     serve_all(case, rt, &front, &mut passes)?;
     case.is_marking = false;
     check_closed(case, front, passes)
@@ -40,7 +42,7 @@ pub fn serve<R: Wait>(case: &mut Case, rt: &R) -> io::Result<()> {
 
 /// The closing is what is marked.
 pub fn close<R: Wait>(case: &mut Case, rt: &R) -> io::Result<()> {
-    let (front, mut passes) = Front::open(case.alloc(), 100, 2, 2, OpenGate)?;
+    let (front, mut passes) = Front::open(case.alloc(), 100, 5, 2, OpenGate)?;
     case.is_marking = false;
     serve_all(case, rt, &front, &mut passes)?;
     case.is_marking = true;

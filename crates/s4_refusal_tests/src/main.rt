@@ -6,11 +6,14 @@
 
 mod case;
 mod fronts;
+mod many;
 mod pieces;
 mod rooms;
 mod steps;
+mod windows;
 
 use crate::case::Case;
+use crate::windows::Before;
 use std::sync::Wait;
 use std::{env, io};
 
@@ -28,13 +31,17 @@ enum Called {
     Feed(usize),
     /// A hall hears a stream, a frame at a time. Its requests are those of the row three_calls_at_five.
     Arrive,
-    /// A front of two cells serves five requests.
+    /// A front of five cells serves seven requests.
     Serve,
     /// It is closed.
     Close,
+    /// A front serves four thousand requests by one pass.
+    ServeMany,
+    /// A front of two cells serves a SetWindow, behind such requests.
+    SetWindow(Before),
 }
 
-const CASES: [(&str, Called); 21] = [
+const CASES: [(&str, Called); 24] = [
     (
         "step_plain_first_moments",
         Called::OverPlainStore("first_moments"),
@@ -80,6 +87,9 @@ const CASES: [(&str, Called); 21] = [
     ("arrive", Called::Arrive),
     ("serve", Called::Serve),
     ("close", Called::Close),
+    ("serve_many", Called::ServeMany),
+    ("set_window_over_none", Called::SetWindow(Before::Reads)),
+    ("set_window_over_values", Called::SetWindow(Before::Creates)),
 ];
 
 fn main(rt: HostRuntime) -> io::Result<()> {
@@ -108,5 +118,7 @@ fn carry_out<R: Wait>(case: &mut Case, rt: &R, called: Called) -> io::Result<()>
         Called::Arrive => pieces::arrive(case),
         Called::Serve => fronts::serve(case, rt),
         Called::Close => fronts::close(case, rt),
+        Called::ServeMany => many::serve(case, rt),
+        Called::SetWindow(before) => windows::set(case, rt, before),
     }
 }

@@ -4,8 +4,10 @@ use Rattle.s4_run.specs.declared.fault.RunFault.{RunFault}
 use Rattle.s4_run.specs.declared.fault.RunFault.TheVariants as fault
 use Rattle.s4_script.specs.declared.error.ParseError.{ParseError}
 use Rattle.s4_script.specs.declared.error.ParseError.TheVariants as parse_error
-use Rattle.s4_session.specs.declared.logins.LoginFault.{LoginFault}
-use Rattle.s4_session.specs.declared.logins.LoginFault.TheVariants as login_fault
+use Rattle.s4_script.specs.declared.text.TextFault.{TextFault}
+use Rattle.s4_script.specs.declared.text.TextFault.TheVariants as text_fault
+use Rattle.s4_stream.specs.declared.logins.LoginFault.{LoginFault}
+use Rattle.s4_stream.specs.declared.logins.LoginFault.TheVariants as login_fault
 
 -- the fault of a line, by its number, that isn't taken
 abbrev pub fault_of_line : ParseError → ℕ → RunFault
@@ -22,3 +24,8 @@ fault_of_logins login_fault.NoMemory = fault.NoMemory
 abbrev pub fault_of_logins_file : RunFault → RunFault
 fault_of_logins_file fault.CannotRead = fault.CannotReadLogins
 fault_of_logins_file other = other
+
+-- the fault of a text that doesn't come in
+abbrev pub fault_of_text : TextFault → RunFault
+fault_of_text text_fault.CannotRead = fault.CannotRead
+fault_of_text text_fault.NoMemory = fault.NoMemory

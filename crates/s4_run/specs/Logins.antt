@@ -1,7 +1,7 @@
 -- What reading a text of logins gives.
 use Rattle.std.specs.Prelude.{◌≡◌, ⊤, Result, Ok, Err}
-use Rattle.s4_session.specs.Logins.{Logins}
-use Rattle.s4_session.specs.declared.logins.LoginFault.{LoginFault}
+use Rattle.s4_stream.specs.Logins.{Logins}
+use Rattle.s4_stream.specs.declared.logins.LoginFault.{LoginFault}
 use Rattle.s4_run.specs.declared.fault.RunFault.{RunFault}
 use Rattle.s4_run.specs.declared.fault.RunFault.TheVariants as fault
 use Rattle.s4_run.specs.Faults.{fault_of_logins}

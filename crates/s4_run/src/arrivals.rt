@@ -7,8 +7,9 @@ ghost use Rattle.s4_run.specs.Arrivals.{step_of, goes_back};
 ghost use Rattle.s4_run.specs.declared.fault.RunFault.TheVariants as fault;
 
 use crate::fault::RunFault;
-use s4_script::{ArrivalLine, parse_arrival, parse_window};
-use s4_session::{Hall, HallStep, Logins};
+use s4_script::{ArrivalLine, NumberedLines, parse_arrival, parse_window};
+use s4_session::{Hall, HallStep};
+use s4_stream::Logins;
 use s4_types::{Moment, NoMemory};
 use std::alloc::Global;
 use std::marker::Model;
@@ -37,9 +38,7 @@ impl Arrivals {
     /// The arrivals of a text, or none of an empty one.
     pub fn read(alloc: Global, text: &[u8]) -> Result<Option<Arrivals>, RunFault> {
         let mut arrivals = None;
-        for (index, line) in text.split_inclusive(|byte| *byte == b'\n').enumerate() {
-            let number = index.saturating_add(1);
-            let line = line.strip_suffix(b"\n").unwrap_or(line);
+        for (number, line) in NumberedLines::of(text) {
             let refuse = |why| RunFault::parsing(why, number);
             match &mut arrivals {
                 None => {

@@ -2,12 +2,12 @@
 
 ghost use Rattle.std.specs.Prelude.{◌≡◌, ◌≢◌, Some};
 ghost use Rattle.std.specs.IoError.{error_kind};
-ghost use Rattle.s4_run.specs.Faults.{fault_of_line, fault_of_logins, fault_of_logins_file};
+ghost use Rattle.s4_run.specs.Faults.{fault_of_line, fault_of_logins, fault_of_logins_file, fault_of_text};
 ghost use Rattle.s4_run.specs.Texts.{fault_text};
 ghost use Rattle.s4_run.specs.declared.fault.RunFault.TheVariants as fault;
 
-use s4_script::ParseError;
-use s4_session::LoginFault;
+use s4_script::{ParseError, TextFault};
+use s4_stream::LoginFault;
 use std::alloc::{AllocError, AllocFailed};
 use std::io::ErrorKind;
 use std::{fmt, io};
@@ -65,17 +65,6 @@ impl RunFault {
         }
     }
 
-    /// The fault of an input that failed.
-    pub fn reading(error: io::Error) -> RunFault
-        ensures no_memory { error_kind error ≡ ErrorKind.OutOfMemory → result ≡ fault.NoMemory }
-        ensures other { error_kind error ≢ ErrorKind.OutOfMemory → result ≡ fault.CannotRead }
-    {
-        match error.kind() {
-            ErrorKind::OutOfMemory => RunFault::NoMemory,
-            _ => RunFault::CannotRead,
-        }
-    }
-
     /// The fault of an output that failed.
     pub fn writing(error: io::Error) -> RunFault
         ensures no_memory { error_kind error ≡ ErrorKind.OutOfMemory → result ≡ fault.NoMemory }
@@ -100,6 +89,17 @@ impl fmt::Display for RunFault {
             RunFault::CannotRead => write!(f, "cannot read"),
             RunFault::CannotWrite => write!(f, "cannot write"),
             RunFault::NoMemory => write!(f, "no memory"),
+        }
+    }
+}
+
+impl From<TextFault> for RunFault {
+    ghost from_gives = { λ text why. why ≡ fault_of_text text };
+
+    fn from(fault: TextFault) -> RunFault {
+        match fault {
+            TextFault::CannotRead => RunFault::CannotRead,
+            TextFault::NoMemory => RunFault::NoMemory,
         }
     }
 }

@@ -2,7 +2,7 @@
 
 ghost use Rattle.std.specs.Prelude.{◌≡◌, Err};
 ghost use Rattle.std.specs.Str.{IsUtf8};
-ghost use Rattle.s4_session.specs.LoginText.{table_in};
+ghost use Rattle.s4_stream.specs.LoginText.{table_in};
 ghost use Rattle.s4_run.specs.Logins.{IsLogins};
 ghost use Rattle.s4_run.specs.declared.fault.RunFault.TheVariants as fault;
 
@@ -10,17 +10,15 @@ use crate::arrivals::Arrivals;
 use crate::fault::RunFault;
 use crate::text;
 use s4_script::SentText;
-use s4_session::Logins;
+use s4_stream::Logins;
 use std::alloc::Global;
-use std::fs;
 use std::io::{Read, Write};
 use std::rt::Files;
 
 /// The logins of the file with that path.
 pub fn open_logins<R: Files + AllocGlobal>(rt: &R, path: &str) -> Result<Logins, RunFault> {
-    let file = fs::open(rt, path).map_err(RunFault::reading);
-    let mut file = file.map_err(RunFault::of_logins_file)?;
-    read_logins(rt.alloc(), &mut file)
+    let text = text::open_text(rt, path).map_err(RunFault::of_logins_file)?;
+    logins_in(rt.alloc(), &text)
 }
 
 /// The logins of a text that the reader gives.

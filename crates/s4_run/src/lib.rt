@@ -14,4 +14,3 @@ pub use fault::RunFault;
 pub use hall::{open_logins, read_logins, run_hall};
 pub use script::run_script;
 pub use strike::run_strike;
-pub use text::read_up_to;

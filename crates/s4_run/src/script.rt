@@ -1,6 +1,7 @@
 //! Scripts: a line that opens the drive, and then a line for each request.
 
-ghost use Rattle.std.specs.Prelude.{◌≡◌, ◌<◌, ◌≤◌, ◌↔◌, IsNone, IfSome, false, []};
+ghost use Rattle.std.specs.Prelude.{◌≡◌, ◌<◌, ◌≤◌, ◌↔◌, IsNone, IfSome};
+ghost use Rattle.s4_types.specs.Log.{fresh_log};
 ghost use Rattle.s4_types.specs.Play.{last_of};
 ghost use Rattle.s4_drive.specs.Step.{Steps};
 
@@ -8,7 +9,7 @@ use crate::fault::RunFault;
 use crate::text;
 use s4_arena::Arena;
 use s4_drive::Drive;
-use s4_script::{Line, ReplyText, UsedText, parse_line, parse_window};
+use s4_script::{Line, NumberedLines, ReplyText, UsedText, parse_line, parse_window};
 use s4_types::{Caller, Moment, Reply, Request, Step, Version};
 use std::alloc::Global;
 use std::io::{Read, Write};
@@ -30,11 +31,9 @@ pub fn run_script<R: Read + Drop, W: Write>(
 
 fn run_lines<W: Write>(alloc: Global, text: &[u8], writer: &mut W) -> Result<(), RunFault> {
     let mut run = None;
-    for (index, line) in text.split_inclusive(|byte| *byte == b'\n').enumerate() {
-        let number = index.saturating_add(1);
-        let line = line.strip_suffix(b"\n").unwrap_or(line);
+    for (number, line) in NumberedLines::of(text) {
         match &mut run {
-            None => run = Some(opened(alloc, line, number)?),
+            None => run = Some(open_run(alloc, line, number)?),
             Some(run) => take_line(alloc, run, line, number, writer)?,
         }
     }
@@ -42,26 +41,26 @@ fn run_lines<W: Write>(alloc: Global, text: &[u8], writer: &mut W) -> Result<(),
 }
 
 /// The run that the first line opens.
-fn opened(alloc: Global, line: &[u8], number: usize) -> Result<Run, RunFault> {
+fn open_run(alloc: Global, line: &[u8], number: usize) -> Result<ScriptRun, RunFault> {
     let window = parse_window(alloc, line).map_err(|why| RunFault::parsing(why, number))?;
-    Ok(Run::open(alloc, window))
+    Ok(ScriptRun::open(alloc, window))
 }
 
 /// Reads a further line, and does what it says.
 fn take_line<W: Write>(
     alloc: Global,
-    run: &mut Run,
+    run: &mut ScriptRun,
     line: &[u8],
     number: usize,
     writer: &mut W,
 ) -> Result<(), RunFault> {
     let line = parse_line(alloc, line).map_err(|why| RunFault::parsing(why, number))?;
-    obey(run, &line, number, writer)
+    execute_line(run, &line, number, writer)
 }
 
 /// Does what the line of that number says, and writes what it is told.
-fn obey<W: Write>(
-    run: &mut Run,
+fn execute_line<W: Write>(
+    run: &mut ScriptRun,
     line: &Line,
     number: usize,
     writer: &mut W,
@@ -89,19 +88,19 @@ fn obey<W: Write>(
 /// A script that is being run. A request that met want of memory leaves no record, so the newest
 /// record may be older than the newest line.
 #[derive(Drop)]
-struct Run {
+struct ScriptRun {
     drive: Drive<Arena<Version>>,
     /// The moment of the newest line, 0 before the first.
     moment: Moment,
     ghost in_order: { last_of drive.history ≤ moment },
 }
 
-impl Run {
-    fn open(alloc: Global, window: u64) -> Run
-        ensures drive { result.drive ≡ record { window = window; history = []; held = 0; ready = false } }
+impl ScriptRun {
+    fn open(alloc: Global, window: u64) -> ScriptRun
+        ensures drive { result.drive ≡ fresh_log window }
         ensures moment { result.moment ≡ 0 }
     {
-        Run {
+        ScriptRun {
             drive: Drive::new(alloc, Arena::new(alloc), window),
             moment: Moment::new(0),
         }

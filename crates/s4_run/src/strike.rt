@@ -9,7 +9,7 @@ ghost use Rattle.s4_run.specs.declared.fault.RunFault.TheVariants as fault;
 use crate::fault::RunFault;
 use crate::text;
 use s4_drive::Near;
-use s4_script::{Line, parse_line, parse_window};
+use s4_script::{Line, NumberedLines, parse_line, parse_window};
 use s4_types::{Moment, NoMemory, Principal, Step};
 use std::alloc::Global;
 use std::io::{Read, Write};
@@ -57,9 +57,7 @@ impl<'a> Script<'a> {
         ensures { IfOk result (λ script. IfSome script (λ s. s.who ≡ who)) }
     {
         let mut script = None;
-        for (index, line) in text.split_inclusive(|byte| *byte == b'\n').enumerate() {
-            let number = index.saturating_add(1);
-            let line = line.strip_suffix(b"\n").unwrap_or(line);
+        for (number, line) in NumberedLines::of(text) {
             let refuse = |why| RunFault::parsing(why, number);
             match &mut script {
                 None => {

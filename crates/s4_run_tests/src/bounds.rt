@@ -1,7 +1,8 @@
 //! How far a text is read.
 
 use crate::fakes::{Bytewise, Endless, Restless, Trickle};
-use s4_run::{RunFault, read_up_to, run_script};
+use s4_run::{RunFault, run_script};
+use s4_script::{TextFault, read_up_to};
 use std::alloc::Global;
 use std::cell::Cell;
 use std::io::Read;
@@ -23,7 +24,7 @@ fn check_bound<A: Abort, R: Read>(
         "at {limit}"
     );
     let refused = read_up_to(alloc, other, limit.saturating_sub(1));
-    assert_eq!(rt; refused.err(), Some(RunFault::CannotRead), "below {limit}");
+    assert_eq!(rt; refused.err(), Some(TextFault::CannotRead), "below {limit}");
     Ok(())
 }
 
@@ -47,11 +48,11 @@ fn inputs_without_an_end(rt: HostRuntime) -> Result<(), Fail> {
     let alloc = rt.alloc();
     let asked = Cell::new(0);
     let refused = read_up_to(alloc, &mut Restless { asked: &asked }, 1000);
-    assert_eq!(rt; refused.err(), Some(RunFault::CannotRead));
+    assert_eq!(rt; refused.err(), Some(TextFault::CannotRead));
     assert_eq!(rt; asked.get(), 1000);
     let given = Cell::new(0);
     let refused = read_up_to(alloc, &mut Endless { given: &given }, 1000);
-    assert_eq!(rt; refused.err(), Some(RunFault::CannotRead));
+    assert_eq!(rt; refused.err(), Some(TextFault::CannotRead));
     assert_eq!(rt; given.get(), 1001);
     let given = Cell::new(0);
     let mut output = Vec::new(alloc);

@@ -1,2 +1,4 @@
 pub mod Hexadecimal
 pub mod Spelling
+pub mod Cutting
+pub mod Reading

@@ -3,3 +3,4 @@ pub mod Drains
 pub mod Faults
 pub mod Places
 pub mod Setup
+pub mod Slowing

@@ -1,5 +1,5 @@
 -- What callers see of a server that is set up.
-use Rattle.s4_server.specs.declared.settings.Settings.{Settings}
+use Rattle.s4_command.specs.declared.settings.Settings.{Settings}
 
 -- its settings
 abbrev pub Setup : Type 0

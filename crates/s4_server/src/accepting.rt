@@ -1,61 +1,126 @@
 //! Accepting connections, and giving them to the workers.
 
-ghost use Rattle.std.specs.Prelude.{◌≡◌, ◌++◌};
+ghost use Rattle.std.specs.Prelude.{◌≡◌, ◌<◌, ◌++◌, IsTrue};
 ghost use Rattle.s4_jobs.specs.Seats.{having_put};
-ghost use Rattle.s4_server.specs.Places.{numbers_to};
+ghost use Rattle.s4_server.specs.Places.{PutsSome, numbers_to};
 
 use crate::connection::{Connection, number_after};
 use crate::post::{Post, least, open};
+use crate::tally::Tally;
+use crate::watch::Watch;
 use s4_jobs::{Jobs, Seat};
+use std::io::ErrorKind;
 use std::net::{TcpListener, TcpStream};
 use std::sync::Wait;
-use std::thread;
+use std::sync::atomic::{AtomicBool, Ordering};
 use std::time::{Clock, Duration};
+use std::{io, thread};
 
 /// How long it waits before it tries again, in milliseconds, where no connection can be accepted, or
 /// all places of the queue are taken, or no worker is there.
 const PAUSE: u64 = 10;
 
-/// Accepts so many connections, by their numbers from 1 on, or without end where that is 0. Each is put
-/// into the queue, and given to the worker with the fewest. Where so many as `most` are open, a further
-/// one is closed at once and not counted.
-pub fn accept_all<R: Wait + Clock>(
-    rt: &R,
-    listener: &TcpListener,
-    jobs: &Jobs<Connection>,
-    seat: &mut Seat<Connection>,
-    posts: &[Post],
-    connections: u32,
+/// How long it waits for a connection before it looks whether the server is to end, in milliseconds.
+const LOOK: u64 = 100;
+
+/// Where connections come in: a listener that is watched, and which connections are let in.
+#[derive(Drop)]
+pub struct Door<'a> {
+    listener: &'a TcpListener,
+    watch: Watch,
+    posts: &'a [Post],
+    /// How many may be open; a further one is closed at once.
     most: u32,
-)
-    requires { seat.old.queue ≡ jobs.now.queue }
-    ensures queue { seat.new.queue ≡ seat.old.queue }
-    ensures put { seat.new.put ≡ seat.old.put ++ numbers_to connections }
-{
-    let mut number = 0u64;
-    for _ in rt.forever() {
-        let stream = accept(rt, listener, posts, most);
-        number = number_after(number);
-        put(rt, jobs, seat, Connection { number, stream });
-        give(rt, posts);
-        if number == u64::from(connections) {
-            return;
+    /// The server is to end.
+    over: &'a AtomicBool,
+    tally: &'a Tally,
+}
+
+impl<'a> Door<'a> {
+    /// A door at this listener.
+    pub fn new(
+        listener: &'a TcpListener,
+        watch: Watch,
+        posts: &'a [Post],
+        most: u32,
+        over: &'a AtomicBool,
+        tally: &'a Tally,
+    ) -> Door<'a> {
+        // Where this fails each connection may wait for some tenths of a second.
+        let _ = watch.add_listener(listener);
+        Door {
+            listener,
+            watch,
+            posts,
+            most,
+            over,
+            tally,
+        }
+    }
+
+    /// Accepts a connection, and tries again where that fails or where there are too many; none once
+    /// the server is to end.
+    fn accept<R: Wait + Clock>(&mut self, rt: &R) -> Option<TcpStream> {
+        for _ in rt.forever() {
+            if self.over.load(Ordering::SeqCst) {
+                return None;
+            }
+            match self.listener.accept() {
+                Ok((stream, _)) if self.lets_in(&stream) => return Some(stream),
+                Ok(_) => {}
+                Err(error) => self.rest(rt, &error),
+            }
+        }
+        unreachable!()
+    }
+
+    /// Whether the connection is let in.
+    fn lets_in(&self, stream: &TcpStream) -> bool {
+        // A reply is sent at once, also where the peer has not yet told that it has the last one.
+        let _ = stream.set_nodelay(true);
+        let has_place = open(self.posts) < u64::from(self.most);
+        if !has_place {
+            self.tally.turn_away();
+        }
+        stream.set_nonblocking(true).is_ok() && has_place
+    }
+
+    /// Waits for a connection where there is none now, and else for a while.
+    fn rest<R: Wait + Clock>(&mut self, rt: &R, error: &io::Error) {
+        match error.kind() {
+            ErrorKind::WouldBlock => {
+                self.watch.wait(Some(Duration::from_millis(LOOK)));
+            }
+            _ => thread::sleep(rt, Duration::from_millis(PAUSE)),
         }
     }
 }
 
-/// Accepts a connection, and tries again where that fails or where there are too many.
-fn accept<R: Wait + Clock>(rt: &R, listener: &TcpListener, posts: &[Post], most: u32) -> TcpStream {
+/// Accepts so many connections, by their numbers from 1 on, or without end where that is 0. Each is put
+/// into the queue, and given to the worker with the fewest. Tells whether there were so many before the
+/// server was to end.
+pub fn accept_all<R: Wait + Clock>(
+    rt: &R,
+    door: &mut Door<'_>,
+    jobs: &Jobs<Connection>,
+    seat: &mut Seat<Connection>,
+    connections: u32,
+) -> bool
+    requires { seat.old.queue ≡ jobs.now.queue }
+    ensures queue { seat.new.queue ≡ seat.old.queue }
+    ensures put { IsTrue result → seat.new.put ≡ seat.old.put ++ numbers_to connections }
+    ensures fewer { 0 < connections → PutsSome connections seat.old.put seat.new.put }
+{
+    let mut number = 0u64;
     for _ in rt.forever() {
-        match listener.accept() {
-            Ok((stream, _)) => {
-                // A reply is sent at once, also where the peer has not yet told that it has the last one.
-                let _ = stream.set_nodelay(true);
-                if stream.set_nonblocking(true).is_ok() && open(posts) < u64::from(most) {
-                    return stream;
-                }
-            }
-            Err(_) => thread::sleep(rt, Duration::from_millis(PAUSE)),
+        let Some(stream) = door.accept(rt) else {
+            return false;
+        };
+        number = number_after(number);
+        put(rt, jobs, seat, Connection { number, stream });
+        give(rt, door.posts);
+        if number == u64::from(connections) {
+            return true;
         }
     }
     unreachable!()

@@ -1,38 +1,46 @@
 //! The server's clock.
 
-ghost use Rattle.std.specs.Prelude.{◌≡◌, ◌-◌, ◌/◌, ◌^◌, min};
+ghost use Rattle.std.specs.Prelude.{◌≡◌, ◌≤◌, ◌-◌, ◌/◌, ◌^◌, min};
 ghost use Rattle.std.specs.Duration.{as_nanos};
 
 use s4_types::Moment;
 use std::time::{Clock, Duration, Instant};
 
-/// What a server takes the moments of its requests from.
+/// What tells the moments at which requests are carried out.
 pub trait Ticks: Sync {
     /// The moment now.
     fn moment(&self) -> Moment;
 }
 
-/// A clock that tells the milliseconds since its start.
+/// A clock that tells the milliseconds since its start, beginning with a first moment.
 #[derive(Drop)]
 pub struct Stopwatch<'a, R> {
     rt: &'a R,
     start: Option<Instant>,
+    /// The moment at its start.
+    pub first: u64,
 }
 
 impl<'a, R: Clock> Stopwatch<'a, R> {
-    /// A clock that starts now.
-    pub fn start(rt: &'a R) -> Stopwatch<'a, R> {
+    /// A clock that starts now, at this moment.
+    pub fn start(rt: &'a R, first: u64) -> Stopwatch<'a, R>
+        ensures { result.first ≡ first }
+    {
         let start = Instant::now(rt).ok();
-        Stopwatch { rt, start }
+        Stopwatch { rt, start, first }
     }
 }
 
 impl<R: Clock + Sync> Ticks for Stopwatch<'_, R> {
-    /// The milliseconds since the start. Where the system's clock can't be read it is 0, so a request
-    /// is then carried out at the moment of the newest record that its front has for it.
-    fn moment(&self) -> Moment {
+    /// The first moment, and the milliseconds since the start; the greatest moment stays. Where the
+    /// system's clock can't be read it is the first one, so a request is then carried out at the moment
+    /// of the newest record that its front has for it.
+    fn moment(&self) -> Moment
+        ensures since { self.now.first ≤ result }
+    {
         let passed = self.start.and_then(|start| start.elapsed(self.rt).ok());
-        Moment::new(passed.map_or(0, milliseconds))
+        let passed = passed.map_or(0, milliseconds);
+        Moment::new(self.first.saturating_add(passed))
     }
 }
 

@@ -1,4 +1,4 @@
-//! How it is listened to a peer that was told a fault.
+//! How it is listened to a peer that is told no more.
 
 ghost use Rattle.std.specs.Prelude.{◌≡◌, ◌≤◌, ◌*◌, ◌-◌, nat_lt};
 ghost use Rattle.s4_server.specs.Drains.{Drains};
@@ -37,7 +37,8 @@ impl Leaving {
 
 /// What a read came to that nobody looks at.
 #[derive(Clone, Copy, Debug, PartialEq, Eq)]
-enum Drained {
+pub enum Drained {
+    /// There may be more.
     Some,
     /// Nothing is there to read now.
     Waits,
@@ -61,9 +62,9 @@ fn drain<R: Read>(reader: &mut R, reads: u32) -> u32
     0
 }
 
-/// Reads once.
+/// Reads once, and forgets what it read.
 #[tactic(auto, using(crate::proofs::Drained::Drains_kept, crate::proofs::Drained::Drains_taken))]
-fn drain_some<R: Read>(reader: &mut R) -> Drained
+pub fn drain_some<R: Read>(reader: &mut R) -> Drained
     ensures drained { Drains 1024 (R.remaining reader.old) (R.remaining reader.new) }
     ensures waits { result ≡ Drained.Waits → Drains 0 (R.remaining reader.old) (R.remaining reader.new) }
 {

@@ -6,7 +6,8 @@ ghost use Rattle.s4_server.specs.declared.fault.ServerFault.TheVariants as fault
 
 use s4_pool::Why;
 use std::alloc::{AllocError, AllocFailed};
-use std::fmt;
+use std::io::ErrorKind;
+use std::{fmt, io};
 use thiserror::Error;
 
 /// Why a server ends without success (docs/OPERATIONS.md, "Faults").
@@ -34,6 +35,14 @@ impl ServerFault {
             Why::Torn => ServerFault::Torn,
             Why::Stray => ServerFault::Stray,
             Why::NoMemory => ServerFault::NoMemory,
+        }
+    }
+
+    /// The fault where the system gives no watch.
+    pub fn of_watch(error: io::Error) -> ServerFault {
+        match error.kind() {
+            ErrorKind::OutOfMemory => ServerFault::NoMemory,
+            _ => ServerFault::NoWatch,
         }
     }
 }

@@ -3,22 +3,31 @@
 #![tactic(auto)]
 
 mod accepting;
+mod attempts;
 mod clock;
 mod connection;
+mod conversation;
 mod desk;
 mod ending;
 mod fault;
 mod gauge;
+mod opening;
 mod peer;
 mod peers;
 mod post;
 mod server;
-mod settings;
+mod start;
+mod status;
+mod tables;
+mod tally;
+mod telling;
 mod threads;
+mod upkeep;
 mod watch;
 mod workers;
 
 pub use clock::{Stopwatch, Ticks};
 pub use fault::ServerFault;
 pub use server::Server;
-pub use settings::Settings;
+pub use telling::beside;
+pub use upkeep::Upkeep;

@@ -1,36 +1,42 @@
 //! A peer that a worker serves beside others.
 
-ghost use Rattle.std.specs.Prelude.{◌≡◌};
-ghost use Rattle.s4_talk.specs.Turning.{Turns, TurnsSo, is_whole, scene};
-ghost use Rattle.s4_server.specs.Desks.{calls_told};
-
 use crate::clock::Ticks;
+use crate::conversation::Conversation;
 use crate::desk::Desk;
-use crate::ending::Leaving;
-use crate::gauge::Gauge;
+use crate::ending::{Drained, Leaving, drain_some};
+use crate::gauge::{Gauge, Tap};
+use crate::opening::Opening;
+use crate::tables::Table;
 use crate::threads::Shared;
 use mio::net::TcpStream;
+use s4_command::Patience;
 use s4_pool::OpenGate;
-use s4_talk::{TalkEnd, Talking, TurnEnd};
+use s4_stream::SessionFault;
+use s4_talk::{TalkEnd, TurnEnd};
 use std::alloc::Global;
-use std::io::{Read, Write};
 use std::mem::replace;
 use std::net::Shutdown;
 use std::sync::Wait;
+use std::sync::atomic::Ordering;
 
 /// How many turns a peer has at a time at most, where others may wait for theirs.
 const TURNS: u32 = 8;
 
-/// How long it is listened to a peer after a fault, in milliseconds.
-const PATIENCE: u64 = 1000;
+/// How long it is listened to a peer who leaves, in milliseconds.
+const FAREWELL: u64 = 1000;
 
 /// A peer: its connection, and what was said there.
 #[derive(Drop)]
 pub struct Peer {
     stream: TcpStream,
     stage: Stage,
-    /// When something last came from it or went to it, in milliseconds.
+    opening: Opening,
+    /// When it was accepted, in milliseconds.
+    begun: u64,
+    /// When a whole frame last came from it, or it last took bytes.
     since: u64,
+    /// Until then the answer to its failed login waits.
+    held: Option<u64>,
     /// It sends no more, so no further event tells of its stream.
     last: bool,
     /// It goes on at once.
@@ -40,9 +46,22 @@ pub struct Peer {
 /// How far it is with a peer.
 #[derive(Drop)]
 enum Stage {
-    Talks(Talking),
+    Talks(Conversation),
     /// It was told a fault.
     Leaves(Leaving),
+    /// The server is to end, and it was told all.
+    Ends,
+}
+
+/// What is told of how far it is with a peer.
+#[derive(Clone, Copy, Debug, PartialEq, Eq)]
+pub enum State {
+    /// It isn't welcomed yet.
+    Greeting,
+    /// It asks, and is replied.
+    Welcomed,
+    /// It was told its end, or is to be.
+    Leaving,
 }
 
 /// What is next with a peer.
@@ -58,11 +77,14 @@ pub enum Next {
 
 impl Peer {
     /// A peer with whom nothing was said. Takes no memory.
-    pub fn new(alloc: Global, stream: TcpStream, now: u64) -> Peer {
+    pub fn new(alloc: Global, stream: TcpStream, table: Table, now: u64) -> Peer {
         Peer {
             stream,
-            stage: Stage::Talks(Talking::open(alloc)),
+            stage: Stage::Talks(Conversation::open(alloc, table)),
+            opening: Opening::new(),
+            begun: now,
             since: now,
+            held: None,
             last: false,
             eager: false,
         }
@@ -92,20 +114,28 @@ impl Peer {
         last: bool,
     ) -> Next {
         self.last = self.last || last;
+        if !self.meets(shared) {
+            return Next::Over;
+        }
         for _ in 0..TURNS {
             match self.talk(shared, desk, now) {
                 Some(TurnEnd::More) => {}
                 Some(TurnEnd::Waits) | Some(TurnEnd::Stuck) => return Next::Waits,
                 Some(TurnEnd::Ended(TalkEnd::Faulted(_))) => return self.leave(now),
                 Some(TurnEnd::Ended(_)) => return Next::Over,
-                None => return self.hear_out(),
+                None => match self.hear_out() {
+                    Next::GoesOn => {}
+                    next => return next,
+                },
             }
         }
         Next::GoesOn
     }
 
-    /// Takes a turn with the peer, where it was told no fault. There is no more to read where a read was
-    /// shorter than it could have been, but for the end, of which no further event may tell.
+    /// Takes a turn with the peer, where it is told replies. Once the server is to end it isn't read. Until
+    /// it is welcomed nothing is written in the turn that reads: so the answer to a failed login can wait.
+    /// There is no more to read where a read was shorter than it could have been, but for the end, of which
+    /// no further event may tell.
     fn talk<R: Wait, C: Ticks>(
         &mut self,
         shared: &Shared<'_, R, C>,
@@ -115,22 +145,33 @@ impl Peer {
         let Peer {
             stream,
             stage,
+            opening,
             since,
+            held,
             last,
             ..
         } = self;
-        let Stage::Talks(talking) = stage else {
+        let Stage::Talks(talk) = stage else {
             return None;
         };
-        let waited = talking.waiting();
+        if held.is_some_and(|until| now < until) {
+            return Some(TurnEnd::Stuck);
+        }
+        let waited = talk.waiting();
+        let greets = talk.is_greeting();
         let stream: &TcpStream = stream;
-        let mut reader = Gauge::new(stream);
-        let mut writer = stream;
-        let end = converse(shared, desk, talking, &mut reader, &mut writer);
-        if reader.has_heard() || talking.waiting() < waited {
+        let mut reader = Gauge::new(stream, shared.over.load(Ordering::SeqCst), *opening);
+        let mut writer = Tap::new(stream, greets);
+        let end = talk.turn(desk, &mut reader, &mut writer);
+        *opening = reader.opening();
+        if writer.has_given() || talk.waiting() != waited {
             *since = now;
         }
         match end {
+            TurnEnd::Stuck if greets => {
+                *held = answered_at(shared, talk, opening, now);
+                Some(TurnEnd::More)
+            }
             TurnEnd::More if reader.is_short() && !*last => Some(TurnEnd::Waits),
             end => Some(end),
         }
@@ -146,42 +187,110 @@ impl Peer {
         self.hear_out()
     }
 
+    /// Says that no more is sent, where nothing waits to be written for the peer. What it still says is
+    /// read from then on: else a close could reset the connection, and the peer lose what it was sent.
+    /// Tells whether it is to go on at once for that.
+    pub fn ends(&mut self, now: u64) -> bool {
+        let is_told = match &self.stage {
+            Stage::Talks(talk) => talk.waiting() == 0,
+            _ => false,
+        };
+        if is_told {
+            // Where this fails the connection is lost already.
+            let _ = self.stream.shutdown(Shutdown::Write);
+            self.stage = Stage::Ends;
+            self.since = now;
+        }
+        is_told && self.becomes_eager()
+    }
+
     /// Reads what the peer still says, and forgets it.
     fn hear_out(&mut self) -> Next {
         let Peer { stream, stage, .. } = self;
         let mut reader: &TcpStream = stream;
-        if let Stage::Leaves(leaving) = stage {
-            if leaving.hear(&mut reader) {
-                return Next::Waits;
+        match stage {
+            Stage::Leaves(leaving) => {
+                if leaving.hear(&mut reader) {
+                    Next::Waits
+                } else {
+                    Next::Over
+                }
             }
+            Stage::Ends => next_after(drain_some(&mut reader)),
+            Stage::Talks(_) => Next::Over,
         }
-        Next::Over
     }
 
-    /// Whether the peer was silent, or took nothing of what waits for it, for too long. `idle` is that
-    /// in milliseconds, or 0 for never.
-    pub fn is_idle(&self, now: u64, idle: u64) -> bool {
+    /// Whether the peer was silent, or took nothing of what waits for it, for too long, or isn't welcomed
+    /// yet and should be.
+    pub fn is_idle(&self, now: u64, patience: &Patience) -> bool {
         let passed = now.saturating_sub(self.since);
         match &self.stage {
-            Stage::Talks(_) => idle > 0 && passed >= idle,
-            Stage::Leaves(_) => passed >= PATIENCE,
+            Stage::Talks(talk) => {
+                is_past(passed, patience.idle)
+                    || !talk.is_welcomed()
+                        && is_past(now.saturating_sub(self.begun), patience.hello)
+            }
+            Stage::Leaves(_) | Stage::Ends => passed >= FAREWELL,
+        }
+    }
+
+    /// How far it is.
+    pub fn state(&self) -> State {
+        match &self.stage {
+            Stage::Talks(talk) if talk.is_greeting() => State::Greeting,
+            Stage::Talks(talk) if talk.is_welcomed() => State::Welcomed,
+            _ => State::Leaving,
+        }
+    }
+
+    /// Whether an answer that had to wait is due. Tells it once.
+    pub fn is_due(&mut self, now: u64) -> bool {
+        self.held.is_some_and(|until| until <= now) && self.becomes_eager()
+    }
+
+    /// Meets the newest login table, unless it has met that. Tells whether it may stay.
+    pub fn meets<R: Wait, C>(&mut self, shared: &Shared<'_, R, C>) -> bool {
+        let Stage::Talks(talk) = &mut self.stage else {
+            return true;
+        };
+        if talk.has_met(shared.tables.edition()) {
+            return true;
+        }
+        match shared.tables.newest(shared.rt) {
+            Ok(newest) => talk.meets(newest, self.opening.is_empty()),
+            Err(_) => false,
         }
     }
 }
 
-/// Takes a turn with one peer, and answers its requests at this desk.
-fn converse<R: Wait, C: Ticks, I: Read, O: Write>(
+/// Whether a time is over, in milliseconds; 0 never is.
+fn is_past(passed: u64, most: u64) -> bool {
+    most > 0 && passed >= most
+}
+
+/// Until when the answer to a peer's first words waits, if it does: that to a failed login is slowed,
+/// where such logins of that principal were many.
+fn answered_at<R: Wait, C>(
     shared: &Shared<'_, R, C>,
-    desk: &mut Desk<'_, R, C, OpenGate>,
-    talking: &mut Talking,
-    reader: &mut I,
-    writer: &mut O,
-) -> TurnEnd
-    // The calls that the pass gains are those that the bytes which were read ask for, each once and in order.
-    ensures turns { Turns (is_whole result) shared.now.logins.now
-        (scene (I.remaining reader.old) (O.contents writer.old) (calls_told desk.old.pass.calls) talking.old)
-        (scene (I.remaining reader.new) (O.contents writer.new) (calls_told desk.new.pass.calls) talking.new) }
-    ensures so { TurnsSo result (I.remaining reader.new) talking.new }
-{
-    talking.turn(shared.logins, reader, writer, desk)
+    talk: &Conversation,
+    opening: &Opening,
+    now: u64,
+) -> Option<u64> {
+    if talk.fault() != Some(SessionFault::BadLogin) {
+        return None;
+    }
+    match shared.attempts.failed(shared.rt, opening.who(), now) {
+        0 => None,
+        delay => Some(now.saturating_add(delay)),
+    }
+}
+
+/// What is next after such a read.
+fn next_after(drained: Drained) -> Next {
+    match drained {
+        Drained::Some => Next::GoesOn,
+        Drained::Waits => Next::Waits,
+        Drained::Over => Next::Over,
+    }
 }

@@ -2,10 +2,12 @@
 
 use crate::clock::Ticks;
 use crate::desk::Desk;
-use crate::peer::{Next, Peer};
+use crate::peer::{Next, Peer, State};
+use crate::tables::Table;
 use crate::threads::Shared;
 use crate::watch::Watch;
 use mio::net::TcpStream;
+use s4_command::Patience;
 use s4_pool::OpenGate;
 use slab::Slab;
 use std::alloc::Global;
@@ -13,6 +15,14 @@ use std::collections::VecDeque;
 use std::io;
 use std::sync::Wait;
 use std::time::Duration;
+
+/// How many peers are how far.
+#[derive(Clone, Copy, Debug, PartialEq, Eq)]
+pub struct States {
+    pub greeting: u64,
+    pub welcomed: u64,
+    pub leaving: u64,
+}
 
 /// The peers of a worker, each at its place.
 #[derive(Drop)]
@@ -56,8 +66,15 @@ impl Peers {
     }
 
     /// Takes in a peer, and has its stream watched.
-    pub fn add(&mut self, watch: &Watch, stream: TcpStream, now: u64) -> io::Result<()> {
-        let place = self.places.insert(Peer::new(self.alloc, stream, now))?;
+    pub fn add(
+        &mut self,
+        watch: &Watch,
+        stream: TcpStream,
+        table: Table,
+        now: u64,
+    ) -> io::Result<()> {
+        let peer = Peer::new(self.alloc, stream, table, now);
+        let place = self.places.insert(peer)?;
         let watched = match self.places.get_mut(place) {
             Some(peer) => watch.add(peer.stream_mut(), place),
             None => Ok(()),
@@ -107,12 +124,43 @@ impl Peers {
         }
     }
 
-    /// Closes those that were idle for so many milliseconds, or for none where that is 0. It looks once
-    /// at each time.
-    pub fn close_idle(&mut self, now: u64, idle: u64) {
-        if now != self.looked {
-            self.looked = now;
-            self.places.retain(|_, peer| !peer.is_idle(now, idle));
+    /// Ends with those for whom nothing waits to be written.
+    pub fn end(&mut self, now: u64) {
+        let Peers { places, eager, .. } = self;
+        places.retain(|place, peer| !peer.ends(now) || eager.push_back(place).is_ok());
+    }
+
+    /// Looks after all, once at each time: closes those that were idle for too long, or whose login isn't
+    /// in the newest table any more, and has those go on whose answer had to wait and is due. Tells whether
+    /// it was time for that.
+    pub fn look<R: Wait, C>(&mut self, shared: &Shared<'_, R, C>, now: u64) -> bool {
+        if now == self.looked {
+            return false;
         }
+        self.looked = now;
+        let Peers { places, eager, .. } = self;
+        places.retain(|place, peer| {
+            !peer.is_idle(now, &shared.patience)
+                && peer.meets(shared)
+                && (!peer.is_due(now) || eager.push_back(place).is_ok())
+        });
+        true
+    }
+
+    /// How far it is with them.
+    pub fn states(&self) -> States {
+        let mut states = States {
+            greeting: 0,
+            welcomed: 0,
+            leaving: 0,
+        };
+        for (_, peer) in self.places.iter() {
+            match peer.state() {
+                State::Greeting => states.greeting = states.greeting.saturating_add(1),
+                State::Welcomed => states.welcomed = states.welcomed.saturating_add(1),
+                State::Leaving => states.leaving = states.leaving.saturating_add(1),
+            }
+        }
+        states
     }
 }

@@ -1,5 +1,6 @@
 //! Where connections are left for a worker.
 
+use crate::peers::States;
 use crate::watch::WAKE;
 use mio::{Registry, Waker};
 use std::io;
@@ -12,6 +13,9 @@ pub struct Post {
     begun: AtomicBool,
     given: AtomicU64,
     ended: AtomicU64,
+    greeting: AtomicU64,
+    welcomed: AtomicU64,
+    leaving: AtomicU64,
 }
 
 impl Post {
@@ -22,6 +26,9 @@ impl Post {
             begun: AtomicBool::new(false),
             given: AtomicU64::new(0),
             ended: AtomicU64::new(0),
+            greeting: AtomicU64::new(0),
+            welcomed: AtomicU64::new(0),
+            leaving: AtomicU64::new(0),
         })
     }
 
@@ -54,6 +61,22 @@ impl Post {
     /// So many of the connections have ended.
     pub fn end(&self, connections: u64) {
         self.ended.fetch_add(connections, Ordering::SeqCst);
+    }
+
+    /// Tells how far it is with the connections.
+    pub fn show(&self, states: &States) {
+        self.greeting.store(states.greeting, Ordering::SeqCst);
+        self.welcomed.store(states.welcomed, Ordering::SeqCst);
+        self.leaving.store(states.leaving, Ordering::SeqCst);
+    }
+
+    /// How far it was with the connections when that was last told.
+    pub fn states(&self) -> States {
+        States {
+            greeting: self.greeting.load(Ordering::SeqCst),
+            welcomed: self.welcomed.load(Ordering::SeqCst),
+            leaving: self.leaving.load(Ordering::SeqCst),
+        }
     }
 
     /// Ends the worker's wait, or its next one.

@@ -1,7 +1,8 @@
 //! The server.
 
-ghost use Rattle.std.specs.Prelude.{◌≡◌, ◌==◌, ℕ, false, IfOk};
+ghost use Rattle.std.specs.Prelude.{◌≡◌, ◌==◌, ℕ, false, IfOk, IsTrue};
 ghost use Rattle.s4_types.specs.Base.{opened};
+ghost use Rattle.s4_types.specs.Limits.{is_within_limits};
 ghost use Rattle.s4_types.specs.Play.{replies};
 ghost use Rattle.s4_types.specs.Strike.{records_of};
 ghost use Rattle.s4_drive.specs.Step.{replies_without_strangers};
@@ -10,17 +11,24 @@ ghost use Rattle.s4_merge.specs.Merged.{AreWhole};
 ghost use Rattle.s4_merge.specs.Order.{IsClosing};
 ghost use Rattle.s4_pool.specs.Numbers.{HasAll};
 
+use crate::accepting::Door;
+use crate::attempts::Attempts;
 use crate::clock::Ticks;
 use crate::connection::Connection;
 use crate::fault::ServerFault;
 use crate::post::Post;
-use crate::settings::Settings;
-use crate::threads::{Shared, serve_all};
+use crate::start::Start;
+use crate::tables::Tables;
+use crate::tally::Tally;
+use crate::threads::{OTHERS, Shared, serve_all};
+use crate::upkeep::{Reloading, Upkeep};
 use crate::watch::Watch;
 use crate::workers::{gather, staff};
+use s4_command::Settings;
 use s4_jobs::{Jobs, Seat};
 use s4_pool::{Closed, Front, OpenGate, Pass};
-use s4_session::Logins;
+use s4_stream::Logins;
+use s4_types::{Caller, Reply, Request};
 use std::alloc::Global;
 use std::marker::Model;
 use std::net::{Net, TcpListener};
@@ -46,10 +54,12 @@ pub struct Server {
     seats: Vec<Seat<Connection>>,
     watches: Vec<Watch>,
     posts: Vec<Post>,
+    /// Over the listener.
+    outer: Watch,
 }
 
 impl Model for Server {
-    ghost use Rattle.std.specs.Prelude.{◌≡◌};
+    ghost use Rattle.std.specs.Prelude.{◌≡◌, length};
     ghost use Rattle.s4_server.specs.Places.{AreOf};
     ghost use Rattle.s4_server.specs.Setup.{Setup};
 
@@ -60,6 +70,7 @@ impl Model for Server {
     ghost invariant = { λ s. (s.front.window ≡ s.settings.window)
         × (s.front.cells ≡ s.settings.cells)
         × (s.front.passes ≡ s.settings.workers)
+        × (length s.passes.items ≡ s.settings.workers)
         × (s.seat.queue ≡ s.jobs.queue)
         × AreOf s.jobs.queue s.seats.items };
 }
@@ -80,7 +91,7 @@ impl Server {
         let (front, passes) = Front::open(alloc, window, cells, workers, OpenGate)?;
         let (jobs, mut seats) = Jobs::open(alloc, WAITING, workers + 1)?;
         let seat = seats.remove(0);
-        let (watches, posts) = open_watches(net, alloc, workers)?;
+        let (outer, watches, posts) = open_watches(net, alloc, workers)?;
         Ok(Server {
             alloc,
             settings,
@@ -91,19 +102,41 @@ impl Server {
             seats,
             watches,
             posts,
+            outer,
         })
+    }
+
+    /// Carries out a request before connections are served, at the moment that the clock tells. Its call is
+    /// one of the first pass.
+    pub fn ask<R: Wait, C: Ticks>(
+        &mut self,
+        rt: &R,
+        clock: &C,
+        caller: Caller,
+        request: &Request,
+    ) -> Reply
+        ensures settings { self.new ≡ self.old }
+        ensures limits { IsTrue (is_within_limits result) }
+    {
+        match self.passes.get_mut(0) {
+            Some(pass) => self.front.serve(rt, pass, caller, clock.moment(), request),
+            None => unreachable!(),
+        }
     }
 
     /// Serves the connections of the listener, each by one worker until it ends, while one thread more
     /// sweeps the cells in turn. Where the settings name a number of connections it ends after so many:
     /// they are served to their ends, the workers are joined, and the front is closed. What it then gives
-    /// is what the closing of a front gives (docs/ARCHITECTURE.md, "Fronts"). It waits.
-    pub fn run<R: Threads + Wait + Clock + Sync, C: Ticks>(
+    /// is what the closing of a front gives (docs/ARCHITECTURE.md, "Fronts"). Once the file that ends it is there it
+    /// ends too: no connection is accepted or read any more, and each is closed once all that it was
+    /// answered is written. It waits.
+    pub fn run<'x, R: Threads + Wait + Clock + Eprint + Sync, C: Ticks>(
         self,
-        rt: &R,
-        clock: &C,
+        rt: &'x R,
+        clock: &'x C,
+        upkeep: &'x Upkeep<'x>,
         listener: &TcpListener,
-        logins: &Logins,
+        logins: Logins,
     ) -> Result<Closed, ServerFault>
         ensures there { IfOk result (λ closed. HasAll self.workers closed.passes.items) }
         ensures whole { IfOk result (λ closed. AreWhole self.window closed.cells.items) }
@@ -122,29 +155,57 @@ impl Server {
             seats,
             watches,
             posts,
+            outer,
         } = self;
         let accepted = AtomicBool::new(false);
-        let time = AtomicU64::new(clock.moment().tick());
+        let over = AtomicBool::new(false);
+        let now = clock.moment().tick();
+        let time = AtomicU64::new(now);
+        let tables = Tables::new(alloc, logins)?;
+        let attempts = Attempts::new(alloc);
+        let start = Start::new(settings.workers + OTHERS);
+        let tally = Tally::new(alloc)?;
+        let port = listener.local_addr().map_or(0, |address| address.port());
         let shared = Shared {
             rt,
             alloc,
             front: &front,
             clock,
-            logins,
+            upkeep,
+            tables: &tables,
+            attempts: &attempts,
+            start: &start,
+            tally: &tally,
+            port,
             posts: posts.as_slice(),
             accepted: &accepted,
+            over: &over,
             time: &time,
-            idle: settings.idle,
+            patience: settings.patience,
         };
         let mut workers = staff(&shared, &jobs, seats, passes, watches)?;
+        let door = Door::new(
+            listener,
+            outer,
+            posts.as_slice(),
+            settings.open,
+            &over,
+            &tally,
+        );
+        let table = tables.newest(rt)?.logins;
+        let reloading = Reloading::new(alloc, upkeep, table, now);
         serve_all(
             &shared,
             &settings,
-            listener,
+            door,
             &jobs,
             seat,
             workers.as_mut_slice(),
+            reloading,
         );
+        if start.has_failed() {
+            return Err(ServerFault::NoMemory);
+        }
         let passes = gather(alloc, workers)?;
         match front.close(alloc, passes) {
             Ok(closed) => Ok(closed),
@@ -153,18 +214,24 @@ impl Server {
     }
 }
 
-/// A watch and a post for each worker.
+/// A watch over a listener, and a watch and a post for each worker.
 fn open_watches<N: Net>(
     net: &N,
     alloc: Global,
     workers: u64,
-) -> Result<(Vec<Watch>, Vec<Post>), ServerFault> {
+) -> Result<(Watch, Vec<Watch>, Vec<Post>), ServerFault> {
+    let (outer, _) = open_watch(net, alloc)?;
     let mut watches = Vec::new(alloc);
     let mut posts = Vec::new(alloc);
     for _ in 0..workers {
-        let (watch, post) = Watch::open(net, alloc).map_err(|_| ServerFault::NoWatch)?;
+        let (watch, post) = open_watch(net, alloc)?;
         watches.push(watch)?;
         posts.push(post)?;
     }
-    Ok((watches, posts))
+    Ok((outer, watches, posts))
+}
+
+/// A watch and its post.
+fn open_watch<N: Net>(net: &N, alloc: Global) -> Result<(Watch, Post), ServerFault> {
+    Watch::open(net, alloc).map_err(ServerFault::of_watch)
 }

@@ -2,17 +2,21 @@
 
 ghost use Rattle.std.specs.Prelude.{◌≡◌};
 
-use crate::accepting::accept_all;
+use crate::accepting::{Door, accept_all};
+use crate::attempts::Attempts;
 use crate::clock::Ticks;
 use crate::connection::Connection;
 use crate::post::{Post, wake_all};
-use crate::settings::Settings;
+use crate::start::Start;
+use crate::tables::Tables;
+use crate::tally::Tally;
+use crate::telling::Telling;
+use crate::upkeep::{Reloading, Upkeep};
 use crate::workers::Worker;
+use s4_command::{Patience, Settings};
 use s4_jobs::{Jobs, Seat};
 use s4_pool::{Front, OpenGate};
-use s4_session::Logins;
 use std::alloc::Global;
-use std::net::TcpListener;
 use std::sync::Wait;
 use std::sync::atomic::{AtomicBool, AtomicU64, Ordering};
 use std::thread;
@@ -22,7 +26,7 @@ use std::time::{Clock, Duration};
 /// How many values of a cell are freed at a time.
 const SWEPT: u64 = 256;
 
-/// How long the sweeper rests after each round, in milliseconds. So often it is looked for idle peers.
+/// How long a thread rests after each round, in milliseconds. So often it is looked for idle peers.
 const REST: u64 = 100;
 
 /// What the threads of a server share.
@@ -32,25 +36,40 @@ pub struct Shared<'a, R, C> {
     pub alloc: Global,
     pub front: &'a Front<OpenGate>,
     pub clock: &'a C,
-    pub logins: &'a Logins,
+    pub upkeep: &'a Upkeep<'a>,
+    /// The login tables.
+    pub tables: &'a Tables,
+    /// The failed logins.
+    pub attempts: &'a Attempts,
+    pub tally: &'a Tally,
+    /// The port at which the server listens; 0 where that can't be told.
+    pub port: u16,
+    /// Where the threads wait for each other at the begin.
+    pub start: &'a Start,
     /// Where connections are left for the workers.
     pub posts: &'a [Post],
     /// No more connections are accepted.
     pub accepted: &'a AtomicBool,
+    /// The server is to end: peers are not read any more, and leave once they are told what waits.
+    pub over: &'a AtomicBool,
     /// The time at which the sweeper began its round, in milliseconds.
     pub time: &'a AtomicU64,
-    /// How long a peer may be silent, in milliseconds; 0 for ever.
-    pub idle: u64,
+    pub patience: Patience,
 }
 
-/// Serves connections, and sweeps meanwhile, until the last connection has ended.
-pub fn serve_all<R: Threads + Wait + Clock + Sync, C: Ticks>(
+/// How many threads a server has beside its workers: one that accepts, one that sweeps, and one that looks
+/// after files.
+pub const OTHERS: u64 = 3;
+
+/// Serves connections, sweeps and looks after files meanwhile, until the last connection has ended.
+pub fn serve_all<R: Threads + Wait + Clock + Eprint + Sync, C: Ticks>(
     shared: &Shared<'_, R, C>,
     settings: &Settings,
-    listener: &TcpListener,
+    door: Door<'_>,
     jobs: &Jobs<Connection>,
     seat: Seat<Connection>,
     workers: &mut [Worker<'_, R, C>],
+    reloading: Reloading<'_>,
 )
     requires cells { settings.now.cells ≡ shared.now.front.now.cells }
     requires seat { seat.queue ≡ jobs.now.queue }
@@ -62,18 +81,36 @@ pub fn serve_all<R: Threads + Wait + Clock + Sync, C: Ticks>(
         shared.rt,
         || -> ()
             requires { seat.queue ≡ jobs.now.queue }
-        { serve_to_the_end(shared, settings, listener, jobs, seat, workers, ended) },
+        { serve_to_the_end(shared, settings, door, jobs, seat, workers, ended) },
+        || -> ()
+            requires { cells ≡ shared.now.front.now.cells }
+        { look_after(shared, cells, reloading, ended) },
+    );
+}
+
+/// Sweeps in one thread, and looks after files in another.
+fn look_after<R: Threads + Wait + Clock + Eprint + Sync, C: Ticks>(
+    shared: &Shared<'_, R, C>,
+    cells: usize,
+    mut reloading: Reloading<'_>,
+    ended: &AtomicBool,
+)
+    requires { cells ≡ shared.now.front.now.cells }
+{
+    thread::join(
+        shared.rt,
         || -> ()
             requires { cells ≡ shared.now.front.now.cells }
         { sweep_to_the_end(shared, cells, ended) },
+        || keep_to_the_end(shared, cells, &mut reloading, ended),
     );
 }
 
 /// Accepts connections in one thread, and has each worker serve them in another.
-fn serve_to_the_end<R: Threads + Wait + Clock + Sync, C: Ticks>(
+fn serve_to_the_end<R: Threads + Wait + Clock + Eprint + Sync, C: Ticks>(
     shared: &Shared<'_, R, C>,
     settings: &Settings,
-    listener: &TcpListener,
+    mut door: Door<'_>,
     jobs: &Jobs<Connection>,
     mut seat: Seat<Connection>,
     workers: &mut [Worker<'_, R, C>],
@@ -86,7 +123,7 @@ fn serve_to_the_end<R: Threads + Wait + Clock + Sync, C: Ticks>(
         || work_all(shared, workers),
         || -> ()
             requires { seat.queue ≡ jobs.now.queue }
-        { accept_to_the_end(shared, settings, listener, jobs, &mut seat) },
+        { accept_to_the_end(shared, settings, &mut door, jobs, &mut seat) },
     );
     ended.store(true, Ordering::SeqCst);
 }
@@ -95,32 +132,21 @@ fn serve_to_the_end<R: Threads + Wait + Clock + Sync, C: Ticks>(
 fn accept_to_the_end<R: Wait + Clock, C>(
     shared: &Shared<'_, R, C>,
     settings: &Settings,
-    listener: &TcpListener,
+    door: &mut Door<'_>,
     jobs: &Jobs<Connection>,
     seat: &mut Seat<Connection>,
 )
     requires { seat.old.queue ≡ jobs.now.queue }
 {
-    let Settings {
-        connections,
-        open,
-        ..
-    } = *settings;
-    accept_all(
-        shared.rt,
-        listener,
-        jobs,
-        seat,
-        shared.posts,
-        connections,
-        open,
-    );
+    if shared.start.is_made(shared.rt) {
+        accept_all(shared.rt, door, jobs, seat, settings.connections);
+    }
     shared.accepted.store(true, Ordering::SeqCst);
     wake_all(shared.posts);
 }
 
 /// Has each worker serve connections in a thread of its own, to the end.
-fn work_all<R: Threads + Wait + Sync, C: Ticks>(
+fn work_all<R: Threads + Wait + Clock + Sync, C: Ticks>(
     shared: &Shared<'_, R, C>,
     workers: &mut [Worker<'_, R, C>],
 ) {
@@ -130,8 +156,8 @@ fn work_all<R: Threads + Wait + Sync, C: Ticks>(
     }
 }
 
-/// Sweeps the cells in turn, round by round, until the end. At each round it tells the time, and has
-/// the workers look for idle peers.
+/// Sweeps the cells in turn, round by round, until the end. At each round it tells the time, and has the
+/// workers look after their peers.
 fn sweep_to_the_end<R: Wait + Clock, C: Ticks>(
     shared: &Shared<'_, R, C>,
     cells: usize,
@@ -139,6 +165,9 @@ fn sweep_to_the_end<R: Wait + Clock, C: Ticks>(
 )
     requires { cells ≡ shared.now.front.now.cells }
 {
+    if !shared.start.is_made(shared.rt) {
+        return;
+    }
     for _ in shared.rt.forever() {
         let now = shared.clock.moment().tick();
         shared.time.store(now, Ordering::SeqCst);
@@ -150,5 +179,41 @@ fn sweep_to_the_end<R: Wait + Clock, C: Ticks>(
             return;
         }
         thread::sleep(shared.rt, Duration::from_millis(REST));
+    }
+}
+
+/// Looks after the server's files, round by round, until the end: whether it is to end, whether the logins
+/// have changed, and what is told of it.
+fn keep_to_the_end<R: Wait + Clock + Eprint, C: Ticks>(
+    shared: &Shared<'_, R, C>,
+    cells: usize,
+    reloading: &mut Reloading<'_>,
+    ended: &AtomicBool,
+) {
+    if !shared.start.is_made(shared.rt) {
+        return;
+    }
+    let mut telling = Telling::new(shared.upkeep);
+    for _ in shared.rt.forever() {
+        if shared.upkeep.is_over() {
+            shared.over.store(true, Ordering::SeqCst);
+        }
+        reload(shared, reloading);
+        telling.tell(shared, cells);
+        if ended.load(Ordering::SeqCst) {
+            return;
+        }
+        thread::sleep(shared.rt, Duration::from_millis(REST));
+    }
+}
+
+/// Reads the logins again where it is time and they have changed, and tells where they can't be had.
+fn reload<R: Wait + Eprint, C>(shared: &Shared<'_, R, C>, reloading: &mut Reloading<'_>) {
+    let now = shared.time.load(Ordering::SeqCst);
+    if reloading.is_due(now) {
+        if let Err(fault) = reloading.read(shared.rt, shared.tables) {
+            // Where this can't be written, nobody is told.
+            let _ = eprintln!(shared.rt; "s4d: {fault}");
+        }
     }
 }

@@ -2,10 +2,12 @@
 
 use crate::post::Post;
 use mio::net::TcpStream;
+use mio::unix::SourceFd;
 use mio::{Events, Interest, Poll, Token};
 use std::alloc::Global;
 use std::io;
-use std::net::Net;
+use std::net::{Net, TcpListener};
+use std::os::fd::AsRawFd;
 use std::time::Duration;
 
 /// What stands for the worker's post. A peer is known by its place and one more.
@@ -34,6 +36,17 @@ impl Watch {
     pub fn add(&self, stream: &mut TcpStream, place: usize) -> io::Result<()> {
         let both = Interest::READABLE | Interest::WRITABLE;
         self.poll.registry().register(stream, token_of(place), both)
+    }
+
+    /// Watches a listener too, which from now on has nobody wait for a connection.
+    pub fn add_listener(&self, listener: &TcpListener) -> io::Result<()> {
+        listener.set_nonblocking(true)?;
+        let descriptor = listener.as_raw_fd();
+        let mut source = SourceFd(&descriptor);
+        let token = token_of(0);
+        self.poll
+            .registry()
+            .register(&mut source, token, Interest::READABLE)
     }
 
     /// Waits until something is told, and for so long at most. Where the system can't tell, nothing is.

@@ -17,6 +17,7 @@ use s4_types::NoMemory;
 use std::alloc::Global;
 use std::sync::Wait;
 use std::sync::atomic::Ordering;
+use std::time::Clock;
 
 /// A worker's place: where it takes connections, where it waits for what their peers say, and where it
 /// answers their requests.
@@ -52,6 +53,7 @@ pub fn staff<'a, R, C>(
                 rt: shared.rt,
                 clock: shared.clock,
                 front: shared.front,
+                tally: shared.tally,
                 pass,
             };
             workers.push(Worker {
@@ -77,11 +79,14 @@ pub fn gather<R, C>(alloc: Global, workers: Vec<Worker<'_, R, C>>) -> Result<Vec
     Ok(passes)
 }
 
-impl<R: Wait, C: Ticks> Worker<'_, R, C> {
+impl<R: Wait + Clock, C: Ticks> Worker<'_, R, C> {
     /// Serves the connections that it is given, until no more are accepted and all of its own have
     /// ended.
     pub fn run(&mut self, shared: &Shared<'_, R, C>) {
         self.post.begin();
+        if !shared.start.is_made(shared.rt) {
+            return;
+        }
         for _ in shared.rt.forever() {
             let last = shared.accepted.load(Ordering::SeqCst);
             self.take(shared);
@@ -109,7 +114,10 @@ impl<R: Wait, C: Ticks> Worker<'_, R, C> {
                 *taken = taken.wrapping_add(1);
                 let stream = TcpStream::from_std(connection.stream);
                 let now = shared.time.load(Ordering::SeqCst);
-                if peers.add(watch, stream, now).is_err() {
+                let table = shared.tables.newest(shared.rt);
+                if table.is_err()
+                    || table.is_ok_and(|table| peers.add(watch, stream, table, now).is_err())
+                {
                     post.end(1);
                 }
             }
@@ -134,7 +142,12 @@ impl<R: Wait, C: Ticks> Worker<'_, R, C> {
             }
         }
         peers.serve_eager(shared, desk, now);
-        peers.close_idle(now, shared.idle);
+        if peers.look(shared, now) {
+            post.show(&peers.states());
+        }
+        if shared.over.load(Ordering::SeqCst) {
+            peers.end(now);
+        }
         let ended = before.saturating_sub(peers.len());
         if ended > 0 {
             post.end(ended as u64);

@@ -5,8 +5,9 @@ use crate::frames::{
     BAD_LENGTH, BAD_LOGIN, CALL, CREATE, DENIED, MADE, MALFORMED, WELCOME, joined,
 };
 use s4_client::{CallFault, call};
-use s4_commands::{Call, Fault, call_over};
-use s4_session::Fault as SessionFault;
+use s4_command::Call;
+use s4_commands::{Fault, call_over};
+use s4_stream::SessionFault;
 use s4_types::{ObjectId, Purse, Refusal, Reply, Right};
 use std::alloc::Global;
 use std::process::Abort;

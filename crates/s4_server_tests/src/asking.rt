@@ -1,9 +1,9 @@
 //! Calls as lines of words.
 
 use s4_client::CallFault;
-use s4_commands::Call;
+use s4_command::Call;
 use s4_script::parse_request;
-use s4_session::Hello;
+use s4_stream::Hello;
 use s4_types::{Caller, Principal};
 use std::alloc::Global;
 

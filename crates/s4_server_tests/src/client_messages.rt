@@ -3,7 +3,7 @@
 use crate::asking::SECRET;
 use crate::frames::CALL;
 use s4_client::{CallFault, message};
-use s4_session::Hello;
+use s4_stream::Hello;
 use s4_types::{Bytes, Caller, ObjectId, Principal, Purse, PurseNo, Request, Serial};
 use std::alloc::Global;
 use std::test::Fail;

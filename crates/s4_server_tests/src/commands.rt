@@ -3,9 +3,9 @@
 use crate::asking::{SECRET, call_for};
 use crate::frames::ANSWER;
 use s4_client::CallFault;
-use s4_commands::{Command, Fault, FaultText, Service, call_over, obey};
+use s4_command::{Command, Service, Settings};
+use s4_commands::{Fault, FaultText, call_over, obey};
 use s4_run::RunFault;
-use s4_server::Settings;
 use s4_types::Principal;
 use std::alloc::Global;
 use std::io::Write;
@@ -45,15 +45,16 @@ enum Asked {
     Strike(u32),
     /// A call at an address without a port.
     Call,
-    /// A server at an address that can't be had.
-    Serve,
+    /// A server at an address that can't be had, until there is something at this path.
+    Serve(Option<&'static str>),
 }
 
 enum Outcome {
     Writes(&'static str),
     Fails(RunFault),
     CannotConnect,
-    CannotListen,
+    /// The line of a fault, with status 1.
+    Tells(&'static str),
 }
 
 /// A list of arrivals is no script.
@@ -79,7 +80,22 @@ const ROWS: &[Row] = &[
         Outcome::Fails(RunFault::BadLine(2)),
     ),
     Row(Asked::Call, "", Outcome::CannotConnect),
-    Row(Asked::Serve, "", Outcome::CannotListen),
+    Row(Asked::Serve(None), "", Outcome::Tells("s4d: cannot listen")),
+    Row(
+        Asked::Serve(Some("/tmp/s4d/nothing")),
+        "",
+        Outcome::Tells("s4d: cannot listen"),
+    ),
+    Row(
+        Asked::Serve(Some("/tmp")),
+        "",
+        Outcome::Tells("s4d: the file of --until is there already"),
+    ),
+    Row(
+        Asked::Serve(Some("/dev/null/end")),
+        "",
+        Outcome::Tells("s4d: cannot look for the file of --until"),
+    ),
 ];
 
 /// The command that is asked for. The logins are those of the file with this path, which is made
@@ -100,11 +116,22 @@ fn command_of<F: Files>(
         Asked::EmptyHall => Ok(Command::Hall(String::from_str(alloc, path)?)),
         Asked::Strike(who) => Ok(Command::Strike(Principal::new(*who).ok_or("a principal")?)),
         Asked::Call => Ok(Command::Call(call_for(alloc, "nowhere", SECRET, "create 0")?)),
-        Asked::Serve => Ok(Command::Serve(Service {
+        Asked::Serve(until) => Ok(Command::Serve(Service {
             address: String::from_str(alloc, "no address")?,
             logins: String::from_str(alloc, "/dev/null")?,
+            until: path_of(alloc, *until)?,
+            reload: 0,
+            setup: None,
+            status: None,
             settings: Settings::standard(),
         })),
+    }
+}
+
+fn path_of(alloc: Global, path: Option<&str>) -> Result<Option<String>, Fail> {
+    match path {
+        Some(path) => Ok(Some(String::from_str(alloc, path)?)),
+        None => Ok(None),
     }
 }
 
@@ -121,9 +148,9 @@ fn is_outcome(
         (Err(Fault::Call(fault)), Outcome::CannotConnect) => {
             Ok(*fault == CallFault::CannotConnect)
         }
-        (Err(fault), Outcome::CannotListen) => {
+        (Err(fault), Outcome::Tells(wanted)) => {
             let line = FaultText(fault).to_string(alloc)?;
-            Ok(fault.status() == 1 && line.as_str() == "s4d: cannot listen")
+            Ok(fault.status() == 1 && line.as_str() == *wanted)
         }
         _ => Ok(false),
     }
@@ -131,16 +158,22 @@ fn is_outcome(
 
 /// Obeys the command.
 pub fn obeyed<
-    S: Files
-        + Net<Listener = TcpListener, Stream = TcpStream>
+    S: Net<Listener = TcpListener, Stream = TcpStream>
         + Threads
         + Wait
         + Clock
+        + Eprint
         + Sync
         + AllocGlobal,
     W: Write,
->(system: &S, command: &Command, input: &str, output: &mut W) -> Result<(), Fault> {
-    obey(system, command, input.as_bytes(), output)
+>(
+    system: &S,
+    files: &HostRuntime,
+    command: &Command,
+    input: &str,
+    output: &mut W,
+) -> Result<(), Fault> {
+    obey(system, files, command, input.as_bytes(), output)
 }
 
 #[test]
@@ -151,7 +184,7 @@ fn each_command_reads_and_writes_what_is_wanted(rt: HostRuntime) -> Result<(), F
     for Row(asked, input, wanted) in ROWS {
         let command = command_of(&rt, alloc, asked, path.as_str())?;
         let mut output = Vec::new(alloc);
-        let told = obeyed(&rt, &command, input, &mut output);
+        let told = obeyed(&rt, &rt, &command, input, &mut output);
         if let Asked::Hall = asked {
             fs::remove_file(&rt, path.as_str())?;
         }
@@ -167,7 +200,7 @@ fn what_has_no_room_cannot_be_written(rt: HostRuntime) -> Result<(), Fail> {
     let alloc = rt.alloc();
     let mut room = [0; 4];
     let version = Command::Show(String::from_str(alloc, "s4d 0.1.0\n")?);
-    let told = obeyed(&rt, &version, "", &mut room.as_mut_slice());
+    let told = obeyed(&rt, &rt, &version, "", &mut room.as_mut_slice());
     assert_eq!(rt; told, Err(Fault::Run(RunFault::CannotWrite)));
     let call = call_for(alloc, "nowhere", SECRET, "create 0")?;
     let mut answer = ANSWER;

@@ -1,9 +1,10 @@
 //! The lines of faults.
 
 use s4_client::CallFault;
+use s4_command::WordsFault;
 use s4_commands::{Fault, FaultText};
 use s4_run::RunFault;
-use s4_session::Fault as SessionFault;
+use s4_stream::SessionFault;
 use std::alloc::Global;
 use std::process::Abort;
 use std::test::Fail;
@@ -35,6 +36,12 @@ fn each_fault_has_its_line_and_status(rt: HostRuntime) -> Result<(), Fail> {
         (RunFault::NoMemory, "no memory"),
     ] {
         check_line(&rt, rt.alloc(), &Fault::Run(fault), text)?;
+    }
+    for (fault, text) in [
+        (WordsFault::BadRequest, "bad request"),
+        (WordsFault::NoMemory, "no memory"),
+    ] {
+        check_line(&rt, rt.alloc(), &Fault::CommandLine(fault), text)?;
     }
     for (fault, text) in [
         (CallFault::BadRequest, "bad request"),

@@ -20,6 +20,18 @@ mod faults;
 #[cfg(test)]
 mod frames;
 #[cfg(test)]
+mod guesses;
+#[cfg(test)]
+mod patience;
+#[cfg(test)]
+mod reloads;
+#[cfg(test)]
 mod scenes;
 #[cfg(test)]
 mod served;
+#[cfg(test)]
+mod starts;
+#[cfg(test)]
+mod statuses;
+#[cfg(test)]
+mod times;

@@ -2,16 +2,20 @@
 
 use crate::asking::call_for;
 use crate::commands::obeyed;
-use crate::frames::{CALL, CREATE, HELLO, joined};
-use s4_commands::{Command, FaultText};
+use crate::frames::{ANSWER, CALL, CREATE, HELLO, joined};
+use crate::guesses::guess;
+use crate::patience::{come_after_strangers, dribble, trickle};
+use crate::reloads::reload;
+use crate::statuses::read_status;
+use s4_command::Command;
+use s4_commands::FaultText;
 use std::alloc::Global;
 use std::io::{Error, ErrorKind, Read, Write};
 use std::net::{Net, Shutdown, TcpListener, TcpStream};
-use std::rt::Files;
 use std::sync::Wait;
 use std::thread::Threads;
 use std::time::{Clock, Duration};
-use std::{io, thread};
+use std::{fs, io, thread};
 
 /// Where the tests serve.
 pub const ADDRESS: &str = "127.0.0.1:47104";
@@ -25,8 +29,14 @@ pub const PAUSE: u64 = 100;
 /// How many peers are silent beside one that asks.
 pub const SILENT: u32 = 300;
 
+/// How many peers are silent while the server ends.
+const SILENT_TO_THE_END: u32 = 100;
+
 /// How often a peer asks that hears nothing.
 const ASKED: u32 = 20000;
+
+/// How many bytes such a peer hears at first, where it hears late: up to its second Read.
+const BEGUN: usize = 8000;
 
 /// The frame of a Write of 4000 bytes to 7.0.1, up to its data.
 const LONG_WRITE: &[u8] =
@@ -52,6 +62,32 @@ pub enum Scene {
     /// One may be open, and asks for a Create; a second one comes; a third one comes until it is
     /// served.
     AboveTheBound,
+    /// Some are silent. One asks for a Create, and then the server is to end.
+    ToTheEnd,
+    /// One asks for more than the system keeps for a peer, and hears it once the server is to end.
+    LateHearing,
+    /// One sends a Hello byte by byte, and slower than it may.
+    Dribble,
+    /// One is welcomed, and then sends a frame byte by byte, and slower than it may.
+    Trickle,
+    /// As many as may be open are silent, and another one comes until it is served.
+    Strangers,
+    /// One guesses the secret of 7 thrice.
+    Guess,
+    /// The logins are changed.
+    Reload,
+    /// It is read what the server tells of itself.
+    Status,
+}
+
+/// The paths of the file that ends the server, of that of its logins, of that in which it tells of itself,
+/// and of that which it carries out first.
+#[derive(Drop)]
+pub struct Paths<'a> {
+    pub end: &'a str,
+    pub logins: &'a str,
+    pub status: &'a str,
+    pub setup: &'a str,
 }
 
 /// What the peers are sent in their order, and a connection that is still open.
@@ -63,22 +99,30 @@ pub struct Heard {
 
 /// Has the peers of a scene do what they do.
 pub fn play<
-    R: Files
-        + Net<Listener = TcpListener, Stream = TcpStream>
+    R: Net<Listener = TcpListener, Stream = TcpStream>
         + Threads
         + Wait
         + Clock
+        + Eprint
         + Sync
         + AllocGlobal,
->(rt: &R, scene: &Scene) -> io::Result<Heard> {
+>(rt: &R, files: &HostRuntime, scene: &Scene, paths: &Paths<'_>) -> io::Result<Heard> {
     let alloc = rt.alloc();
     match scene {
         Scene::Say(peers) => say_all(rt, alloc, peers),
-        Scene::Call(calls) => call_all(rt, calls),
+        Scene::Call(calls) => call_all(rt, files, calls),
         Scene::AmongSilent => one(alloc, ask_among(rt, alloc)),
         Scene::WithoutHearing => ask_without_hearing(rt, alloc),
         Scene::Silent => one(alloc, hear_only(rt, alloc)),
         Scene::AboveTheBound => one(alloc, meet_the_bound(rt, alloc)),
+        Scene::ToTheEnd => one(alloc, ask_to_the_end(rt, files, alloc, paths.end)),
+        Scene::LateHearing => one(alloc, hear_late(rt, files, alloc, paths.end)),
+        Scene::Dribble => one(alloc, dribble(rt, alloc)),
+        Scene::Trickle => one(alloc, trickle(rt, alloc)),
+        Scene::Strangers => one(alloc, come_after_strangers(rt, alloc)),
+        Scene::Guess => guess(rt, alloc),
+        Scene::Reload => reload(rt, files, alloc, paths),
+        Scene::Status => read_status(rt, files, alloc, paths),
     }
 }
 
@@ -104,23 +148,23 @@ fn say_all<R: Net<Listener = TcpListener, Stream = TcpStream>>(
 
 /// What peers are told who call one after the other.
 fn call_all<
-    R: Files
-        + Net<Listener = TcpListener, Stream = TcpStream>
+    R: Net<Listener = TcpListener, Stream = TcpStream>
         + Threads
         + Wait
         + Clock
+        + Eprint
         + Sync
         + AllocGlobal,
->(rt: &R, calls: &[([u8; 16], &str)]) -> io::Result<Heard> {
+>(rt: &R, files: &HostRuntime, calls: &[([u8; 16], &str)]) -> io::Result<Heard> {
     let mut sent = Vec::new(rt.alloc());
     for (secret, asked) in calls {
-        sent.push(call(rt, *secret, asked)?)?;
+        sent.push(call(rt, files, *secret, asked)?)?;
     }
     Ok(Heard { sent, open: None })
 }
 
 /// What a peer is sent that says this and then no more.
-fn tell<R: Net<Listener = TcpListener, Stream = TcpStream>>(
+pub fn tell<R: Net<Listener = TcpListener, Stream = TcpStream>>(
     rt: &R,
     alloc: Global,
     said: &[u8],
@@ -134,26 +178,28 @@ fn tell<R: Net<Listener = TcpListener, Stream = TcpStream>>(
 }
 
 /// A peer that says nothing yet.
-fn connect<R: Net<Listener = TcpListener, Stream = TcpStream>>(rt: &R) -> io::Result<TcpStream> {
+pub fn connect<R: Net<Listener = TcpListener, Stream = TcpStream>>(
+    rt: &R,
+) -> io::Result<TcpStream> {
     TcpStream::connect(rt, ADDRESS)
 }
 
 /// What principal 7 is told as client 1 who asks for what the words of this line spell: the text of
 /// the reply, or the line of the fault.
 fn call<
-    R: Files
-        + Net<Listener = TcpListener, Stream = TcpStream>
+    R: Net<Listener = TcpListener, Stream = TcpStream>
         + Threads
         + Wait
         + Clock
+        + Eprint
         + Sync
         + AllocGlobal,
->(rt: &R, secret: [u8; 16], asked: &str) -> io::Result<Vec<u8>> {
+>(rt: &R, files: &HostRuntime, secret: [u8; 16], asked: &str) -> io::Result<Vec<u8>> {
     let alloc = rt.alloc();
     let call = call_for(alloc, ADDRESS, secret, asked);
     let command = Command::Call(call.map_err(|_| Error::from(ErrorKind::InvalidInput))?);
     let mut told = Vec::new(alloc);
-    if let Err(fault) = obeyed(rt, &command, "", &mut told) {
+    if let Err(fault) = obeyed(rt, files, &command, "", &mut told) {
         told.extend_from_slice(FaultText(&fault).to_string(alloc)?.as_bytes())?;
     }
     Ok(told)
@@ -230,4 +276,46 @@ fn meet_the_bound<R: Net<Listener = TcpListener, Stream = TcpStream> + Clock>(
         thread::sleep(rt, Duration::from_millis(PAUSE));
     }
     Err(Error::from(ErrorKind::TimedOut))
+}
+
+/// What a peer is sent that asks for a Create, and goes on once it has the reply: then the server is to
+/// end. Others are silent.
+fn ask_to_the_end<R: Net<Listener = TcpListener, Stream = TcpStream>>(
+    rt: &R,
+    files: &HostRuntime,
+    alloc: Global,
+    end: &str,
+) -> io::Result<Vec<u8>> {
+    let mut silent = Vec::new(alloc);
+    for _ in 0..SILENT_TO_THE_END {
+        silent.push(connect(rt)?)?;
+    }
+    let mut stream = connect(rt)?;
+    stream.write_all(CALL)?;
+    let mut answer = [0; ANSWER.len()];
+    stream.read_exact(&mut answer)?;
+    fs::write(files, end, "")?;
+    let mut sent = answer.to_vec(alloc)?;
+    stream.read_to_end(&mut sent)?;
+    for mut stream in silent {
+        stream.read_to_end(&mut sent)?;
+    }
+    Ok(sent)
+}
+
+/// What a peer is sent that asks for more than the system keeps for it, hears the begin, and hears the
+/// rest once the server is to end.
+fn hear_late<R: Net<Listener = TcpListener, Stream = TcpStream> + Clock>(
+    rt: &R,
+    files: &HostRuntime,
+    alloc: Global,
+    end: &str,
+) -> io::Result<Vec<u8>> {
+    let mut stream = deaf(rt, alloc)?;
+    let mut sent = Vec::from_elem(alloc, 0, BEGUN)?;
+    stream.read_exact(sent.as_mut_slice())?;
+    fs::write(files, end, "")?;
+    thread::sleep(rt, Duration::from_millis(PAUSE + PAUSE));
+    stream.read_to_end(&mut sent)?;
+    Ok(sent)
 }

@@ -2,26 +2,29 @@
 
 use crate::asking::{OTHER_SECRET, SECRET};
 use crate::frames::{
-    BAD_LENGTH, BAD_LOGIN, CREATE, CUT_WRITE, DATA, DONE, HELLO, MADE, READ, WELCOME, WRITE,
-    WRONG_HELLO,
+    BAD_LENGTH, BAD_LOGIN, CREATE, CUT_WRITE, DATA, DONE, HELLO, MADE, OTHER_MADE, READ, WELCOME,
+    WRITE, WRONG_HELLO,
 };
-use crate::scenes::{ADDRESS, Heard, PAUSE, SILENT, Scene, TRIES, play};
-use s4_commands::{Fault, Service, serve_on};
+use crate::scenes::{ADDRESS, Heard, PAUSE, Paths, SILENT, Scene, TRIES, play};
+use s4_command::{Patience, Service, Settings};
+use s4_commands::{Fault, serve_on};
 use s4_script::parse_number;
-use s4_server::{Settings, Stopwatch, Ticks};
-use s4_session::Logins;
+use s4_server::{Stopwatch, Ticks};
+use s4_stream::Logins;
 use s4_types::Moment;
 use std::alloc::Global;
 use std::net::{Net, TcpListener, TcpStream};
-use std::rt::Files;
 use std::sync::Wait;
 use std::test::Fail;
 use std::thread::Threads;
 use std::time::{Clock, Duration};
-use std::{str, thread};
+use std::{fs, process, str, thread};
 
-/// The secret of principal 7.
-const LOGINS: &[u8] = b"7 000102030405060708090a0b0c0d0e0f\n";
+/// The logins at first, of principals 7 and 8.
+const LOGINS: &[u8] = b"7 000102030405060708090a0b0c0d0e0f\n8 101112131415161718191a1b1c1d1e1f\n";
+
+/// How often it is looked whether the file of logins has changed, in milliseconds.
+const RELOAD: u64 = 50;
 
 /// A drive with a window of 100 that is served, and what comes of it.
 struct Row {
@@ -30,6 +33,9 @@ struct Row {
     workers: u64,
     connections: u32,
     idle: u64,
+    hello: u64,
+    /// What is carried out first.
+    setup: &'static str,
     open: u32,
     scene: Scene,
     /// What the peers are sent, in their order.
@@ -43,6 +49,9 @@ enum Sent {
     Pieces(&'static [&'static [&'static [u8]]]),
     /// There is one, which is sent so many bytes.
     Count(usize),
+    /// There is one, which is sent the replies to all that was recorded of it: a Create, a Write, and
+    /// Reads of 4000 bytes.
+    EachRecorded,
 }
 
 const ROWS: &[Row] = &[
@@ -52,6 +61,8 @@ const ROWS: &[Row] = &[
         workers: 1,
         connections: 3,
         idle: 0,
+        hello: 0,
+        setup: "",
         open: 1024,
         scene: Scene::Say(&[&[HELLO, CREATE], &[HELLO, WRITE], &[HELLO, READ]]),
         sent: Sent::Pieces(&[&[WELCOME, MADE], &[WELCOME, DONE], &[WELCOME, DATA]]),
@@ -63,6 +74,8 @@ const ROWS: &[Row] = &[
         workers: 2,
         connections: 4,
         idle: 0,
+        hello: 0,
+        setup: "",
         open: 1024,
         scene: Scene::Say(&[
             &[HELLO, CREATE, CUT_WRITE],
@@ -84,6 +97,8 @@ const ROWS: &[Row] = &[
         workers: 1,
         connections: 3,
         idle: 0,
+        hello: 0,
+        setup: "",
         open: 16,
         scene: Scene::Call(&[
             (SECRET, "create 0"),
@@ -103,6 +118,8 @@ const ROWS: &[Row] = &[
         workers: 1,
         connections: 1,
         idle: 0,
+        hello: 0,
+        setup: "",
         open: 16,
         scene: Scene::Call(&[(OTHER_SECRET, "create 0")]),
         sent: Sent::Pieces(&[&[b"s4d: session fault 2"]]),
@@ -114,6 +131,8 @@ const ROWS: &[Row] = &[
         workers: 1,
         connections: SILENT + 1,
         idle: 0,
+        hello: 0,
+        setup: "",
         open: 1024,
         scene: Scene::AmongSilent,
         sent: Sent::Pieces(&[&[WELCOME, MADE]]),
@@ -125,6 +144,8 @@ const ROWS: &[Row] = &[
         workers: 4,
         connections: SILENT + 1,
         idle: 0,
+        hello: 0,
+        setup: "",
         open: 1024,
         scene: Scene::AmongSilent,
         sent: Sent::Pieces(&[&[WELCOME, MADE]]),
@@ -136,6 +157,8 @@ const ROWS: &[Row] = &[
         workers: 1,
         connections: 2,
         idle: 500,
+        hello: 0,
+        setup: "",
         open: 1024,
         scene: Scene::WithoutHearing,
         sent: Sent::Count(WELCOME.len() + MADE.len()),
@@ -147,6 +170,8 @@ const ROWS: &[Row] = &[
         workers: 1,
         connections: 1,
         idle: 200,
+        hello: 0,
+        setup: "",
         open: 1024,
         scene: Scene::Silent,
         sent: Sent::Count(0),
@@ -158,10 +183,141 @@ const ROWS: &[Row] = &[
         workers: 1,
         connections: 2,
         idle: 0,
+        hello: 0,
+        setup: "",
         open: 1,
         scene: Scene::AboveTheBound,
         sent: Sent::Pieces(&[&[MADE]]),
         records: (1, 1),
+    },
+    Row {
+        name: "at the end a peer was told all, and silent ones are closed",
+        cells: 2,
+        workers: 2,
+        connections: 0,
+        idle: 60000,
+        hello: 0,
+        setup: "",
+        open: 1024,
+        scene: Scene::ToTheEnd,
+        sent: Sent::Pieces(&[&[WELCOME, MADE]]),
+        records: (1, 1),
+    },
+    Row {
+        name: "at the end a peer hears the replies to all that was read of it, and no more is",
+        cells: 2,
+        workers: 1,
+        connections: 9,
+        idle: 60000,
+        hello: 0,
+        setup: "",
+        open: 1024,
+        scene: Scene::LateHearing,
+        sent: Sent::EachRecorded,
+        records: (4, 20002),
+    },
+    Row {
+        name: "who isn't welcomed in time is closed, whatever bytes come",
+        cells: 2,
+        workers: 1,
+        connections: 1,
+        idle: 60000,
+        hello: 400,
+        setup: "",
+        open: 1024,
+        scene: Scene::Dribble,
+        sent: Sent::Count(0),
+        records: (0, 0),
+    },
+    Row {
+        name: "who sends no whole frame is idle, whatever bytes come",
+        cells: 2,
+        workers: 1,
+        connections: 1,
+        idle: 400,
+        hello: 60000,
+        setup: "",
+        open: 1024,
+        scene: Scene::Trickle,
+        sent: Sent::Pieces(&[&[WELCOME]]),
+        records: (0, 0),
+    },
+    Row {
+        name: "strangers hold no place for longer than they may",
+        cells: 2,
+        workers: 2,
+        connections: SILENT + 1,
+        idle: 60000,
+        hello: 300,
+        setup: "",
+        open: SILENT,
+        scene: Scene::Strangers,
+        sent: Sent::Pieces(&[&[WELCOME, MADE]]),
+        records: (1, 1),
+    },
+    Row {
+        name: "the third failed login of a principal waits, and nobody else does",
+        cells: 2,
+        workers: 1,
+        connections: 5,
+        idle: 60000,
+        hello: 60000,
+        setup: "",
+        open: 1024,
+        scene: Scene::Guess,
+        sent: Sent::Pieces(&[
+            &[BAD_LOGIN],
+            &[BAD_LOGIN],
+            &[WELCOME],
+            &[WELCOME, MADE],
+            &[BAD_LOGIN],
+        ]),
+        records: (1, 1),
+    },
+    Row {
+        name: "logins are read again, and a bad file changes nothing",
+        cells: 2,
+        workers: 2,
+        connections: 0,
+        idle: 60000,
+        hello: 60000,
+        setup: "",
+        open: 1024,
+        scene: Scene::Reload,
+        sent: Sent::Pieces(&[
+            &[BAD_LOGIN],
+            &[WELCOME, MADE],
+            &[],
+            &[OTHER_MADE],
+            &[WELCOME],
+        ]),
+        records: (2, 20002),
+    },
+    Row {
+        name: "what a server tells of itself is whole at each time",
+        cells: 2,
+        workers: 2,
+        connections: 0,
+        idle: 60000,
+        hello: 60000,
+        setup: "",
+        open: 1024,
+        scene: Scene::Status,
+        sent: Sent::Pieces(&[&[BAD_LOGIN]]),
+        records: (2, 2),
+    },
+    Row {
+        name: "a setup is carried out first",
+        cells: 2,
+        workers: 1,
+        connections: 1,
+        idle: 0,
+        hello: 0,
+        setup: "7 create 0\n7 write 7.0.1 0 68656c6c6f\n",
+        open: 1024,
+        scene: Scene::Say(&[&[HELLO, READ]]),
+        sent: Sent::Pieces(&[&[WELCOME, DATA]]),
+        records: (3, 3),
     },
 ];
 
@@ -181,21 +337,29 @@ impl<R: Clock + Sync> Ticks for Watch<'_, R> {
     }
 }
 
-fn service_of(alloc: Global, row: &Row) -> Result<Service, Fail> {
+fn service_of(alloc: Global, row: &Row, paths: &Paths<'_>) -> Result<Service, Fail> {
     let (cells, workers) = (row.cells, row.workers);
     if cells == 0 || cells > 16 || workers == 0 || workers > 8 {
         return Err(Fail::from("settings"));
     }
     Ok(Service {
         address: String::from_str(alloc, ADDRESS)?,
-        logins: String::new(alloc),
+        logins: String::from_str(alloc, paths.logins)?,
+        reload: RELOAD,
+        setup: Some(String::from_str(alloc, paths.setup)?),
+        status: Some(String::from_str(alloc, paths.status)?),
+        until: Some(String::from_str(alloc, paths.end)?),
         settings: Settings {
             window: 100,
             cells,
             workers,
             connections: row.connections,
-            idle: row.idle,
+            patience: Patience {
+                idle: row.idle,
+                hello: row.hello,
+            },
             open: row.open,
+            first: 0,
         },
     })
 }
@@ -214,23 +378,24 @@ fn listen<R: Net<Listener = TcpListener, Stream = TcpStream> + Clock>(
 }
 
 /// What the server writes.
-fn serve<R: Net + Threads + Wait + Clock + Sync + AllocGlobal>(
+fn serve<R: Net + Threads + Wait + Clock + Eprint + Sync + AllocGlobal>(
     rt: &R,
+    files: &HostRuntime,
     service: &Service,
     listener: &TcpListener,
-    logins: &Logins,
+    logins: Logins,
 ) -> Result<Vec<u8>, Fault> {
-    let clock = match service.settings.idle {
+    let clock = match service.settings.patience.idle {
         0 => Watch::Five,
-        _ => Watch::Runs(Stopwatch::start(rt)),
+        _ => Watch::Runs(Stopwatch::start(rt, 0)),
     };
     let mut output = Vec::new(rt.alloc());
-    serve_on(rt, service, &clock, listener, logins, &mut output)?;
+    serve_on(rt, files, service, &clock, listener, logins, &mut output)?;
     Ok(output)
 }
 
-/// Whether the peers were sent that.
-fn is_sent(heard: &Heard, wanted: &Sent) -> bool {
+/// Whether the peers were sent that, where there are so many records.
+fn is_sent(heard: &Heard, wanted: &Sent, records: u64) -> bool {
     let sent = heard.sent.as_slice();
     match wanted {
         Sent::Pieces(peers) => {
@@ -241,7 +406,17 @@ fn is_sent(heard: &Heard, wanted: &Sent) -> bool {
                     .all(|(sent, pieces)| is_joined(sent, pieces))
         }
         Sent::Count(count) => matches!(sent, [only] if only.len() == *count),
+        Sent::EachRecorded => matches!(sent, [only] if only.len() as u64 == sent_for(records)),
     }
+}
+
+/// How many bytes are sent for a Create, a Write, and else Reads of 4000 bytes, so many in all. DATA
+/// has the data of a Read of 5.
+fn sent_for(records: u64) -> u64 {
+    let begin = WELCOME.len() + MADE.len() + DONE.len();
+    let read = (DATA.len() as u64).wrapping_add(3995);
+    read.wrapping_mul(records.wrapping_sub(2))
+        .wrapping_add(begin as u64)
 }
 
 /// Whether the bytes are these pieces, one behind the other.
@@ -272,19 +447,26 @@ struct Told {
 
 /// Serves, and has the peers do beside what they do in the scene.
 fn serve_beside<
-    R: Files
-        + Net<Listener = TcpListener, Stream = TcpStream>
+    R: Net<Listener = TcpListener, Stream = TcpStream>
         + Threads
         + Wait
         + Clock
+        + Eprint
         + Sync
         + AllocGlobal,
->(rt: &R, service: &Service, logins: &Logins, scene: &Scene) -> Result<Told, &'static str> {
+>(
+    rt: &R,
+    files: &HostRuntime,
+    service: &Service,
+    logins: Logins,
+    scene: &Scene,
+    paths: &Paths<'_>,
+) -> Result<Told, &'static str> {
     let listener = listen(rt).ok_or("the port can't be had")?;
     let (served, heard) = thread::join(
         rt,
-        || serve(rt, service, &listener, logins),
-        || play(rt, scene),
+        || serve(rt, files, service, &listener, logins),
+        || play(rt, files, scene, paths),
     );
     Ok(Told {
         served: served.map_err(|_| "the server ends by a fault")?,
@@ -296,7 +478,9 @@ fn serve_beside<
 fn is_told(told: &Told, row: &Row) -> bool {
     let (least, most) = row.records;
     match records_of(told.served.as_slice()) {
-        Some(records) => { least <= records && records <= most && is_sent(&told.heard, &row.sent) }
+        Some(records) => {
+            least <= records && records <= most && is_sent(&told.heard, &row.sent, records)
+        }
         None => false,
     }
 }
@@ -304,16 +488,34 @@ fn is_told(told: &Told, row: &Row) -> bool {
 #[test]
 fn each_server_and_its_peers_do_what_is_wanted(rt: HostRuntime) -> Result<(), Fail> {
     let alloc = rt.alloc();
-    let logins = Logins::read(alloc, LOGINS).map_err(|_| Fail::from("a table of logins"))?;
+    let id = process::id(rt.process());
+    let end = format!(in alloc; "/tmp/s4d_end_{id}")?;
+    let logins = format!(in alloc; "/tmp/s4d_logins_{id}")?;
+    let status = format!(in alloc; "/tmp/s4d_status_{id}")?;
+    let setup = format!(in alloc; "/tmp/s4d_begin_{id}")?;
+    let paths = Paths {
+        end: end.as_str(),
+        logins: logins.as_str(),
+        status: status.as_str(),
+        setup: setup.as_str(),
+    };
     for row in ROWS {
-        let service = service_of(alloc, row)?;
-        match serve_beside(&rt, &service, &logins, &row.scene) {
+        let _ = fs::remove_file(&rt, paths.end);
+        fs::write(&rt, paths.logins, LOGINS)?;
+        fs::write(&rt, paths.setup, row.setup)?;
+        let service = service_of(alloc, row, &paths)?;
+        let table = Logins::read(alloc, LOGINS).map_err(|_| Fail::from("a table of logins"))?;
+        match serve_beside(&rt, &rt, &service, table, &row.scene, &paths) {
             Ok(told) => {
                 let served = str::from_utf8(&told.served);
                 assert!(rt; is_told(&told, row), "{}: {served:?}", row.name);
             }
             Err(why) => assert!(rt; false, "{}: {why}", row.name),
         }
+        let _ = fs::remove_file(&rt, paths.end);
+    }
+    for path in [paths.logins, paths.setup, paths.status] {
+        fs::remove_file(&rt, path)?;
     }
     Ok(())
 }

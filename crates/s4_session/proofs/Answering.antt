@@ -13,13 +13,13 @@ use Rattle.s4_types.specs.declared.record.Step.TheVariants as steps
 use Rattle.s4_types.specs.Play.{record_of, replies as replies_in, last_of, is_no_memory, request_count, carried_out, without_no_memory}
 use Rattle.s4_types.proofs.Booleans.{by_test}
 use Rattle.s4_types.proofs.Snoc.{last_of-snoc, replies-snoc}
-use Rattle.s4_state.specs.Log.{Log, base_of, log_after, steps_on}
+use Rattle.s4_types.specs.Log.{Log, base_of, log_after, steps_on}
 use Rattle.s4_codec.specs.Replies.{has_body}
 use Rattle.s4_drive.specs.Step.{Steps, Answers}
-use Rattle.s4_session.specs.declared.event.Event.{Event}
-use Rattle.s4_session.specs.declared.event.Event.TheVariants.{Welcome, Request, Fault}
-use Rattle.s4_session.specs.declared.event.Fault as kinds
-use Rattle.s4_session.specs.Sent.{sent_for, welcome, fault_frame, reply_frame}
+use Rattle.s4_stream.specs.declared.event.Event.{Event}
+use Rattle.s4_stream.specs.declared.event.Event.TheVariants.{Welcome, Request, Fault}
+use Rattle.s4_stream.specs.declared.event.SessionFault as kinds
+use Rattle.s4_stream.specs.Talk.{sent_for, welcome, fault_frame, reply_frame}
 use Rattle.s4_session.specs.Answered.{steps_by, Answered}
 
 -- ---- lists that are joined
@@ -112,7 +112,7 @@ answered_welcome t caller log p q e = record {
   sent = e ∙ ap (λ (w : List ℕ). p ++ w) (sym (append-nil welcome));
 }
 
-pub answered_fault : (t : ℕ) (f : kinds.Fault) (log : Log) (p q : List ℕ) → q ≡ p ++ fault_frame f → Answered t (Fault f ∷ []) log log p q
+pub answered_fault : (t : ℕ) (f : kinds.SessionFault) (log : Log) (p q : List ℕ) → q ≡ p ++ fault_frame f → Answered t (Fault f ∷ []) log log p q
 answered_fault t f log p q e = record {
   replies = [];
   each = refl;

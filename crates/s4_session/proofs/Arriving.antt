@@ -11,22 +11,22 @@ use Rattle.s4_types.specs.declared.record.Step.{Step}
 use Rattle.s4_types.specs.declared.record.Step.TheVariants as steps
 use Rattle.s4_types.specs.Play.{request_count, carried_out, without_no_memory}
 use Rattle.s4_types.proofs.Booleans.{by_test, ||-false, ||-true}
-use Rattle.s4_state.specs.Log.{Log, fresh_log, steps_on}
+use Rattle.s4_types.specs.Log.{Log, fresh_log, steps_on}
 use Rattle.s4_codec.specs.Replies.{has_body}
-use Rattle.s4_session.specs.declared.event.Event.{Event}
-use Rattle.s4_session.specs.declared.event.Event.TheVariants.{Welcome, Request, Fault}
-use Rattle.s4_session.specs.declared.event.Stand.TheVariants.{Greeting}
+use Rattle.s4_stream.specs.declared.event.Event.{Event}
+use Rattle.s4_stream.specs.declared.event.Event.TheVariants.{Welcome, Request, Fault}
+use Rattle.s4_stream.specs.declared.event.SessionState.TheVariants.{Greeting}
 use Rattle.s4_session.specs.declared.hall_step.HallStep.{HallStep}
 use Rattle.s4_session.specs.declared.hall_step.HallStep.TheVariants.{Arrive, Sweep}
-use Rattle.s4_session.specs.Logins.{Logins}
-use Rattle.s4_session.specs.Stream.{Heard, hear, events_of}
-use Rattle.s4_session.specs.Feeding.{Listening, after_events, left_by}
+use Rattle.s4_stream.specs.Logins.{Logins}
+use Rattle.s4_stream.specs.Stream.{Heard, hear, events_of}
+use Rattle.s4_stream.specs.Feeding.{Listening, after_events, left_by}
 use Rattle.s4_session.specs.Arrivals.{piece_on, stream_of, is_on, occurs, moment_after, Asked, Asks, Sweeps, step_of, asked_by_event, events_by, asked_by_step, asked_after, asked_in, requests_of}
-use Rattle.s4_session.specs.Sent.{sent_for, replies_on, sent_by}
-use Rattle.s4_session.specs.Determined.{requests_in}
+use Rattle.s4_stream.specs.Talk.{sent_for, requests_in}
+use Rattle.s4_session.specs.Sent.{replies_on, sent_by}
 use Rattle.s4_session.specs.Answered.{steps_by, Answered}
 use Rattle.s4_session.specs.Halls.{Hall, fresh, session_of, session_after, heard_on, Takes, StandsAfter, Adds}
-use Rattle.s4_session.proofs.Cuts.{hear_cut}
+use Rattle.s4_stream.proofs.Cuts.{hear_cut}
 use Rattle.s4_session.proofs.Answering.{steps_on-append, request_count-append, carried_out-append, without-append, sent_for-append}
 
 same_number : (c : ℕ) → eqb c c ≡ true
@@ -101,7 +101,7 @@ asked_steps c t (Fault f ∷ events) = asked_steps c t events
 
 -- what is heard where the piece comes after the arrivals
 abbrev pub heard_then : Logins → List HallStep → ℕ → List ℕ → Heard
-heard_then logins past c piece = hear logins (session_after c logins past).stand ((session_after c logins past).held ++ piece)
+heard_then logins past c piece = hear logins (session_after c logins past).state ((session_after c logins past).pending ++ piece)
 
 heard_more : (logins : Logins) (past : List HallStep) (c : ℕ) (piece : List ℕ)
     → hear logins Greeting (stream_of c past ++ piece) ≡ after_events (events_of logins (stream_of c past)) (heard_then logins past c piece)
@@ -276,7 +276,7 @@ module _ (window : ℕ) (logins : Logins) (arrivals : List HallStep) (told : Lis
 
   heard_is : heard_on hall.logins c hall.sessions piece ≡ heard
   unfolding heard
-  heard_is = ap (λ (l : Logins). heard_on l c hall.sessions piece) st.logins_are ∙ ap (λ (s : Listening). hear logins s.stand (s.held ++ piece)) listening
+  heard_is = ap (λ (l : Logins). heard_on l c hall.sessions piece) st.logins_are ∙ ap (λ (s : Listening). hear logins s.state (s.pending ++ piece)) listening
 
   answered : Answered t heard.events hall.log new.log [] sent
   answered = subst (λ (h : Heard). Answered t h.events hall.log new.log [] sent) heard_is tk.answered

@@ -11,14 +11,15 @@ use Rattle.s4_codec.specs.Frames.{frame_limit, Front, Whole, front_of}
 use Rattle.s4_codec.specs.Replies.{reply, reply_in, has_body}
 use Rattle.s4_codec.proofs.Lawful.{both_true, some_is}
 use Rattle.s4_codec.proofs.Short.{body_read, body_framed}
-use Rattle.s4_session.specs.declared.event.Event.{Event}
-use Rattle.s4_session.specs.declared.event.Event.TheVariants.{Welcome, Request, Fault}
+use Rattle.s4_stream.specs.declared.event.Event.{Event}
+use Rattle.s4_stream.specs.declared.event.Event.TheVariants.{Welcome, Request, Fault}
 use Rattle.s4_session.specs.declared.hall_step.HallStep.{HallStep}
-use Rattle.s4_session.specs.Logins.{Logins}
-use Rattle.s4_session.specs.Stream.{events_of}
+use Rattle.s4_stream.specs.Logins.{Logins}
+use Rattle.s4_stream.specs.Stream.{events_of}
 use Rattle.s4_session.specs.Arrivals.{stream_of, occurs, Asked, Asks, Sweeps, step_of, asked_in, requests_of}
-use Rattle.s4_session.specs.Sent.{welcome, fault_frame, reply_frame, sent_for, replies_on, sent_by, bytes_for}
-use Rattle.s4_session.specs.Determined.{requests_in, EachRequestHasOneReply, CanBeSent, SentBytesDetermineReplies, RunsHaveOneListOfReplies}
+use Rattle.s4_stream.specs.Talk.{welcome, fault_frame, reply_frame, sent_for, requests_in}
+use Rattle.s4_session.specs.Sent.{replies_on, sent_by, bytes_for}
+use Rattle.s4_session.specs.Determined.{EachRequestHasOneReply, CanBeSent, SentBytesDetermineReplies, RunsHaveOneListOfReplies}
 use Rattle.s4_session.proofs.Arriving.{replies_length, count_in}
 use Rattle.s4_session.proofs.Sending.{sent_none}
 

@@ -5,7 +5,7 @@ use Rattle.s4_types.specs.Play.{play, replies}
 use Rattle.s4_codec.specs.Format.{number_at, block_at}
 use Rattle.s4_session.specs.declared.hall_step.HallStep.{HallStep}
 use Rattle.s4_session.specs.declared.hall_step.HallStep.TheVariants.{Arrive}
-use Rattle.s4_session.specs.Logins.{Logins}
+use Rattle.s4_stream.specs.Logins.{Logins}
 use Rattle.s4_session.specs.Arrivals.{requests_of}
 use Rattle.s4_session.specs.Sent.{sent_by, sent_without_strangers}
 

@@ -3,8 +3,8 @@ use Rattle.std.proofs.Common.{◌≡◌, ℕ, Bool, false, cond, eqb, Some, List
 use Rattle.std.specs.Prelude.{unwrap_or, OnOk, Result, Ok, Err}
 use Rattle.std.specs.Ordering.{is_eq, nat_cmp}
 use Rattle.s4_types.proofs.Booleans.{by_test}
-use Rattle.s4_session.specs.Logins.{Logins}
-use Rattle.s4_session.specs.Feeding.{Listening, hear_piece, left_by}
+use Rattle.s4_stream.specs.Logins.{Logins}
+use Rattle.s4_stream.specs.Feeding.{Listening, hear_piece, left_by}
 use Rattle.s4_session.specs.Halls.{Sessions, session_of, fresh, heard_on, Feeds}
 use Rattle.s4_session.proofs.Numbers.{eq_is}
 

@@ -19,18 +19,18 @@ use Rattle.s4_laws.proofs.Isolation.{records-strike}
 use Rattle.s4_drive.proofs.Carried.{all_carried, records_after, play_is}
 use Rattle.s4_codec.specs.Requests.{request_in}
 use Rattle.s4_codec.specs.Frames.{frame_limit, Front, Whole, Part, BadLength, front_of}
-use Rattle.s4_session.specs.declared.event.Event.{Event}
-use Rattle.s4_session.specs.declared.event.Event.TheVariants.{Welcome, Request, Fault}
-use Rattle.s4_session.specs.declared.event.Stand.TheVariants.{Greeting, Open, Closed}
+use Rattle.s4_stream.specs.declared.event.Event.{Event}
+use Rattle.s4_stream.specs.declared.event.Event.TheVariants.{Welcome, Request, Fault}
+use Rattle.s4_stream.specs.declared.event.SessionState.TheVariants.{Greeting, Open, Closed}
 use Rattle.s4_session.specs.declared.hall_step.HallStep.{HallStep}
 use Rattle.s4_session.specs.declared.hall_step.HallStep.TheVariants.{Arrive, Sweep}
-use Rattle.s4_session.specs.Logins.{Logins}
-use Rattle.s4_session.specs.Hello.{hello_in, greeted}
-use Rattle.s4_session.specs.Stream.{Heard, hear, hear_frames, from_front, asked_by, stand_after, events_of}
+use Rattle.s4_stream.specs.Logins.{Logins}
+use Rattle.s4_stream.specs.Hello.{hello_in, greeted}
+use Rattle.s4_stream.specs.Stream.{Heard, hear, hear_frames, from_front, asked_by, state_after, events_of}
 use Rattle.s4_session.specs.Arrivals.{piece_on, stream_of, occurs, is_welcome_of, Asked, Asks, Sweeps, step_of, asked_by_step, asked_after, asked_in, requests_of}
 use Rattle.s4_session.specs.Sent.{replies_on, sent_on, sent_by, bytes_for, is_by, AreReplies, IsIsolated}
-use Rattle.s4_session.proofs.Cuts.{hear_cut}
-use Rattle.s4_session.proofs.Frames.{closed_frames}
+use Rattle.s4_stream.proofs.Cuts.{hear_cut}
+use Rattle.s4_stream.proofs.Hearing.{closed_frames}
 use Rattle.s4_session.proofs.Arriving.{no_stream, stream_more, asked_of, heard_then, events_more, events_by_is}
 
 -- ---- whose requests a stream says
@@ -57,7 +57,7 @@ after_closed : (p : ℕ) (n : ℕ) (logins : Logins) (bytes : List ℕ) → (hea
 after_closed p n logins bytes = ap (λ (h : Heard). h.events) (closed_frames n logins bytes)
 
 speaks_body : (p n : ℕ) (logins : Logins) (caller : Caller) (rest : List ℕ) (o : Option asked.Request) → Speaks p caller (hear_frames n logins (Open caller) rest).events
-    → Speaks p caller (asked_by caller o ∷ (hear_frames n logins (stand_after (asked_by caller o)) rest).events)
+    → Speaks p caller (asked_by caller o ∷ (hear_frames n logins (state_after (asked_by caller o)) rest).events)
 speaks_body p n logins caller rest None more = record {
   mine = λ e. subst (AllBy p) (sym (after_closed p n logins rest)) tt;
   unwelcome = ap (list_any (is_welcome_of p)) (after_closed p n logins rest);
@@ -82,7 +82,7 @@ left_true : (a b : Bool) → (a || b) ≡ true → b ≡ false → a ≡ true
 left_true true b e f = refl
 left_true false b e f = absurd (not_both b e f)
 
-welcomed : (p n : ℕ) (logins : Logins) (rest : List ℕ) (event : Event) → Answers p (event ∷ (hear_frames n logins (stand_after event) rest).events)
+welcomed : (p n : ℕ) (logins : Logins) (rest : List ℕ) (event : Event) → Answers p (event ∷ (hear_frames n logins (state_after event) rest).events)
 welcomed p n logins rest (Welcome caller) e =
     let s : Speaks p caller (hear_frames n logins (Open caller) rest).events = speaks p n logins caller rest in
     s.mine (left_true (eqb caller.who p) (list_any (is_welcome_of p) (hear_frames n logins (Open caller) rest).events) e s.unwelcome)
@@ -126,7 +126,7 @@ stream_parts c xs ys = flat_map-append (piece_on c) xs ys
 -- what an earlier stream said
 earlier : (p : ℕ) (logins : Logins) (xs ys : List ℕ) → AllBy p (events_of logins (xs ++ ys)) → AllBy p (events_of logins xs)
 earlier p logins xs ys all =
-    let later : List Event = (hear logins (hear logins Greeting xs).stand ((hear logins Greeting xs).left ++ ys)).events in
+    let later : List Event = (hear logins (hear logins Greeting xs).state ((hear logins Greeting xs).left ++ ys)).events in
     (all_parts p (events_of logins xs) later (subst (AllBy p) (ap (λ (h : Heard). h.events) (hear_cut logins Greeting xs ys)) all)).0
 
 mine_arrival : (c p : ℕ) (logins : Logins) (past : List HallStep) (d t : ℕ) (piece : List ℕ) → AllBy p (events_of logins (stream_of c (past ++ Arrive d t piece ∷ [])))

@@ -1,6 +1,3 @@
-pub mod Frames
-pub mod Cuts
-pub mod Closing
 pub mod Answering
 pub mod Arriving
 pub mod Isolating
@@ -9,8 +6,4 @@ pub mod Feeding
 pub mod Outboxes
 pub mod Sending
 pub mod Determining
-pub mod Talking
-pub mod Hellos
-pub mod LoginLines
-pub mod LoginExamples
 pub mod Examples

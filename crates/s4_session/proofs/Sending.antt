@@ -10,30 +10,31 @@ use Rattle.s4_types.specs.declared.record.Step.TheVariants as steps
 use Rattle.s4_types.specs.Base.{opened}
 use Rattle.s4_types.specs.Play.{play, replies as replies_in, request_count, carried_out}
 use Rattle.s4_types.proofs.Booleans.{by_test, ||-false, ||-true}
-use Rattle.s4_state.specs.Log.{Log, fresh_log, swept, steps_on}
+use Rattle.s4_types.specs.Log.{Log, fresh_log, swept, steps_on}
 use Rattle.s4_state.proofs.Stepped.{steps_on-history}
 use Rattle.s4_session.specs.declared.hall_step.HallStep.{HallStep}
 use Rattle.s4_session.specs.declared.hall_step.HallStep.TheVariants.{Arrive, Sweep}
-use Rattle.s4_session.specs.declared.event.Stand.TheVariants.{Greeting}
-use Rattle.s4_session.specs.Logins.{Logins}
+use Rattle.s4_stream.specs.declared.event.SessionState.TheVariants.{Greeting}
+use Rattle.s4_stream.specs.Logins.{Logins}
 use Rattle.s4_session.specs.Arrivals.{stream_of, occurs, moment_after, asked_in, Asked, Sweeps, step_of, requests_of}
-use Rattle.s4_session.specs.Stream.{hear, events_of}
-use Rattle.s4_session.specs.Feeding.{left_by}
-use Rattle.s4_session.specs.Sent.{AreRising, lists_of, bytes_for, sent_by, sent_for, replies_on, AreReplies, IsSent}
+use Rattle.s4_stream.specs.Stream.{hear, events_of}
+use Rattle.s4_stream.specs.Feeding.{left_by}
+use Rattle.s4_stream.specs.Talk.{sent_for}
+use Rattle.s4_session.specs.Sent.{AreRising, lists_of, bytes_for, sent_by, replies_on, AreReplies, IsSent}
 use Rattle.s4_session.specs.Halls.{Hall, IsFresh, session_of, session_after, Takes, StandsAfter, Adds, Leaves}
 use Rattle.s4_session.proofs.Answering.{steps_on-append, request_count-append, carried_out-append}
 use Rattle.s4_session.proofs.Arriving.{stream_more, occurs_more, moment_swept, asked_more, adds, no_stream, replies_more}
 use Rattle.s4_session.proofs.Isolating.{isolates}
 
 -- a fresh hall stands after nothing
-pub stands_fresh : (hall : Hall) → IsFresh hall → StandsAfter hall.log.window hall.logins [] [] hall
+pub stands_fresh : (hall : Hall) → IsFresh hall → StandsAfter hall.log.opened hall.logins [] [] hall
 stands_fresh hall fresh = record {
   logins_are = refl;
   last_is = fresh.no_arrival;
   sessions = λ c. ap (session_of c) fresh.no_sessions;
   each = refl;
   bodies = refl;
-  log = λ i. record { window = hall.log.window; history = fresh.no_records i; held = fresh.nothing_held i; ready = fresh.not_ready i };
+  log = λ i. record { opened = hall.log.opened; base = fresh.base_is i; history = fresh.no_records i; held = fresh.nothing_held i; ready = fresh.not_ready i };
   told = ap replies_in fresh.no_records;
 }
 
@@ -91,7 +92,7 @@ pub record Sends (window : ℕ) (logins : Logins) (arrivals : List HallStep) (ha
   pub stands : StandsAfter window logins arrivals told hall
   pub bytes : (d : ℕ) → bytes_for d sent ≡ cond (occurs d arrivals) (Some (sent_by d logins arrivals told)) None
 
-pub sends_nothing : (hall : Hall) (sent : List (ℕ × List ℕ)) → sent ≡ [] → IsFresh hall → Sends hall.log.window hall.logins [] hall sent
+pub sends_nothing : (hall : Hall) (sent : List (ℕ × List ℕ)) → sent ≡ [] → IsFresh hall → Sends hall.log.opened hall.logins [] hall sent
 sends_nothing hall sent e fresh = record { told = []; stands = stands_fresh hall fresh; bytes = λ d. ap (bytes_for d) e }
 
 pub sends_swept : (window : ℕ) (logins : Logins) (arrivals : List HallStep) (hall : Hall) (sent : List (ℕ × List ℕ)) (n : ℕ) → Sends window logins arrivals hall sent

@@ -5,11 +5,11 @@ use Rattle.s4_types.specs.declared.reply.Reply.{Reply}
 use Rattle.s4_types.specs.declared.record.Step.{Step}
 use Rattle.s4_types.specs.declared.record.Step.TheVariants as steps
 use Rattle.s4_types.specs.Play.{replies as replies_in, carried_out, without_no_memory, request_count}
-use Rattle.s4_state.specs.Log.{Log, steps_on}
+use Rattle.s4_types.specs.Log.{Log, steps_on}
 use Rattle.s4_codec.specs.Replies.{has_body}
-use Rattle.s4_session.specs.declared.event.Event.{Event}
-use Rattle.s4_session.specs.declared.event.Event.TheVariants.{Welcome, Request, Fault}
-use Rattle.s4_session.specs.Sent.{sent_for}
+use Rattle.s4_stream.specs.declared.event.Event.{Event}
+use Rattle.s4_stream.specs.declared.event.Event.TheVariants.{Welcome, Request, Fault}
+use Rattle.s4_stream.specs.Talk.{sent_for}
 
 -- the step of the drive that an event asks for at a moment
 abbrev pub step_by_event : ℕ → Event → Option Step

@@ -1,24 +1,16 @@
 -- What the bytes that are sent say of the replies.
-use Rattle.std.specs.Prelude.{◌≡◌, ℕ, ◌+◌, IsTrue, List, [], ◌∷◌, length}
+use Rattle.std.specs.Prelude.{◌≡◌, ℕ, IsTrue, List, length}
 use Rattle.std.specs.List.{list_all}
 use Rattle.s4_types.specs.declared.reply.Reply.{Reply}
 use Rattle.s4_types.specs.Base.{Base}
 use Rattle.s4_types.specs.Play.{request_count}
 use Rattle.s4_codec.specs.Replies.{has_body}
-use Rattle.s4_session.specs.declared.event.Event.{Event}
-use Rattle.s4_session.specs.declared.event.Event.TheVariants.{Welcome, Request, Fault}
 use Rattle.s4_session.specs.declared.hall_step.HallStep.{HallStep}
-use Rattle.s4_session.specs.Logins.{Logins}
-use Rattle.s4_session.specs.Stream.{events_of}
+use Rattle.s4_stream.specs.Logins.{Logins}
+use Rattle.s4_stream.specs.Stream.{events_of}
+use Rattle.s4_stream.specs.Talk.{requests_in}
 use Rattle.s4_session.specs.Arrivals.{stream_of, asked_in, requests_of}
 use Rattle.s4_session.specs.Sent.{replies_on, sent_by, IsSent}
-
--- how many of the events are requests
-abbrev pub requests_in : List Event → ℕ
-requests_in [] = 0
-requests_in (Welcome caller ∷ events) = requests_in events
-requests_in (Request caller r ∷ events) = requests_in events + 1
-requests_in (Fault f ∷ events) = requests_in events
 
 -- Of replies, one to each request that the arrivals ask, each connection has one to each request that its bytes say.
 abbrev pub EachRequestHasOneReply : Type 0

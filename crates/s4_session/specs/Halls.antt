@@ -3,17 +3,19 @@ use Rattle.std.specs.Prelude.{◌≡◌, ℕ, Bool, false, ◌==◌, IsTrue, Opt
 use Rattle.std.specs.List.{list_all}
 use Rattle.std.specs.Map.{lookup}
 use Rattle.std.specs.Ordering.{is_eq, nat_cmp}
+use Rattle.s4_types.specs.declared.readiness.Readiness.TheVariants.{ForNone}
 use Rattle.s4_types.specs.declared.reply.Reply.{Reply}
 use Rattle.s4_types.specs.Base.{opened}
+use Rattle.s4_types.specs.Lists.{fresh_lists}
 use Rattle.s4_types.specs.Play.{replies as replies_in, carried_out, without_no_memory, request_count}
-use Rattle.s4_state.specs.Log.{Log, fresh_log, steps_on}
+use Rattle.s4_types.specs.Log.{Log, fresh_log, steps_on}
 use Rattle.s4_codec.specs.Replies.{has_body}
-use Rattle.s4_session.specs.declared.event.Stand.TheVariants.{Greeting}
+use Rattle.s4_stream.specs.declared.event.SessionState.TheVariants.{Greeting}
 use Rattle.s4_session.specs.declared.hall_step.HallStep.{HallStep}
 use Rattle.s4_session.specs.declared.hall_step.HallStep.TheVariants.{Arrive}
-use Rattle.s4_session.specs.Logins.{Logins}
-use Rattle.s4_session.specs.Stream.{Heard, hear}
-use Rattle.s4_session.specs.Feeding.{Listening, hear_piece, left_by}
+use Rattle.s4_stream.specs.Logins.{Logins}
+use Rattle.s4_stream.specs.Stream.{Heard, hear}
+use Rattle.s4_stream.specs.Feeding.{Listening, hear_piece, left_by}
 use Rattle.s4_session.specs.Arrivals.{requests_of, stream_of, occurs, moment_after}
 use Rattle.s4_session.specs.Sent.{sent_by, IsSent}
 use Rattle.s4_session.specs.Answered.{Answered}
@@ -30,7 +32,7 @@ session_of c sessions = lookup (λ d. is_eq (nat_cmp c d)) sessions
 
 -- a session on which nothing came yet
 abbrev pub fresh : Listening
-fresh = record { stand = Greeting; held = [] }
+fresh = record { state = Greeting; pending = [] }
 
 -- what is heard where the piece comes on the connection
 abbrev pub heard_on : Logins → ℕ → Sessions → List ℕ → Heard
@@ -51,11 +53,12 @@ pub record Hall : Type 0 where
   pub last : ℕ
   pub failed : Bool
 
--- Nothing came yet, no request was answered, nothing is held, the drive wasn't made ready, and no growth was refused.
+-- Nothing came yet, no request was answered, nothing is held, the drive is made ready for no request, and no growth was refused.
 pub record IsFresh (hall : Hall) : Type 0 where
+  pub base_is : hall.log.base ≡ fresh_lists hall.log.opened
   pub no_records : hall.log.history ≡ []
   pub nothing_held : hall.log.held ≡ 0
-  pub not_ready : hall.log.ready ≡ false
+  pub not_ready : hall.log.ready ≡ ForNone
   pub no_sessions : hall.sessions ≡ []
   pub no_arrival : hall.last ≡ 0
   pub not_failed : hall.failed ≡ false

@@ -1,11 +1,5 @@
-pub mod Logins
-pub mod LoginText
-pub mod Hello
-pub mod Stream
-pub mod Feeding
 pub mod Arrivals
 pub mod Sent
 pub mod Determined
-pub mod Talk
 pub mod Answered
 pub mod Halls

@@ -9,44 +9,12 @@ use Rattle.s4_types.specs.declared.reply.Reply.{Reply}
 use Rattle.s4_types.specs.Base.{Base}
 use Rattle.s4_types.specs.Play.{play, replies as replies_in, carried_out, without_no_memory, request_count}
 use Rattle.s4_types.specs.Strike.{records_of, strike}
-use Rattle.s4_codec.specs.Frames.{framed}
-use Rattle.s4_codec.specs.Replies.{reply, has_body}
-use Rattle.s4_session.specs.declared.event.Event.{Event}
-use Rattle.s4_session.specs.declared.event.Event.TheVariants.{Welcome, Request, Fault}
-use Rattle.s4_session.specs.declared.event.Fault as kinds
-use Rattle.s4_session.specs.declared.event.Fault.TheVariants.{Malformed, BadLogin, FrameLength}
+use Rattle.s4_codec.specs.Replies.{has_body}
 use Rattle.s4_session.specs.declared.hall_step.HallStep.{HallStep}
-use Rattle.s4_session.specs.Logins.{Logins}
-use Rattle.s4_session.specs.Stream.{events_of}
+use Rattle.s4_stream.specs.Logins.{Logins}
+use Rattle.s4_stream.specs.Stream.{events_of}
+use Rattle.s4_stream.specs.Talk.{sent_for}
 use Rattle.s4_session.specs.Arrivals.{Asked, Asks, Sweeps, asked_in, requests_of, stream_of, occurs, is_connection_of}
-
--- FRAMES
-
--- the frame that answers a good Hello: kind 16, and the version
-abbrev pub welcome : List ℕ
-welcome = framed (16 ∷ 1 ∷ [])
-
--- a fault's number
-abbrev pub fault_number : kinds.Fault → ℕ
-fault_number Malformed = 1
-fault_number BadLogin = 2
-fault_number FrameLength = 3
-
--- the frame that tells a fault: kind 17, and its number
-abbrev pub fault_frame : kinds.Fault → List ℕ
-fault_frame f = framed (17 ∷ fault_number f ∷ [])
-
--- the frame of a reply
-abbrev pub reply_frame : Reply → List ℕ
-reply_frame r = framed (reply.spell r)
-
--- What is sent for events whose requests have these replies: the welcome for a good Hello, the reply to each request, the fault.
-abbrev pub sent_for : List Event → List Reply → List ℕ
-sent_for [] replies = []
-sent_for (Welcome caller ∷ events) replies = welcome ++ sent_for events replies
-sent_for (Request caller r ∷ events) [] = []
-sent_for (Request caller r ∷ events) (x ∷ replies) = reply_frame x ++ sent_for events replies
-sent_for (Fault f ∷ events) replies = fault_frame f ++ sent_for events replies
 
 -- CONNECTIONS
 

@@ -2,18 +2,18 @@
 
 ghost use Rattle.std.specs.Prelude.{◌≡◌, ◌≤◌, min, [], true, false, IfOk, OnErr, IsErr};
 ghost use Rattle.s4_types.specs.Base.{opened};
-ghost use Rattle.s4_state.specs.Log.{fresh_log, needed, expired_in, swept};
+ghost use Rattle.s4_types.specs.Log.{fresh_log, needed, expired_in, swept};
 ghost use Rattle.s4_session.specs.Arrivals.{NeverDown};
 ghost use Rattle.s4_session.specs.Halls.{Takes, Arrives, IsFresh, Leaves};
 ghost use Rattle.s4_session.specs.Sent.{IsSent, lists_of};
 
 use crate::answer::answer_all;
 use crate::hall_step::HallStep;
-use crate::logins::Logins;
 use crate::outbox::Outbox;
 use crate::sessions::Sessions;
 use s4_arena::Arena;
 use s4_drive::Drive;
+use s4_stream::Logins;
 use s4_types::{Moment, NoMemory, Version};
 use std::alloc::{AllocError, Global};
 use std::marker::Model;
@@ -126,9 +126,9 @@ impl Hall {
     pub fn run(&mut self, steps: &[HallStep]) -> Result<Vec<(u32, Vec<u8>)>, NoMemory>
         requires fresh { IsFresh self.old }
         requires moments { NeverDown 0 steps.now }
-        ensures sent { IfOk result (λ sent. IsSent (opened self.old.log.window) self.old.logins steps.now (lists_of sent.items)) }
+        ensures sent { IfOk result (λ sent. IsSent (opened self.old.log.opened) self.old.logins steps.now (lists_of sent.items)) }
         // The hall stands after the steps, with the replies that were sent, and hasn't failed.
-        ensures leaves { IfOk result (λ sent. Leaves self.old.log.window self.old.logins steps.now (lists_of sent.items) self.new) }
+        ensures leaves { IfOk result (λ sent. Leaves self.old.log.opened self.old.logins steps.now (lists_of sent.items) self.new) }
         ensures fails { OnErr result (self.new.failed ≡ true) }
     {
         let sent = self.try_run(steps);
@@ -141,8 +141,8 @@ impl Hall {
     fn try_run(&mut self, steps: &[HallStep]) -> Result<Vec<(u32, Vec<u8>)>, NoMemory>
         requires fresh { IsFresh self.old }
         requires moments { NeverDown 0 steps.now }
-        ensures sent { IfOk result (λ sent. IsSent (opened self.old.log.window) self.old.logins steps.now (lists_of sent.items)) }
-        ensures leaves { IfOk result (λ sent. Leaves self.old.log.window self.old.logins steps.now (lists_of sent.items) self.new) }
+        ensures sent { IfOk result (λ sent. IsSent (opened self.old.log.opened) self.old.logins steps.now (lists_of sent.items)) }
+        ensures leaves { IfOk result (λ sent. Leaves self.old.log.opened self.old.logins steps.now (lists_of sent.items) self.new) }
     {
         let mut outbox = Outbox::new(self.alloc);
         for step in steps {

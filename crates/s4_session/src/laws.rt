@@ -1,47 +1,6 @@
-//! What holds of all streams.
+//! What holds of all that a hall sends.
 
-ghost use Rattle.std.specs.Prelude.{◌≡◌, ℕ, Option, List, ◌++◌, length};
-ghost use Rattle.s4_types.specs.declared.principal.Caller as callers;
-ghost use Rattle.s4_types.specs.declared.reply.Reply as told;
-ghost use Rattle.s4_types.specs.declared.request.Request as asked;
-ghost use Rattle.s4_codec.specs.Format.{IsPrefixFree, IsReadBack, IsSpelledAsRead};
 ghost use Rattle.s4_session.specs.Determined.{EachRequestHasOneReply, RunsHaveOneListOfReplies, SentBytesDetermineReplies};
-ghost use Rattle.s4_session.specs.Hello as hellos;
-ghost use Rattle.s4_session.specs.Logins as table;
-ghost use Rattle.s4_session.specs.Sent.{sent_for};
-ghost use Rattle.s4_session.specs.Stream.{hear, events_of};
-ghost use Rattle.s4_session.specs.Talk.{IsTalk, ended_by, fault_bytes, talk_of, told_in_order};
-ghost use Rattle.s4_session.specs.Feeding.{after_events};
-ghost use Rattle.s4_session.specs.declared.event.Fault as faults;
-ghost use Rattle.s4_session.specs.declared.event.Stand.{Stand};
-
-/// A stream says the same however it is cut: what is heard of two pieces that are joined is what is
-/// heard of the first, and then of what that left and the second. So a session that is fed pieces
-/// has the events of all of them joined.
-pub fn cuts_change_nothing()
-    ensures { (logins : table.Logins) (stand : Stand) (first second : List ℕ) → hear logins stand (first ++ second)
-        ≡ after_events (hear logins stand first).events
-        (hear logins (hear logins stand first).stand ((hear logins stand first).left ++ second)) }
-{}
-
-/// A connection says a good Hello, then requests of the caller whom it names, then at most a fault;
-/// or at most a fault and nothing else. So no request stands before a good Hello or behind a fault.
-/// What is sent for it is the Welcome, the reply to each request in order, and the fault.
-pub fn connections_speak_in_order()
-    ensures events { (logins : table.Logins) (stream : List ℕ) → IsTalk (events_of logins stream) }
-    ensures sent { (caller : callers.Caller) (requests : List asked.Request) (fault : Option faults.Fault)
-        (replies : List told.Reply) → length replies ≡ length requests
-        → sent_for (talk_of caller requests fault) replies ≡ told_in_order replies fault }
-    ensures unwelcome { (fault : Option faults.Fault) (replies : List told.Reply) → sent_for (ended_by fault) replies ≡ fault_bytes fault }
-{}
-
-/// A Hello has one spelling, which begins no other one; it is read whatever follows it; and what is
-/// read as a Hello is spelled as one.
-pub fn hellos_have_one_spelling()
-    ensures prefix_free { IsPrefixFree hellos.hello }
-    ensures read_back { IsReadBack hellos.hello }
-    ensures spelled { IsSpelledAsRead hellos.hello }
-{}
 
 /// Of replies, one to each request that is asked of a hall, each connection has one to each request
 /// that its bytes say. So what is sent on it drops nothing.

@@ -1,27 +1,19 @@
-//! Logins, sessions, and the hall of many connections (docs/PROTOCOL.md says it in prose).
+//! The hall of many connections over one drive (docs/PROTOCOL.md says it in prose), with the logins
+//! and sessions that it stands on.
 #![tactic(auto)]
 
 mod answer;
-mod event;
 mod hall;
 mod hall_step;
-mod hello;
 mod laws;
-mod login_text;
-mod logins;
 mod outbox;
-mod session;
 mod sessions;
 
-pub use answer::{FAULT, WELCOME};
-pub use event::{Event, Fault, Stand};
 pub use hall::Hall;
 pub use hall_step::HallStep;
-pub use hello::{Hello, VERSION};
-pub use laws::{
-    connections_speak_in_order, cuts_change_nothing, each_request_has_one_reply,
-    hellos_have_one_spelling, sent_bytes_determine_replies,
+pub use laws::{each_request_has_one_reply, sent_bytes_determine_replies};
+pub use s4_stream::{
+    Event, FAULT, FeedError, Hello, LoginFault, Logins, Session, SessionFault, SessionState,
+    VERSION, WELCOME, connections_speak_in_order, cuts_change_nothing, hellos_have_one_spelling,
+    principal_in, secret_in,
 };
-pub use login_text::{principal_in, secret_in};
-pub use logins::{LoginFault, Logins};
-pub use session::{FeedError, Session};

@@ -3,9 +3,7 @@
 ghost use Rattle.std.specs.Prelude.{◌≡◌, ◌==◌, ℕ, [], Some, false, unwrap_or, IfOk, OnOk};
 ghost use Rattle.s4_session.specs.Halls.{session_of, fresh, heard_on, Feeds};
 
-use crate::event::Event;
-use crate::logins::Logins;
-use crate::session::Session;
+use s4_stream::{Event, Logins, Session};
 use s4_types::NoMemory;
 use std::alloc::Global;
 use std::collections::BTreeMap;

@@ -28,7 +28,7 @@ use Rattle.s4_types.specs.Base.{Base}
 use Rattle.s4_types.specs.Answer.{moment_of}
 use Rattle.s4_types.specs.Play.{last_of}
 use Rattle.s4_types.proofs.Booleans.{by_test, both, not_both, &&-false}
-use Rattle.s4_types.proofs.Snoc.{newest-snoc}
+use Rattle.s4_types.proofs.Snoc.{newest-snoc, bindings-snoc, names_of-snoc}
 use Rattle.s4_types.proofs.SameNames.{purse_is, name_is, name_self}
 use Rattle.s4_store.specs.Chains.{Chains, items_of, item_count, IsOpen, StillOpen}
 use Rattle.s4_tracks.specs.Chain.{endless, current_of, version_in, with_end, end_at}
@@ -41,19 +41,21 @@ use Rattle.s4_objects.specs.declared.kept.Kept.{Kept}
 use Rattle.s4_objects.specs.declared.objects.Objects.{Objects}
 use Rattle.s4_objects.specs.Chains.{chain_of}
 use Rattle.s4_objects.specs.Laws.{KeepsObjects, held_still, holds_still}
-use Rattle.s4_objects.specs.Table.{found_in, ends_in}
+use Rattle.s4_objects.specs.Table.{found_in, ends_in, IsForeign as Apart}
 use Rattle.s4_parts.specs.declared.parts.Parts.{Parts as Table}
 use Rattle.s4_parts.specs.Waiting.{waiting_in, all_by, Waits}
-use Rattle.s4_parts.specs.Table.{Holds, chain_at, names_in, bindings_in, binding, object_of, serial_now, is_any, IsForeign, KeepsOthers, LeavesNoChain}
-use Rattle.s4_state.specs.Counts.{made_by, values_ended_by, bindings_ended_by, counted}
+use Rattle.s4_parts.specs.Table.{Holds, chain_at, names_in, bindings_in, binding, object_of, serial_now, is_any, IsForeign, KeepsOthers, KeepsChains, LeavesNoChain, NoneIsEmpty, OpensFor}
+use Rattle.s4_parts.proofs.Rebinding.{any-snoc, ended-any}
+use Rattle.s4_types.specs.Counts.{made_by, values_ended_by, bindings_ended_by, counted}
 use Rattle.s4_state.specs.Laid.{laid, laid_by, version_by, versions_on, bindings_on}
 use Rattle.s4_state.specs.Sound.{IsSound, IsNext, EndsBy, ValuesStand}
 use Rattle.s4_state.specs.Stands.{horizon_now, is_lasting, ObjectsStand, NamesStand, IsTidy, Balances, StandsFor, MakesNone}
 use Rattle.s4_state.proofs.Reading.{in_force-laid}
 use Rattle.s4_state.proofs.Living.{all_by-up, none-newer, floor-now}
-use Rattle.s4_state.proofs.Naming.{bindings-snoc, names_of-snoc, lasting_as}
+use Rattle.s4_state.proofs.Naming.{lasting_as}
 use Rattle.s4_state.proofs.Waiting.{horizon-by, ends-by, no-more, waiting_by, waiting_same, waiting_next}
-use Rattle.s4_state.proofs.Left.{serial-none, lasting-up, lasting-more, lasting-end, filter-less, count-filter, any-filter, filter-with}
+use Rattle.s4_types.proofs.Ordered.{filter-less, count-filter, any-filter, filter-with}
+use Rattle.s4_state.proofs.Left.{serial-none, lasting-up, lasting-more, lasting-end}
 use Rattle.s4_state.proofs.Granting.{told as told-of, told-asked, accepted-asked, bound-done, unbound-done, was_unbound, was_bound, window-done, budget-done}
 use Rattle.s4_state.proofs.Standing.{agrees_if, horizon_up, objects_next, stands_on, stands_still}
 use Rattle.s4_state.proofs.Effects.{makes-none, idle}
@@ -135,12 +137,24 @@ objects_beside {hz} {base = base} {h = h} s keeps = record {
 pub strange : {hz : ℕ} {chains : Chains Version} {kept : Objects} {table : Table} {base : Base} {h : List Record} → NamesStand base hz chains kept table h → (o : ObjectId) (k : Kept) (w : Which) → found_in kept o ≡ Some k → IsForeign table (chain_of w k)
 strange s o k w got p n has = not_both _ (eq-eqb (chain_of w k) (chain_of w k) refl) (s.apart p n (chain_of w k) has o k w got)
 
+-- a name was given room, and a chain where it had none
+pub record GivesRoom (old new : Chains Version) (before after : Table) (purse : Purse) (name : List ℕ) : Type 0 where
+  pub waiting : waiting_in after ≡ waiting_in before
+  pub names : (p : Purse) → names_in new after p ≡ names_in old before p
+  pub bindings : (p : Purse) (n : List ℕ) → bindings_in new after p n ≡ bindings_in old before p n
+  pub others : (c : ℕ) → IsOpen old c → items_of new c ≡ items_of old c
+  pub still : StillOpen old new
+  pub own : (p : Purse) (n : List ℕ) (c : ℕ) → chain_at after p n ≡ Some c → IsOpen old c → chain_at before p n ≡ Some c
+  pub asked : OpensFor before after purse name
+  pub leaves : LeavesNoChain old new before after
+  pub used : item_count new ≡ item_count old
+
 module _ {base : Base} {size : ℕ} {chains : Chains Version} {kept : Objects} {serials : Purse → ℕ} {table : Table} {h : List Record} (s : StandsFor base size chains kept serials table h) (new : Chains Version) (table' : Table) where
-  pub stands_reserved : Holds new table' → Waits new table' → waiting_in table' ≡ waiting_in table → ((p : Purse) → names_in new table' p ≡ names_in chains table p) → ((p : Purse) (n : List ℕ) → bindings_in new table' p n ≡ bindings_in chains table p n)
-      → ((c : ℕ) → IsOpen chains c → items_of new c ≡ items_of chains c) → StillOpen chains new
-      → ((p : Purse) (n : List ℕ) (c : ℕ) → chain_at table' p n ≡ Some c → IsOpen chains c → chain_at table p n ≡ Some c) → LeavesNoChain chains new table table' → item_count new ≡ item_count chains
+  -- where a name was refused room
+  pub stands_roomless : Holds new table' → Waits new table' → waiting_in table' ≡ waiting_in table → ((p : Purse) → names_in new table' p ≡ names_in chains table p) → ((p : Purse) (n : List ℕ) → bindings_in new table' p n ≡ bindings_in chains table p n)
+      → ((c : ℕ) → IsOpen chains c → items_of new c ≡ items_of chains c) → StillOpen chains new → KeepsChains table table' → LeavesNoChain chains new table table' → item_count new ≡ item_count chains
       → StandsFor base size new kept serials table' h
-  stands_reserved holds waits waiting names bindings others still own leaves same = record {
+  stands_roomless holds waits waiting names bindings others still own leaves same = record {
     sound = s.sound;
     objects = objects_beside s.objects (record {
       opened = λ o k w got. still (chain_of w k) (s.objects.holds.chained.opened o k w got);
@@ -153,10 +167,8 @@ module _ {base : Base} {size : ℕ} {chains : Chains Version} {kept : Objects} {
       bindings = λ p n. subst (λ vs. AgreesWith (horizon_now base h) vs (bindings_on base p n h)) (sym (bindings p n)) (s.partitions.bindings p n);
       names = λ p. lasting_as (horizon_now base h) chains new table table' p (λ n. bindings p n) (names p) refl (s.partitions.names p);
       ends = waiting_same (ap (map (λ e. e.end)) waiting) refl s.partitions.ends;
-      apart = λ p n c has o k w got. by_test (c == chain_of w k)
-          (λ e. let is : c ≡ chain_of w k = eqb-true c (chain_of w k) e in
-          absurd (strange s.partitions o k w got p n (own p n c has (subst (IsOpen chains) (sym is) (s.objects.holds.chained.opened o k w got)) ∙ ap (λ x. Some x) is)))
-          (λ e. e);
+      none_empty = λ p n there. ap is_any (bindings p n) ∙ s.partitions.none_empty p n (ap is_some (sym (own p n)) ∙ there);
+      apart = λ p n c has. s.partitions.apart p n c (sym (own p n) ∙ has);
     };
     tidy = tidy_named s.tidy leaves;
     used = same ∙ s.used;
@@ -167,17 +179,18 @@ module _ {base : Base} {size : ℕ} {chains : Chains Version} {kept : Objects} {
 
   stands_named : (r : Record) (sound : IsSound base (h ++ r ∷ [])) → MakesNone r → counted values_ended_by r ≡ 0 → ((o : ObjectId) (w : Which) → versions_on base w o (h ++ r ∷ []) ≡ versions_on base w o h)
       → Holds new table' → Waits new table' → map (λ e. e.end) (waiting_in table') ≡ map (λ e. e.end) (waiting_in table) ++ replicate (counted bindings_ended_by r) r.moment
-      → KeepsOthers chains new table → ((p : Purse) (n : List ℕ) → chain_at table' p n ≡ chain_at table p n)
+      → KeepsOthers chains new table → ((p : Purse) (n : List ℕ) (c : ℕ) → chain_at table' p n ≡ Some c → Apart kept c) → NoneIsEmpty new table'
       → ((p : Purse) → filter (is_lasting (horizon_now base h) new table' p) (names_in new table' p) ≡ filter (is_lasting (horizon_now base h) new table' p) (names_of base p (h ++ r ∷ [])))
       → ((p : Purse) (n : List ℕ) → AgreesWith (horizon_now base h) (bindings_in new table' p n) (bindings_on base p n (h ++ r ∷ [])))
       → LeavesNoChain chains new table table' → item_count new ≡ item_count chains + counted made_by r → StandsFor base (size + counted made_by r) new kept serials table' (h ++ r ∷ [])
-  stands_named r sound none unended tracks holds waits waiting others own names bindings leaves made = stands_on s r sound none objects (record {
+  stands_named r sound none unended tracks holds waits waiting others apart filled names bindings leaves made = stands_on s r sound none objects (record {
     holds = holds;
     waits = waits;
     bindings = λ p n. agrees_up (horizon_now base h) (horizon_now base (h ++ r ∷ [])) _ _ (horizon_up s r sound) (bindings p n);
     names = λ p. filter-less (is_lasting (horizon_now base (h ++ r ∷ [])) new table' p) (is_lasting (horizon_now base h) new table' p) _ _ (λ n e. lasting-up _ _ (bindings_in new table' p n) (horizon_up s r sound) e) (names p);
     ends = waiting_next (horizon_up s r sound) bindings_ended_by h r waiting s.partitions.ends;
-    apart = λ p n c has. s.partitions.apart p n c (sym (own p n) ∙ has);
+    none_empty = filled;
+    apart = apart;
   }) (tidy_named s.tidy leaves) made (no-more (ends_in kept) r.moment unended) waiting
     where
       beside : ObjectsStand base (horizon_now base h) new kept h
@@ -189,6 +202,11 @@ module _ {base : Base} {size : ℕ} {chains : Chains Version} {kept : Objects} {
       objects : ObjectsStand base (horizon_now base (h ++ r ∷ [])) new kept (h ++ r ∷ [])
       objects = objects_next s r sound beside.holds (λ o. refl) none (λ q u. agrees_as refl (tracks q u) (beside.tracks q u))
           (no-more (ends_in kept) r.moment unended)
+
+-- bindings that are ended are there still
+any-if : (b : Bool) (m : ℕ) (vs : List Version) → is_any (if b then with_end m vs else vs) ≡ is_any vs
+any-if true m vs = ended-any m vs
+any-if false m vs = refl
 
 same-count : (n m : ℕ) → m ≡ 0 → n ≡ n + m
 same-count n m e = omega (arith, e)
@@ -265,15 +283,45 @@ module _ {base : Base} {size : ℕ} {chains : Chains Version} {kept : Objects} {
     bound-names : (p : Purse) → names_of base p (h ++ bound-record ∷ []) ≡ cond (same_purse o.purse p) (with_name name (names_of base p h)) (names_of base p h)
     bound-names p = names_of-snoc p base h bound-record ∙ twice-alone (same_purse o.purse p) (with_name name (names_of base p h)) (names_of base p h)
 
-    pub stands_bound : IsSound base (h ++ r ∷ []) → (new : Chains Version) (table' : Table) → Holds new table' → Waits new table' → waiting_in table' ≡ waiting_in table → KeepsOthers chains new table → ((p : Purse) (m : List ℕ) → chain_at table' p m ≡ chain_at table p m)
-        → ((p : Purse) → names_in new table' p ≡ (if same_purse o.purse p then with_name name (names_in chains table p) else names_in chains table p))
-        → ((p : Purse) (m : List ℕ) → bindings_in new table' p m ≡ (if same_purse o.purse p && same_name name m then bindings_in chains table p m ++ binding r.moment name o ∷ [] else bindings_in chains table p m))
-        → LeavesNoChain chains new table table' → item_count new ≡ item_count chains + 1 → StandsFor base (size + counted made_by r) new kept serials table' (h ++ r ∷ [])
-    stands_bound sound new table' holds waits waiting others own names held leaves made = subst (λ x. StandsFor base (size + counted made_by x) new kept serials table' (h ++ x ∷ [])) (sym bound-is)
+    -- from room for the name on
+    module _ {mid : Chains Version} {roomy : Table} (g : GivesRoom chains mid table roomy o.purse name) (new : Chains Version) (table' : Table) (others : KeepsOthers mid new roomy) (own : KeepsChains roomy table')
+        (held-then : (p : Purse) (m : List ℕ) → bindings_in new table' p m ≡ (if same_purse o.purse p && same_name name m then bindings_in mid roomy p m ++ binding r.moment name o ∷ [] else bindings_in mid roomy p m)) where
+      others-bound : KeepsOthers chains new table
+      others-bound = record {
+        still = λ c opened. others.still c (g.still c opened);
+        items = λ c opened foreign. others.items c (g.still c opened) (λ p m got. foreign p m (g.own p m c got opened)) ∙ g.others c opened;
+      }
+
+      held-bound : (p : Purse) (m : List ℕ) → bindings_in new table' p m ≡ (if same_purse o.purse p && same_name name m then bindings_in chains table p m ++ binding r.moment name o ∷ [] else bindings_in chains table p m)
+      held-bound p m = held-then p m ∙ ap (λ vs. if same_purse o.purse p && same_name name m then vs ++ binding r.moment name o ∷ [] else vs) (g.bindings p m)
+
+      apart-bound : (p : Purse) (m : List ℕ) (c : ℕ) → chain_at table' p m ≡ Some c → Apart kept c
+      apart-bound p m c has q k w got = by_test (c == chain_of w k)
+          (λ e. let is : c ≡ chain_of w k = eqb-true c (chain_of w k) e in
+          absurd (strange s.partitions q k w got p m (g.own p m c (sym (own p m) ∙ has) (subst (IsOpen chains) (sym is) (s.objects.holds.chained.opened q k w got)) ∙ ap (λ x. Some x) is)))
+          (λ e. e)
+
+      -- the name has its binding, and each other one has what it had
+      filled-bound : NoneIsEmpty new table'
+      filled-bound p m there = ap is_any (held-bound p m) ∙ by_test (same_purse o.purse p && same_name name m)
+          (λ e. ap (λ b. is_any (if b then bindings_in chains table p m ++ binding r.moment name o ∷ [] else bindings_in chains table p m)) e ∙ any-snoc (bindings_in chains table p m) (binding r.moment name o))
+          (λ e. ap (λ b. is_any (if b then bindings_in chains table p m ++ binding r.moment name o ∷ [] else bindings_in chains table p m)) e
+          ∙ s.partitions.none_empty p m (ap is_some (sym (own p m ∙ g.asked.others p m e)) ∙ there))
+
+    pub stands_bound : IsSound base (h ++ r ∷ []) → {mid : Chains Version} {roomy : Table} → GivesRoom chains mid table roomy o.purse name
+        → (new : Chains Version) (table' : Table) → Holds new table' → Waits new table' → waiting_in table' ≡ waiting_in roomy → KeepsOthers mid new roomy → KeepsChains roomy table'
+        → ((p : Purse) → names_in new table' p ≡ (if same_purse o.purse p then with_name name (names_in mid roomy p) else names_in mid roomy p))
+        → ((p : Purse) (m : List ℕ) → bindings_in new table' p m ≡ (if same_purse o.purse p && same_name name m then bindings_in mid roomy p m ++ binding r.moment name o ∷ [] else bindings_in mid roomy p m))
+        → LeavesNoChain mid new roomy table' → item_count new ≡ item_count mid + 1 → StandsFor base (size + counted made_by r) new kept serials table' (h ++ r ∷ [])
+    stands_bound sound g new table' holds waits waiting others own names-then held-then leaves made =
+        let held = held-bound g new table' others own held-then in
+        let names : (p : Purse) → names_in new table' p ≡ (if same_purse o.purse p then with_name name (names_in chains table p) else names_in chains table p)
+        = λ p. names-then p ∙ ap (λ ns. if same_purse o.purse p then with_name name ns else ns) (g.names p) in
+        subst (λ x. StandsFor base (size + counted made_by x) new kept serials table' (h ++ x ∷ [])) (sym bound-is)
         (stands_named s new table' bound-record (subst (λ x. IsSound base (h ++ x ∷ [])) bound-is sound)
         (makes-none base h bound-record o (λ p. refl) (λ q. refl) refl) refl
         (tracks-idle base h r.moment r.caller o (PCreate name o) (λ p. refl) refl (λ q. refl) (λ q. refl) (λ q old. refl) (λ q old. refl) (λ q old. refl))
-        holds waits (ap (map (λ e. e.end)) waiting ∙ no-more (map (λ e. e.end) (waiting_in table)) r.moment refl) others own
+        holds waits (ap (map (λ e. e.end)) (waiting ∙ g.waiting) ∙ no-more (map (λ e. e.end) (waiting_in table)) r.moment refl) (others-bound g new table' others own held-then) (apart-bound g new table' others own held-then) (filled-bound g new table' others own held-then)
         (λ p. by_test (same_purse o.purse p)
         (λ e. let hz : ℕ = horizon_now base h in
         let more : (names : List (List ℕ)) → IsStrictlySortedBy name_cmp names → with_name name (filter (is_lasting hz chains table p) names) ≡ filter (is_lasting hz new table' p) (with_name name names)
@@ -289,7 +337,8 @@ module _ {base : Base} {size : ℕ} {chains : Chains Version} {kept : Objects} {
         (λ e. lasting_as (horizon_now base h) chains new table table' p (λ m. held p m ∙ ap (λ b. if b && same_name name m then bindings_in chains table p m ++ binding r.moment name o ∷ [] else bindings_in chains table p m) e)
         (names p ∙ ap (λ b. if b then with_name name (names_in chains table p) else names_in chains table p) e)
         (bound-names p ∙ ap (λ b. cond b (with_name name (names_of base p h)) (names_of base p h)) e) (s.partitions.names p)))
-        (λ p m. agrees_as (held p m) (bound-on p m) (agrees_if (same_purse o.purse p && same_name name m) (agrees_more (horizon_now base h) (binding r.moment name o) _ _ (s.partitions.bindings p m)) (s.partitions.bindings p m))) leaves made)
+        (λ p m. agrees_as (held p m) (bound-on p m) (agrees_if (same_purse o.purse p && same_name name m) (agrees_more (horizon_now base h) (binding r.moment name o) _ _ (s.partitions.bindings p m)) (s.partitions.bindings p m)))
+        (λ c opened foreign. let was = leaves c opened foreign in g.leaves c was.0 was.1) (made ∙ ap (λ n. n + 1) g.used))
 
     -- it wasn't bound, so what is held of it isn't current
     pub unbound_before : object_of (current_of (bindings_in chains table o.purse name)) ≡ None
@@ -358,7 +407,9 @@ module _ {base : Base} {size : ℕ} {chains : Chains Version} {kept : Objects} {
         (stands_named s new table' unbound-record (subst (λ x. IsSound base (h ++ x ∷ [])) unbound-is sound)
         (makes-none base h unbound-record (object_in purse 0) (λ p. refl) (λ q. refl) refl) refl
         (tracks-idle base h r.moment r.caller (object_in purse 0) (PDelete purse name) (λ p. refl) refl (λ q. refl) (λ q. refl) (λ q old. refl) (λ q old. refl) (λ q old. refl))
-        holds waits (ap (map (λ e. e.end)) waiting ∙ map-append (λ e. e.end) (waiting_in table) (record { end = r.moment; purse = purse; name = name } ∷ [])) others own
+        holds waits (ap (map (λ e. e.end)) waiting ∙ map-append (λ e. e.end) (waiting_in table) (record { end = r.moment; purse = purse; name = name } ∷ [])) others
+        (λ p m c has. s.partitions.apart p m c (sym (own p m) ∙ has))
+        (λ p m there. ap is_any (held p m) ∙ any-if (same_purse purse p && same_name name m) r.moment (bindings_in chains table p m) ∙ s.partitions.none_empty p m (ap is_some (sym (own p m)) ∙ there))
         (λ p. filter-less (is_lasting (horizon_now base h) new table' p) (is_lasting (horizon_now base h) chains table p) _ _
         (λ m e. ap (λ vs. is_any (unexpired (horizon_now base h) vs)) (held p m) ∙ lasting-end (horizon_now base h) r.moment (same_purse purse p && same_name name m) (bindings_in chains table p m) e)
         (ap (filter (is_lasting (horizon_now base h) chains table p)) (names p) ∙ s.partitions.names p

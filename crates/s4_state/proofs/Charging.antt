@@ -8,7 +8,7 @@ use Rattle.s4_types.specs.declared.object.Purse.{Purse}
 use Rattle.s4_types.specs.declared.object.ObjectId.{ObjectId}
 use Rattle.s4_types.specs.declared.acl.AclEntry.{AclEntry}
 use Rattle.s4_types.specs.declared.request.Request.{Request}
-use Rattle.s4_types.specs.declared.request.Request.TheVariants.{Create, Delete, Read, Write, Append, Truncate, GetAttr, SetAttr, GetAclByUser, GetAclByIndex, SetAcl, PCreate, PDelete, PList, PMount, Flush, FlushO, SetWindow, SetBudget, ReadAudit}
+use Rattle.s4_types.specs.declared.request.Request.TheVariants.{Create, Delete, Write, Append, Truncate, SetAttr, SetAcl, PDelete, FlushO}
 use Rattle.s4_types.specs.declared.reply.Refusal.TheVariants.{NamesSpent}
 use Rattle.s4_types.specs.declared.reply.Reply.{Reply}
 use Rattle.s4_types.specs.declared.reply.Reply.TheVariants.{Made}
@@ -303,24 +303,13 @@ module _ (f : ℕ → ℕ → ℕ) (base : Base) (h : List Record) (m : ℕ) (ca
     by-kind : (request : Request) → IsNext base h (by request) → Charges base f h (by request)
     by-kind (Create number) n = create-charges number n
     by-kind (Delete o) n = delete-charges s granted (Delete o) n refl o refl refl (λ p. refl) (λ q. refl) (λ q. refl) (λ q old. refl) (λ q old. refl) (λ q old. refl) refl refl
-    by-kind (Read o offset length at) n = quiet (Read o offset length at) n refl (λ q. refl) (λ q old. refl) (λ q old. refl) (λ q old. refl) refl refl
     by-kind (Write o offset bytes) n = data-charges s granted (Write o offset bytes) n refl o refl refl (λ p. refl) (λ q. refl) (written offset bytes) (λ q. refl) (λ q old. refl) (λ q old. refl) (λ q old. refl) refl refl
     by-kind (Append o bytes) n = data-charges s granted (Append o bytes) n refl o refl refl (λ p. refl) (λ q. refl) (λ old. old ++ bytes) (λ q. refl) (λ q old. refl) (λ q old. refl) (λ q old. refl) refl refl
     by-kind (Truncate o length) n = data-charges s granted (Truncate o length) n refl o refl refl (λ p. refl) (λ q. refl) (of_length length) (λ q. refl) (λ q old. refl) (λ q old. refl) (λ q old. refl) refl refl
-    by-kind (GetAttr o at) n = quiet (GetAttr o at) n refl (λ q. refl) (λ q old. refl) (λ q old. refl) (λ q old. refl) refl refl
     by-kind (SetAttr o bytes) n = attribute-charges s granted (SetAttr o bytes) n refl o refl refl (λ p. refl) (λ q. refl) bytes (λ q. refl) (λ q old. refl) (λ q old. refl) (λ q old. refl) refl refl
-    by-kind (GetAclByUser o user at) n = quiet (GetAclByUser o user at) n refl (λ q. refl) (λ q old. refl) (λ q old. refl) (λ q old. refl) refl refl
-    by-kind (GetAclByIndex o index at) n = quiet (GetAclByIndex o index at) n refl (λ q. refl) (λ q old. refl) (λ q old. refl) (λ q old. refl) refl refl
     by-kind (SetAcl o user rights) n = acl-charges s granted (SetAcl o user rights) n refl o refl refl (λ p. refl) (λ q. refl) (acl_with user rights) (λ q. refl) (λ q old. refl) (λ q old. refl) (λ q old. refl) refl refl
-    by-kind (PCreate name o) n = quiet (PCreate name o) n refl (λ q. refl) (λ q old. refl) (λ q old. refl) (λ q old. refl) refl refl
     by-kind (PDelete purse name) n = still-charges s granted (PDelete purse name) n refl (λ q. refl) (λ q old. refl) (λ q old. refl) (λ q old. refl) (sym (sum_by-cons (f m) (binding_cost name) [] ∙ add-zero (f m (binding_cost name))))
-    by-kind (PList range after at) n = quiet (PList range after at) n refl (λ q. refl) (λ q old. refl) (λ q old. refl) (λ q old. refl) refl refl
-    by-kind (PMount purse name at) n = quiet (PMount purse name at) n refl (λ q. refl) (λ q old. refl) (λ q old. refl) (λ q old. refl) refl refl
-    by-kind (Flush from to) n = quiet (Flush from to) n refl (λ q. refl) (λ q old. refl) (λ q old. refl) (λ q old. refl) refl refl
-    by-kind (FlushO o from to) n = quiet (FlushO o from to) n refl (λ q. refl) (λ q old. refl) (λ q old. refl) (λ q old. refl) refl refl
-    by-kind (SetWindow ticks) n = quiet (SetWindow ticks) n refl (λ q. refl) (λ q old. refl) (λ q old. refl) (λ q old. refl) refl refl
-    by-kind (SetBudget purse budget) n = quiet (SetBudget purse budget) n refl (λ q. refl) (λ q old. refl) (λ q old. refl) (λ q old. refl) refl refl
-    by-kind (ReadAudit range skip) n = quiet (ReadAudit range skip) n refl (λ q. refl) (λ q old. refl) (λ q old. refl) (λ q old. refl) refl refl
+    by-kind request n = quiet request n refl (λ q. refl) (λ q old. refl) (λ q old. refl) (λ q old. refl) refl refl
 
 pub charges : (f : ℕ → ℕ → ℕ) {base : Base} {h : List Record} {r : Record} → IsSound base h → IsNext base h r → Charges base f h r
 charges f {base} {h} {r} s n = by_test (is_refused r.reply)

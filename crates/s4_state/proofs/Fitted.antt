@@ -33,8 +33,8 @@ use Rattle.s4_parts.specs.declared.parts.Parts.{Parts as Table}
 use Rattle.s4_parts.specs.Table.{chain_at, items_on, bindings_in, Holds as TableHolds}
 use Rattle.s4_parts.specs.Waiting as names
 use Rattle.s4_parts.specs.Waiting.{waiting_in, Waits}
-use Rattle.s4_parts.proofs.Ordered.{tally, count-cons}
-use Rattle.s4_state.specs.Counts.{made_count, object_ends, binding_ends, ended_count}
+use Rattle.s4_types.proofs.Ordered.{tally, count-cons}
+use Rattle.s4_types.specs.Counts.{made_count, object_ends, binding_ends, ended_count}
 use Rattle.s4_state.specs.Stands.{StandsFor}
 
 -- COUNTS

@@ -31,7 +31,7 @@ use Rattle.s4_objects.specs.declared.kept.Which.TheVariants as which
 use Rattle.s4_objects.specs.declared.objects.Objects.{Objects}
 use Rattle.s4_objects.specs.Flushes.{flushed_on, Flushes}
 use Rattle.s4_objects.specs.Table.{found_in, held_in, ends_in, Holds, LeavesNoChain}
-use Rattle.s4_state.specs.Counts.{counted, made_by}
+use Rattle.s4_types.specs.Counts.{counted, made_by}
 use Rattle.s4_state.specs.Laid.{version_of, laid, versions_on}
 use Rattle.s4_state.specs.Sound.{IsSound, IsNext}
 use Rattle.s4_state.specs.Stands.{horizon_now, StandsFor, NamesStand, MakesNone, RebindsNone, Counts}

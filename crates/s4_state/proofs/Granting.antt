@@ -139,47 +139,13 @@ next-made base h caller number o e =
 
 pub made_is : (base : Base) (h : List Record) (t : ℕ) (caller : Caller) (request : Request) (o : ObjectId) → is_made o (told base h t caller request) ≡ true → IsNextOf base h caller request o
 made_is base h t caller (Create number) o e = next-made base h caller number o e
-made_is base h t caller (Delete p) o e = clash _ (nothing-made o _ (makes_nothing-outcome base h t caller (Delete p) refl)) e
-made_is base h t caller (Read p offset length at) o e = clash _ (nothing-made o _ (makes_nothing-outcome base h t caller (Read p offset length at) refl)) e
-made_is base h t caller (Write p offset bytes) o e = clash _ (nothing-made o _ (makes_nothing-outcome base h t caller (Write p offset bytes) refl)) e
-made_is base h t caller (Append p bytes) o e = clash _ (nothing-made o _ (makes_nothing-outcome base h t caller (Append p bytes) refl)) e
-made_is base h t caller (Truncate p length) o e = clash _ (nothing-made o _ (makes_nothing-outcome base h t caller (Truncate p length) refl)) e
-made_is base h t caller (GetAttr p at) o e = clash _ (nothing-made o _ (makes_nothing-outcome base h t caller (GetAttr p at) refl)) e
-made_is base h t caller (SetAttr p bytes) o e = clash _ (nothing-made o _ (makes_nothing-outcome base h t caller (SetAttr p bytes) refl)) e
-made_is base h t caller (GetAclByUser p user at) o e = clash _ (nothing-made o _ (makes_nothing-outcome base h t caller (GetAclByUser p user at) refl)) e
-made_is base h t caller (GetAclByIndex p index at) o e = clash _ (nothing-made o _ (makes_nothing-outcome base h t caller (GetAclByIndex p index at) refl)) e
-made_is base h t caller (SetAcl p user rights) o e = clash _ (nothing-made o _ (makes_nothing-outcome base h t caller (SetAcl p user rights) refl)) e
-made_is base h t caller (PCreate name p) o e = clash _ (nothing-made o _ (makes_nothing-outcome base h t caller (PCreate name p) refl)) e
-made_is base h t caller (PDelete purse name) o e = clash _ (nothing-made o _ (makes_nothing-outcome base h t caller (PDelete purse name) refl)) e
 made_is base h t caller (PList range after at) o e = clash _ (nothing-made o (outcome_by_kind base h t caller (PList range after at)) (makes_nothing-outcome base h t caller (PList range after at) refl)) e
-made_is base h t caller (PMount purse name at) o e = clash _ (nothing-made o _ (makes_nothing-outcome base h t caller (PMount purse name at) refl)) e
-made_is base h t caller (SetWindow ticks) o e = clash _ (nothing-made o _ (makes_nothing-outcome base h t caller (SetWindow ticks) refl)) e
-made_is base h t caller (Flush from to) o e = clash _ (nothing-made o _ (makes_nothing-outcome base h t caller (Flush from to) refl)) e
-made_is base h t caller (FlushO p from to) o e = clash _ (nothing-made o _ (makes_nothing-outcome base h t caller (FlushO p from to) refl)) e
-made_is base h t caller (SetBudget purse budget) o e = clash _ (nothing-made o _ (makes_nothing-outcome base h t caller (SetBudget purse budget) refl)) e
 made_is base h t caller (ReadAudit range skip) o e = clash _ (nothing-made o (outcome_by_kind base h t caller (ReadAudit range skip)) (makes_nothing-outcome base h t caller (ReadAudit range skip) refl)) e
+made_is base h t caller request o e = clash _ (nothing-made o _ (makes_nothing-outcome base h t caller request refl)) e
 
 create-deletes : (request : Request) (o : ObjectId) → is_create request ≡ true → is_deleted o request ≡ false
 create-deletes (Create number) o e = refl
-create-deletes (Delete p) o e = cc
-create-deletes (Read p offset length at) o e = cc
-create-deletes (Write p offset bytes) o e = cc
-create-deletes (Append p bytes) o e = cc
-create-deletes (Truncate p length) o e = cc
-create-deletes (GetAttr p at) o e = cc
-create-deletes (SetAttr p bytes) o e = cc
-create-deletes (GetAclByUser p user at) o e = cc
-create-deletes (GetAclByIndex p index at) o e = cc
-create-deletes (SetAcl p user rights) o e = cc
-create-deletes (PCreate name p) o e = cc
-create-deletes (PDelete purse name) o e = cc
-create-deletes (PList range after at) o e = cc
-create-deletes (PMount purse name at) o e = cc
-create-deletes (SetWindow ticks) o e = cc
-create-deletes (Flush from to) o e = cc
-create-deletes (FlushO p from to) o e = cc
-create-deletes (SetBudget purse budget) o e = cc
-create-deletes (ReadAudit range skip) o e = cc
+create-deletes _ o e = cc
 
 pub create_deletes_none : (request : Request) (o : ObjectId) → is_create request ≡ true → is_deleted o request ≡ false
 create_deletes_none = create-deletes
@@ -205,20 +171,6 @@ changed_by (SetAcl p user rights) = Some p
 changed_by _ = None
 
 pub changed-lives : (base : Base) (h : List Record) (t : ℕ) (caller : Caller) (request : Request) (o : ObjectId) → is_refused (told base h t caller request) ≡ false → changed_by request ≡ Some o → lives_at base t o h ≡ true
-changed-lives base h t caller (Create number) o e f = cc
-changed-lives base h t caller (Read p offset length at) o e f = cc
-changed-lives base h t caller (GetAttr p at) o e f = cc
-changed-lives base h t caller (GetAclByUser p user at) o e f = cc
-changed-lives base h t caller (GetAclByIndex p index at) o e f = cc
-changed-lives base h t caller (PCreate name p) o e f = cc
-changed-lives base h t caller (PDelete purse name) o e f = cc
-changed-lives base h t caller (PList range after at) o e f = cc
-changed-lives base h t caller (PMount purse name at) o e f = cc
-changed-lives base h t caller (SetWindow ticks) o e f = cc
-changed-lives base h t caller (Flush from to) o e f = cc
-changed-lives base h t caller (FlushO p from to) o e f = cc
-changed-lives base h t caller (SetBudget purse budget) o e f = cc
-changed-lives base h t caller (ReadAudit range skip) o e f = cc
 changed-lives base h t caller (Delete p) o e f =
     let is : p ≡ o = cc in
     subst (λ q. lives_at base t q h ≡ true) is (granted-lives p t base h caller right.Delete (passes_judgement (judge base h t caller p right.Delete None) (refuse_if (has_name base p t h) Named >> Ok Done) e).0)
@@ -242,6 +194,7 @@ changed-lives base h t caller (SetAttr p bytes) o e f =
 changed-lives base h t caller (SetAcl p user rights) o e f =
     let is : p ≡ o = cc in
     subst (λ q. lives_at base t q h ≡ true) is (granted-lives p t base h caller right.Control (passes_judgement (judge base h t caller p right.Control None) (settable user rights (acl_of base p t h) >> Ok Done) e).0)
+changed-lives base h t caller _ o e f = cc
 
 some-when : {A : Type 0} (b : Bool) (x y : A) → when b x ≡ Some y → (b ≡ true) × (x ≡ y)
 some-when true x y e = (refl, cc)
@@ -252,91 +205,21 @@ same-changed p o e = ap (λ q. Some q) (object_is p o e)
 
 pub deleted-changed : (request : Request) (o : ObjectId) → is_deleted o request ≡ true → changed_by request ≡ Some o
 deleted-changed (Delete p) o e = same-changed p o e
-deleted-changed (Create number) o e = cc
-deleted-changed (Read p offset length at) o e = cc
-deleted-changed (Write p offset bytes) o e = cc
-deleted-changed (Append p bytes) o e = cc
-deleted-changed (Truncate p length) o e = cc
-deleted-changed (GetAttr p at) o e = cc
-deleted-changed (SetAttr p bytes) o e = cc
-deleted-changed (GetAclByUser p user at) o e = cc
-deleted-changed (GetAclByIndex p index at) o e = cc
-deleted-changed (SetAcl p user rights) o e = cc
-deleted-changed (PCreate name p) o e = cc
-deleted-changed (PDelete purse name) o e = cc
-deleted-changed (PList range after at) o e = cc
-deleted-changed (PMount purse name at) o e = cc
-deleted-changed (SetWindow ticks) o e = cc
-deleted-changed (Flush from to) o e = cc
-deleted-changed (FlushO p from to) o e = cc
-deleted-changed (SetBudget purse budget) o e = cc
-deleted-changed (ReadAudit range skip) o e = cc
+deleted-changed _ o e = cc
 
 pub data-changed : (request : Request) (o : ObjectId) (old new : List ℕ) → data_effect o request old ≡ Some new → changed_by request ≡ Some o
 data-changed (Write p offset bytes) o old new e = same-changed p o (some-when (same_object p o) (written offset bytes old) new e).0
 data-changed (Append p bytes) o old new e = same-changed p o (some-when (same_object p o) (old ++ bytes) new e).0
 data-changed (Truncate p length) o old new e = same-changed p o (some-when (same_object p o) (of_length length old) new e).0
-data-changed (Create number) o old new e = cc
-data-changed (Delete p) o old new e = cc
-data-changed (Read p offset length at) o old new e = cc
-data-changed (GetAttr p at) o old new e = cc
-data-changed (SetAttr p bytes) o old new e = cc
-data-changed (GetAclByUser p user at) o old new e = cc
-data-changed (GetAclByIndex p index at) o old new e = cc
-data-changed (SetAcl p user rights) o old new e = cc
-data-changed (PCreate name p) o old new e = cc
-data-changed (PDelete purse name) o old new e = cc
-data-changed (PList range after at) o old new e = cc
-data-changed (PMount purse name at) o old new e = cc
-data-changed (SetWindow ticks) o old new e = cc
-data-changed (Flush from to) o old new e = cc
-data-changed (FlushO p from to) o old new e = cc
-data-changed (SetBudget purse budget) o old new e = cc
-data-changed (ReadAudit range skip) o old new e = cc
+data-changed _ o old new e = cc
 
 pub attributes-changed : (request : Request) (o : ObjectId) (old new : List ℕ) → attribute_effect o request old ≡ Some new → changed_by request ≡ Some o
 attributes-changed (SetAttr p bytes) o old new e = same-changed p o (some-when (same_object p o) bytes new e).0
-attributes-changed (Create number) o old new e = cc
-attributes-changed (Delete p) o old new e = cc
-attributes-changed (Read p offset length at) o old new e = cc
-attributes-changed (Write p offset bytes) o old new e = cc
-attributes-changed (Append p bytes) o old new e = cc
-attributes-changed (Truncate p length) o old new e = cc
-attributes-changed (GetAttr p at) o old new e = cc
-attributes-changed (GetAclByUser p user at) o old new e = cc
-attributes-changed (GetAclByIndex p index at) o old new e = cc
-attributes-changed (SetAcl p user rights) o old new e = cc
-attributes-changed (PCreate name p) o old new e = cc
-attributes-changed (PDelete purse name) o old new e = cc
-attributes-changed (PList range after at) o old new e = cc
-attributes-changed (PMount purse name at) o old new e = cc
-attributes-changed (SetWindow ticks) o old new e = cc
-attributes-changed (Flush from to) o old new e = cc
-attributes-changed (FlushO p from to) o old new e = cc
-attributes-changed (SetBudget purse budget) o old new e = cc
-attributes-changed (ReadAudit range skip) o old new e = cc
+attributes-changed _ o old new e = cc
 
 pub acl-changed : (request : Request) (o : ObjectId) (old new : List AclEntry) → acl_effect o request old ≡ Some new → changed_by request ≡ Some o
 acl-changed (SetAcl p user rights) o old new e = same-changed p o (some-when (same_object p o) (acl_with user rights old) new e).0
-acl-changed (Create number) o old new e = cc
-acl-changed (Delete p) o old new e = cc
-acl-changed (Read p offset length at) o old new e = cc
-acl-changed (Write p offset bytes) o old new e = cc
-acl-changed (Append p bytes) o old new e = cc
-acl-changed (Truncate p length) o old new e = cc
-acl-changed (GetAttr p at) o old new e = cc
-acl-changed (SetAttr p bytes) o old new e = cc
-acl-changed (GetAclByUser p user at) o old new e = cc
-acl-changed (GetAclByIndex p index at) o old new e = cc
-acl-changed (PCreate name p) o old new e = cc
-acl-changed (PDelete purse name) o old new e = cc
-acl-changed (PList range after at) o old new e = cc
-acl-changed (PMount purse name at) o old new e = cc
-acl-changed (SetWindow ticks) o old new e = cc
-acl-changed (Flush from to) o old new e = cc
-acl-changed (FlushO p from to) o old new e = cc
-acl-changed (SetBudget purse budget) o old new e = cc
-acl-changed (ReadAudit range skip) o old new e = cc
+acl-changed _ o old new e = cc
 
 -- LENGTHS
 
@@ -367,23 +250,7 @@ data-fit base h t caller (Truncate p n) o e old new f is fits =
     let short : nat_lt 4096 n ≡ false = (passes_test (nat_lt 4096 n) TooLong (judge base h t caller p right.Write None >> Ok Done) e).0 in
     let low : n ≤ 4096 = grind arith in
     subst DataFits (some-when (same_object p o) (of_length n old) new f).1 (rw (length-of_length n old) low)
-data-fit base h t caller (Create number) o e old new f is fits = cc
-data-fit base h t caller (Delete p) o e old new f is fits = cc
-data-fit base h t caller (Read p offset length at) o e old new f is fits = cc
-data-fit base h t caller (GetAttr p at) o e old new f is fits = cc
-data-fit base h t caller (SetAttr p bytes) o e old new f is fits = cc
-data-fit base h t caller (GetAclByUser p user at) o e old new f is fits = cc
-data-fit base h t caller (GetAclByIndex p index at) o e old new f is fits = cc
-data-fit base h t caller (SetAcl p user rights) o e old new f is fits = cc
-data-fit base h t caller (PCreate name p) o e old new f is fits = cc
-data-fit base h t caller (PDelete purse name) o e old new f is fits = cc
-data-fit base h t caller (PList range after at) o e old new f is fits = cc
-data-fit base h t caller (PMount purse name at) o e old new f is fits = cc
-data-fit base h t caller (SetWindow ticks) o e old new f is fits = cc
-data-fit base h t caller (Flush from to) o e old new f is fits = cc
-data-fit base h t caller (FlushO p from to) o e old new f is fits = cc
-data-fit base h t caller (SetBudget purse budget) o e old new f is fits = cc
-data-fit base h t caller (ReadAudit range skip) o e old new f is fits = cc
+data-fit base h t caller _ o e old new f is fits = cc
 
 pub attributes-fit : (base : Base) (h : List Record) (t : ℕ) (caller : Caller) (request : Request) (o : ObjectId) → is_refused (told base h t caller request) ≡ false
     → (old new : List ℕ) → attribute_effect o request old ≡ Some new → AttributesFit new
@@ -391,25 +258,7 @@ attributes-fit base h t caller (SetAttr p bytes) o e old new f =
     let short : nat_lt 256 (length bytes) ≡ false = (passes_test (nat_lt 256 (length bytes)) TooLong (judge base h t caller p right.Write None >> Ok Done) e).0 in
     let low : length bytes ≤ 256 = grind arith in
     subst AttributesFit (some-when (same_object p o) bytes new f).1 low
-attributes-fit base h t caller (Create number) o e old new f = cc
-attributes-fit base h t caller (Delete p) o e old new f = cc
-attributes-fit base h t caller (Read p offset length at) o e old new f = cc
-attributes-fit base h t caller (Write p offset bytes) o e old new f = cc
-attributes-fit base h t caller (Append p bytes) o e old new f = cc
-attributes-fit base h t caller (Truncate p length) o e old new f = cc
-attributes-fit base h t caller (GetAttr p at) o e old new f = cc
-attributes-fit base h t caller (GetAclByUser p user at) o e old new f = cc
-attributes-fit base h t caller (GetAclByIndex p index at) o e old new f = cc
-attributes-fit base h t caller (SetAcl p user rights) o e old new f = cc
-attributes-fit base h t caller (PCreate name p) o e old new f = cc
-attributes-fit base h t caller (PDelete purse name) o e old new f = cc
-attributes-fit base h t caller (PList range after at) o e old new f = cc
-attributes-fit base h t caller (PMount purse name at) o e old new f = cc
-attributes-fit base h t caller (SetWindow ticks) o e old new f = cc
-attributes-fit base h t caller (Flush from to) o e old new f = cc
-attributes-fit base h t caller (FlushO p from to) o e old new f = cc
-attributes-fit base h t caller (SetBudget purse budget) o e old new f = cc
-attributes-fit base h t caller (ReadAudit range skip) o e old new f = cc
+attributes-fit base h t caller _ o e old new f = cc
 
 -- the entries that a SetAcl leaves, where it may be carried out
 entries-fit : (user rights : ℕ) (acl : List AclEntry) → is_ok (settable user rights acl) ≡ true → AclFits acl → AclFits (acl_with user rights acl)
@@ -439,25 +288,7 @@ acl-fit base h t caller (SetAcl p user rights) o e old new f is fits =
     let passes : is_ok (settable user rights (acl_of base p t h)) ≡ true
     = (passes_judgement (settable user rights (acl_of base p t h)) (Ok Done) (passes_judgement (judge base h t caller p right.Control None) (settable user rights (acl_of base p t h) >> Ok Done) e).1).0 in
     subst AclFits both'.1 (entries-fit user rights old (subst (λ acl. is_ok (settable user rights acl) ≡ true) same passes) fits)
-acl-fit base h t caller (Create number) o e old new f is fits = cc
-acl-fit base h t caller (Delete p) o e old new f is fits = cc
-acl-fit base h t caller (Read p offset length at) o e old new f is fits = cc
-acl-fit base h t caller (Write p offset bytes) o e old new f is fits = cc
-acl-fit base h t caller (Append p bytes) o e old new f is fits = cc
-acl-fit base h t caller (Truncate p length) o e old new f is fits = cc
-acl-fit base h t caller (GetAttr p at) o e old new f is fits = cc
-acl-fit base h t caller (SetAttr p bytes) o e old new f is fits = cc
-acl-fit base h t caller (GetAclByUser p user at) o e old new f is fits = cc
-acl-fit base h t caller (GetAclByIndex p index at) o e old new f is fits = cc
-acl-fit base h t caller (PCreate name p) o e old new f is fits = cc
-acl-fit base h t caller (PDelete purse name) o e old new f is fits = cc
-acl-fit base h t caller (PList range after at) o e old new f is fits = cc
-acl-fit base h t caller (PMount purse name at) o e old new f is fits = cc
-acl-fit base h t caller (SetWindow ticks) o e old new f is fits = cc
-acl-fit base h t caller (Flush from to) o e old new f is fits = cc
-acl-fit base h t caller (FlushO p from to) o e old new f is fits = cc
-acl-fit base h t caller (SetBudget purse budget) o e old new f is fits = cc
-acl-fit base h t caller (ReadAudit range skip) o e old new f is fits = cc
+acl-fit base h t caller _ o e old new f is fits = cc
 
 -- TELLING
 
@@ -484,20 +315,6 @@ told-done (Ok (Refused r)) e f = cc
 told-done (Err r) e f = cc
 
 only_done-outcome : (base : Base) (h : List Record) (t : ℕ) (caller : Caller) (request : Request) (o : ObjectId) → changed_by request ≡ Some o → only_done (outcome_by_kind base h t caller request) ≡ true
-only_done-outcome base h t caller (Create number) o e = cc
-only_done-outcome base h t caller (Read p offset length at) o e = cc
-only_done-outcome base h t caller (GetAttr p at) o e = cc
-only_done-outcome base h t caller (GetAclByUser p user at) o e = cc
-only_done-outcome base h t caller (GetAclByIndex p index at) o e = cc
-only_done-outcome base h t caller (PCreate name p) o e = cc
-only_done-outcome base h t caller (PDelete purse name) o e = cc
-only_done-outcome base h t caller (PList range after at) o e = cc
-only_done-outcome base h t caller (PMount purse name at) o e = cc
-only_done-outcome base h t caller (SetWindow ticks) o e = cc
-only_done-outcome base h t caller (Flush from to) o e = cc
-only_done-outcome base h t caller (FlushO p from to) o e = cc
-only_done-outcome base h t caller (SetBudget purse budget) o e = cc
-only_done-outcome base h t caller (ReadAudit range skip) o e = cc
 only_done-outcome base h t caller (Delete p) o e = done-then (judge base h t caller p right.Delete None) _ (done-then (refuse_if (has_name base p t h) Named) (Ok Done) refl)
 only_done-outcome base h t caller (Write p offset bytes) o e =
     done-then (refuse_if (nat_lt 4096 (offset + length bytes)) TooLong) _ (done-then (judge base h t caller p right.Write None) (Ok Done) refl)
@@ -510,6 +327,7 @@ only_done-outcome base h t caller (SetAttr p bytes) o e =
     done-then (refuse_if (nat_lt 256 (length bytes)) TooLong) _ (done-then (judge base h t caller p right.Write None) (Ok Done) refl)
 only_done-outcome base h t caller (SetAcl p user rights) o e =
     done-then (judge base h t caller p right.Control None) _ (done-then (settable user rights (acl_of base p t h)) (Ok Done) refl)
+only_done-outcome base h t caller _ o e = cc
 
 -- an accepted change is told Done
 pub changed-done : (base : Base) (h : List Record) (t : ℕ) (caller : Caller) (request : Request) (o : ObjectId) → is_refused (told base h t caller request) ≡ false → changed_by request ≡ Some o → told base h t caller request ≡ Done

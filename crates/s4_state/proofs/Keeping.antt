@@ -7,7 +7,7 @@ use Rattle.s4_types.specs.declared.principal.Caller.{Caller}
 use Rattle.s4_types.specs.declared.object.Purse.{Purse}
 use Rattle.s4_types.specs.declared.object.ObjectId.{ObjectId}
 use Rattle.s4_types.specs.declared.request.Request.{Request}
-use Rattle.s4_types.specs.declared.request.Request.TheVariants.{Create, Delete, Read, Write, Append, Truncate, GetAttr, SetAttr, GetAclByUser, GetAclByIndex, SetAcl, PCreate, PDelete, PList, PMount, Flush, FlushO, SetWindow, SetBudget, ReadAudit}
+use Rattle.s4_types.specs.declared.request.Request.TheVariants.{Create, Delete, PCreate, PDelete}
 use Rattle.s4_types.specs.declared.reply.Reply.{Reply}
 use Rattle.s4_types.specs.declared.reply.Reply.TheVariants.{Done, Made}
 use Rattle.s4_types.specs.declared.record.Record.{Record}
@@ -17,14 +17,16 @@ use Rattle.s4_types.specs.Kinds.{is_accepted, is_wide, is_about, concerns}
 use Rattle.s4_types.specs.Name.{same_name}
 use Rattle.s4_types.specs.Names.{same_purse, same_object, object_in}
 use Rattle.s4_types.specs.Versions.{Value, begun, with_end, standing, makes, deletes, is_deleted}
+use Rattle.s4_types.proofs.Snoc.{bindings-snoc}
 use Rattle.s4_types.proofs.Booleans.{by_test, both}
 use Rattle.s4_types.proofs.SameNames.{purse_is, purse_self, object_is, object_self, name_is, name_self}
 use Rattle.s4_cuts.specs.Cut.{object_left, is_left}
 use Rattle.s4_cuts.proofs.CutTracks.{lives_after, lives-left, end-standing}
 use Rattle.s4_cuts.proofs.Cutting.{standing-kept, object-kept}
-use Rattle.s4_state.specs.Counts.{made_by, values_ended_by, bindings_ended_by, counted, made_count, object_ends, binding_ends, same_place, AreCurrent, Keeps, Leaves}
+use Rattle.s4_types.specs.Changes.{change_of}
+use Rattle.s4_types.specs.Counts.{made_by, values_ended_by, bindings_ended_by, counted, made_count, object_ends, binding_ends}
+use Rattle.s4_state.specs.Current.{same_place, AreCurrent, Keeps, Leaves}
 use Rattle.s4_state.specs.Sound.{Finds, AllFind}
-use Rattle.s4_state.proofs.Naming.{bindings-snoc}
 use Rattle.s4_state.proofs.Once.{once-more, once-less, once-shorter, once-length}
 
 -- NAMES IN PURSES
@@ -85,7 +87,7 @@ module _ (base : Base) (early : List Record) where
   idle r e k = still r
       (λ o b. ap (λ c. if c then (if makes o r then true else (if deletes o r then false else b)) else b) (strange o.purse))
       (λ p n old. ap (λ c. if c then rebound p n r.moment r.request old else old) (strange p))
-      (ap (λ c. cond c (values_ended_by r.request) 0 + cond c (bindings_ended_by r.request) 0) e ∙ sym (ap (λ c. cond c (made_by r.request) 0) e)) k
+      (ap (λ c. cond c (values_ended_by (change_of r.request)) 0 + cond c (bindings_ended_by (change_of r.request)) 0) e ∙ sym (ap (λ c. cond c (made_by (change_of r.request)) 0) e)) k
     where
       strange : (p : Purse) → concerns p r ≡ false
       strange p = ap (λ b. b && (is_wide r.caller r.request || is_about p r.caller r.request)) e
@@ -221,22 +223,7 @@ module _ (base : Base) (early : List Record) where
     by-kind (Delete o) reply f = subst (λ x. Moves base early (by (Delete o) x) count) (sym f.0) (delete o f.1)
     by-kind (PCreate name o) reply f = subst (λ x. Moves base early (by (PCreate name o) x) count) (sym f.0) (bind name o f.1)
     by-kind (PDelete purse name) reply f = subst (λ x. Moves base early (by (PDelete purse name) x) count) (sym f.0) (unbind purse name f.1)
-    by-kind (Read o offset length at) reply f = quiet (Read o offset length at) reply (λ q. refl) (λ p n old. refl) refl f
-    by-kind (Write o offset bytes) reply f = quiet (Write o offset bytes) reply (λ q. refl) (λ p n old. refl) refl f
-    by-kind (Append o bytes) reply f = quiet (Append o bytes) reply (λ q. refl) (λ p n old. refl) refl f
-    by-kind (Truncate o length) reply f = quiet (Truncate o length) reply (λ q. refl) (λ p n old. refl) refl f
-    by-kind (GetAttr o at) reply f = quiet (GetAttr o at) reply (λ q. refl) (λ p n old. refl) refl f
-    by-kind (SetAttr o bytes) reply f = quiet (SetAttr o bytes) reply (λ q. refl) (λ p n old. refl) refl f
-    by-kind (GetAclByUser o user at) reply f = quiet (GetAclByUser o user at) reply (λ q. refl) (λ p n old. refl) refl f
-    by-kind (GetAclByIndex o index at) reply f = quiet (GetAclByIndex o index at) reply (λ q. refl) (λ p n old. refl) refl f
-    by-kind (SetAcl o user rights) reply f = quiet (SetAcl o user rights) reply (λ q. refl) (λ p n old. refl) refl f
-    by-kind (PList range after at) reply f = quiet (PList range after at) reply (λ q. refl) (λ p n old. refl) refl f
-    by-kind (PMount purse name at) reply f = quiet (PMount purse name at) reply (λ q. refl) (λ p n old. refl) refl f
-    by-kind (Flush from to) reply f = quiet (Flush from to) reply (λ q. refl) (λ p n old. refl) refl f
-    by-kind (FlushO o from to) reply f = quiet (FlushO o from to) reply (λ q. refl) (λ p n old. refl) refl f
-    by-kind (SetWindow ticks) reply f = quiet (SetWindow ticks) reply (λ q. refl) (λ p n old. refl) refl f
-    by-kind (SetBudget purse budget) reply f = quiet (SetBudget purse budget) reply (λ q. refl) (λ p n old. refl) refl f
-    by-kind (ReadAudit range skip) reply f = quiet (ReadAudit range skip) reply (λ q. refl) (λ p n old. refl) refl f
+    by-kind request reply f = quiet request reply (λ q. refl) (λ p n old. refl) refl f
 
   one_moves : (r : Record) {count : ℕ} → (is_accepted r ≡ true → Finds base early r.caller r.request r.reply) → Leaves base early count → Moves base early r count
   one_moves r f k = by_test (is_accepted r) (λ e. by-kind r.moment r.caller k r.request r.reply (f e)) (λ e. idle r e k)

@@ -11,10 +11,11 @@ use Rattle.s4_types.specs.declared.version.Item.{Item}
 use Rattle.s4_types.specs.declared.version.Item.TheVariants as item
 use Rattle.s4_types.specs.Versions.{Track, Value, versions, data_track, attribute_track, acl_track, ends_by, in_force_by, unended, standing, lives_at}
 use Rattle.s4_types.specs.Serials.{drawn}
-use Rattle.s4_types.specs.Play.{InOrder}
+use Rattle.s4_types.specs.Play.{UpTo}
 use Rattle.s4_types.specs.Horizon.{horizon_at}
+use Rattle.s4_types.proofs.InTime.{up-later, up-snoc, order-snoc}
 use Rattle.s4_types.proofs.Booleans.{by_test, both, not_both}
-use Rattle.s4_cuts.specs.Cut.{UpTo, IsHistory}
+use Rattle.s4_cuts.specs.Cut.{IsHistory}
 use Rattle.s4_cuts.proofs.CutTracks.{lives-track}
 use Rattle.s4_cuts.proofs.CutPlay.{floor-at}
 use Rattle.s4_objects.specs.declared.kept.Which.TheVariants as which
@@ -50,24 +51,12 @@ horizon_by-last {base} {last} {h} is =
     let floor = floor-at base h last (le_trans is.is_base.floor is.now) is.last in
     omega (arith, floor)
 
-up-later : (m n : ℕ) (h : List Record) → m ≤ n → UpTo m h → UpTo n h
-up-later m n [] l u = tt
-up-later m n (r ∷ h) l u = (le_trans u.0 l, up-later m n h l u.1)
-
-up-next : (m : ℕ) (h : List Record) (r : Record) → UpTo m h → r.moment ≤ m → UpTo m (h ++ r ∷ [])
-up-next m [] r u l = (l, tt)
-up-next m (x ∷ h) r u l = (u.0, up-next m h r u.1 l)
-
-order-next : (from m : ℕ) (h : List Record) (r : Record) → InOrder from h → UpTo m h → from ≤ r.moment → m ≤ r.moment → InOrder from (h ++ r ∷ [])
-order-next from m [] r o u l e = (l, tt)
-order-next from m (x ∷ h) r o u l e = (o.0, order-next x.moment m h r o.1 u.1 (le_trans u.0 e) e)
-
 -- a record that isn't older goes on
 pub history_next : (base : Base) (last : ℕ) (h : List Record) (r : Record) → IsHistory base h last → last ≤ r.moment → IsHistory base (h ++ r ∷ []) r.moment
 history_next base last h r is later = record {
   is_base = is.is_base;
-  order = order-next base.cut last h r is.order is.last (le_trans is.now later) later;
-  last = up-next r.moment h r (up-later last r.moment h later is.last) (le_refl r.moment);
+  order = order-snoc base.cut h r (le_trans is.now later) is.order (up-later last r.moment h later is.last);
+  last = up-snoc r.moment h r (up-later last r.moment h later is.last) (le_refl r.moment);
   now = le_trans is.now later;
 }
 

@@ -26,7 +26,8 @@ use Rattle.s4_objects.specs.declared.objects.Objects.{Objects}
 use Rattle.s4_state.specs.Shown.{granted, grant_of}
 use Rattle.s4_state.specs.Stands.{horizon_now, is_lasting, StandsFor}
 use Rattle.s4_state.proofs.Binding.{bound-in}
-use Rattle.s4_state.proofs.Left.{none-lasting, lines-filter}
+use Rattle.s4_types.proofs.Ordered.{lines-filter}
+use Rattle.s4_state.proofs.Left.{none-lasting}
 
 line-granted : (name : List ℕ) (o : ObjectId) (r : Result Grant Refusal) → page.line_with name o (grant_of r) ≡ line_where name o r
 line-granted name o (Ok grant) = refl

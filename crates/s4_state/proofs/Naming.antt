@@ -3,17 +3,17 @@ use Rattle.std.proofs.Common.{◌≡◌, ℕ, zero, suc, ◌≤◌, ◌-◌, Boo
 use Rattle.std.specs.Prelude.{◌+◌, ◌&&◌, nat_le, slice_get, unwrap_or, map}
 use Rattle.std.specs.List.{list_all}
 use Rattle.std.specs.Option.{option_map}
-use Rattle.std.proofs.lemmas.List.Sums.{fold-append}
 use Rattle.s4_types.specs.Base.{Base}
 use Rattle.s4_types.specs.declared.object.Purse.{Purse}
 use Rattle.s4_types.specs.declared.record.Record.{Record}
 use Rattle.s4_types.specs.declared.version.Version.{Version}
 use Rattle.s4_types.specs.declared.version.Item.TheVariants as item
 use Rattle.s4_types.specs.Names.{object_in}
-use Rattle.s4_types.specs.Bindings.{bindings, bindings_after, names_after, names_of}
-use Rattle.s4_types.specs.Versions.{Value, only_kept}
+use Rattle.s4_types.specs.Bindings.{bindings, names_of}
+use Rattle.s4_types.specs.Versions.{Value}
 use Rattle.s4_types.specs.Play.{last_of}
 use Rattle.s4_types.proofs.Booleans.{both}
+use Rattle.s4_types.proofs.Snoc.{bindings-snoc, names_of-snoc}
 use Rattle.s4_store.specs.Chains.{Chains}
 use Rattle.s4_tracks.specs.Swept.{unexpired, AgreesWith}
 use Rattle.s4_tracks.proofs.Sweeping.{agrees_up}
@@ -23,19 +23,12 @@ use Rattle.s4_parts.specs.declared.parts.Parts.{Parts as Table}
 use Rattle.s4_parts.specs.Table.{bindings_in, chain_at, is_any}
 use Rattle.s4_parts.specs.Waiting.{waiting_in}
 use Rattle.s4_parts.specs.Laws.{KeepsTable, bindings_still, names_still, holds_still, waits_still}
-use Rattle.s4_state.specs.Counts.{bindings_ended_by, counted}
+use Rattle.s4_types.specs.Counts.{bindings_ended_by, counted}
 use Rattle.s4_state.specs.Laid.{laid_by, bindings_on}
 use Rattle.s4_state.specs.Stands.{is_lasting, NamesStand, RebindsNone}
-use Rattle.s4_state.proofs.Left.{lasting-up, filter-less}
+use Rattle.s4_types.proofs.Ordered.{filter-less}
+use Rattle.s4_state.proofs.Left.{lasting-up}
 use Rattle.s4_state.proofs.Waiting.{no-more, waiting_next}
-
--- ONE MORE RECORD
-
-pub bindings-snoc : (p : Purse) (n : List ℕ) (base : Base) (h : List Record) (r : Record) → bindings base p n (h ++ r ∷ []) ≡ bindings_after p n (bindings base p n h) r
-bindings-snoc p n base h r = fold-append (bindings_after p n) (only_kept (base.binding p n)) h (r ∷ [])
-
-pub names_of-snoc : (p : Purse) (base : Base) (h : List Record) (r : Record) → names_of base p (h ++ r ∷ []) ≡ names_after p (names_of base p h) r
-names_of-snoc p base h r = fold-append (names_after p) (base.names p) h (r ∷ [])
 
 -- NO LATER THAN THE LAST RECORD
 
@@ -76,6 +69,7 @@ module _ {hz : ℕ} {chains : Chains Version} {kept : Objects} {table : Table} {
     names = λ p. filter-less (is_lasting hz' chains table p) (is_lasting hz chains table p) _ _ (λ n e. lasting-up hz hz' (bindings_in chains table p n) up e)
         (s.names p ∙ ap (filter (is_lasting hz chains table p)) (sym (names_of-snoc p base h r ∙ none.names p (names_of base p h))));
     ends = waiting_next up bindings_ended_by h r (no-more (map (λ e. e.end) (waiting_in table)) r.moment ended) s.ends;
+    none_empty = s.none_empty;
     apart = s.apart;
   }
     where
@@ -90,6 +84,7 @@ module _ {hz : ℕ} {chains : Chains Version} {kept : Objects} {table : Table} {
     bindings = λ p n. subst (λ vs. AgreesWith hz vs (bindings_on base p n h)) (sym (bindings_still keeps p n)) (s.bindings p n);
     names = λ p. lasting_as hz chains new table table p (λ n. bindings_still keeps p n) (names_still keeps p) refl (s.names p);
     ends = s.ends;
+    none_empty = λ p n there. ap is_any (bindings_still keeps p n) ∙ s.none_empty p n there;
     apart = apart;
   }
 

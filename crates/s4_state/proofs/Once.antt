@@ -1,15 +1,9 @@
 -- Lists that have each thing once.
 use Rattle.std.proofs.Common.{◌≡◌, ℕ, ◌+◌, Bool, true, false, cond, List, [], ◌∷◌, refl, sym, ◌∙◌, ap, arith, length, filter, zero-add}
 use Rattle.std.specs.Prelude.{◌||◌, not, count_by, if◌then◌else◌}
-use Rattle.std.proofs.lemmas.List.Sums.{sum_by-cons}
 use Rattle.s4_types.proofs.Booleans.{by_test, not_both}
-use Rattle.s4_state.specs.Counts.{EachOnce}
-
-abbrev tally : Bool → ℕ
-tally b = if b then 1 else 0
-
-pub count-cons : {A : Type 0} (p : A → Bool) (x : A) (xs : List A) → count_by p (x ∷ xs) ≡ cond (p x) 1 0 + count_by p xs
-count-cons p x xs = sum_by-cons (λ y. cond (p y) 1 0) x xs
+use Rattle.s4_types.proofs.Ordered.{tally, count-cons}
+use Rattle.s4_state.specs.Current.{EachOnce}
 
 length-others : {A : Type 0} (p : A → Bool) (xs : List A) → length (filter (λ x. not (p x)) xs) + count_by p xs ≡ length xs
 length-others p [] = refl

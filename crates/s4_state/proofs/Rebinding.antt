@@ -4,13 +4,11 @@ use Rattle.std.specs.Prelude.{◌&&◌, ◌||◌, nat_le, is_some, fold, sum_by,
 use Rattle.std.specs.List.{list_any}
 use Rattle.std.specs.List.Sorted.{IsStrictlySortedBy}
 use Rattle.std.specs.Option.{option_map}
-use Rattle.std.specs.Ordering.{is_eq}
-use Rattle.std.specs.declared.cmp.Ordering.TheVariants.{Less}
 use Rattle.std.proofs.lemmas.List.Sums.{fold-append, sum_by-cons}
 use Rattle.s4_types.specs.Base.{Base, Standing}
 use Rattle.s4_types.specs.declared.object.Purse.{Purse}
 use Rattle.s4_types.specs.declared.request.Request.{Request}
-use Rattle.s4_types.specs.declared.request.Request.TheVariants.{Create, Delete, Read, Write, Append, Truncate, GetAttr, SetAttr, GetAclByUser, GetAclByIndex, SetAcl, PCreate, PDelete, PList, PMount, Flush, FlushO, SetWindow, SetBudget, ReadAudit}
+use Rattle.s4_types.specs.declared.request.Request.TheVariants.{PCreate, PDelete}
 use Rattle.s4_types.specs.declared.record.Record.{Record}
 use Rattle.s4_types.specs.Bindings.{bindings, bindings_after, rebound, bound_at, with_name, in_order, named_by, names_after, names_of}
 use Rattle.s4_types.specs.Kinds.{is_refused, only_reads, is_accepted, is_wide, is_about, concerns}
@@ -19,21 +17,14 @@ use Rattle.s4_types.specs.Names.{same_purse}
 use Rattle.s4_types.specs.Spending.{binding_cost}
 use Rattle.s4_types.specs.Versions.{Value, begun, with_end, ends_by, in_force_by, only_kept}
 use Rattle.s4_types.proofs.Booleans.{by_test, both, not_both, &&-false}
-use Rattle.s4_types.proofs.SameNames.{purse_is, name_is, name_self, at_name}
-use Rattle.s4_parts.proofs.Ordered.{IsBelow, by_order, greater-other, below-through, tail-sorted}
+use Rattle.s4_types.proofs.SameNames.{purse_is, name_is, name_self}
+use Rattle.s4_types.proofs.Ordered.{less-other, greater-other, by_order, IsBelow, below-through, none-below, tail-sorted}
 use Rattle.s4_state.specs.Sound.{IsSound, IsNext, EndsBy, ValuesStand}
 use Rattle.s4_state.specs.Weights.{values_weight, name_weight, names_weight}
 use Rattle.s4_state.proofs.Granting.{accepted-asked, was_bound}
 use Rattle.s4_state.proofs.Weighing.{begun-weight, end-weight, unbinding_weight, NamesMove}
 
 -- SUMS OVER NAMES
-
-less-other : (a b : List ℕ) → name_cmp a b ≡ Less → same_name a b ≡ false
-less-other a b e = sym (at_name a b) ∙ ap is_eq e
-
-none-below : (a : List ℕ) (ks : List (List ℕ)) → IsBelow a ks → list_any (same_name a) ks ≡ false
-none-below a [] l = refl
-none-below a (k ∷ ks) l = ap (λ b. b || list_any (same_name a) ks) (less-other a k l.0) ∙ none-below a ks l.1
 
 -- a name more adds nothing, where it is among the names, or weighs nothing
 sum-with : (g : List ℕ → ℕ) (a : List ℕ) (ks : List (List ℕ)) → IsStrictlySortedBy name_cmp ks → (list_any (same_name a) ks ≡ false → g a ≡ 0) → sum_by g (with_name a ks) ≡ sum_by g ks
@@ -99,24 +90,7 @@ whole-end m (v ∷ past) w = w
 whole-rebound : (p : Purse) (name : List ℕ) (m : ℕ) (request : Request) (old : List (Value ℕ)) → IsWhole old → IsWhole (rebound p name m request old)
 whole-rebound p name m (PCreate other o) old w = whole-either (same_purse o.purse p && same_name other name) (begun m o.serial ∷ old) old refl w
 whole-rebound p name m (PDelete place other) old w = whole-either (same_purse place p && same_name other name) (with_end m old) old (whole-end m old w) w
-whole-rebound p name m (Create number) old w = w
-whole-rebound p name m (Delete o) old w = w
-whole-rebound p name m (Read o offset length at) old w = w
-whole-rebound p name m (Write o offset bytes) old w = w
-whole-rebound p name m (Append o bytes) old w = w
-whole-rebound p name m (Truncate o length) old w = w
-whole-rebound p name m (GetAttr o at) old w = w
-whole-rebound p name m (SetAttr o bytes) old w = w
-whole-rebound p name m (GetAclByUser o user at) old w = w
-whole-rebound p name m (GetAclByIndex o index at) old w = w
-whole-rebound p name m (SetAcl o user rights) old w = w
-whole-rebound p name m (PList range after at) old w = w
-whole-rebound p name m (PMount purse other at) old w = w
-whole-rebound p name m (Flush from to) old w = w
-whole-rebound p name m (FlushO q from to) old w = w
-whole-rebound p name m (SetWindow ticks) old w = w
-whole-rebound p name m (SetBudget purse budget) old w = w
-whole-rebound p name m (ReadAudit range skip) old w = w
+whole-rebound p name m _ old w = w
 
 whole-fold : (p : Purse) (name : List ℕ) (old : List (Value ℕ)) (h : List Record) → IsWhole old → IsWhole (fold (bindings_after p name) old h)
 whole-fold p name old [] w = w
@@ -229,24 +203,7 @@ module _ (f : ℕ → ℕ → ℕ) (base : Base) (h : List Record) (r : Record) 
     by-kind : (request : Request) → r.request ≡ request → sum_by (weight_by true request) (names_by true request) ≡ names_weight base f p h + unbinding_weight f r.moment request
     by-kind (PCreate name o) asked = bound-move name o.serial (same_purse o.purse p) ∙ sym (add-zero (names_weight base f p h))
     by-kind (PDelete place name) asked = unbound-move place name asked
-    by-kind (Create number) asked = sym (add-zero (names_weight base f p h))
-    by-kind (Delete o) asked = sym (add-zero (names_weight base f p h))
-    by-kind (Read o offset length at) asked = sym (add-zero (names_weight base f p h))
-    by-kind (Write o offset bytes) asked = sym (add-zero (names_weight base f p h))
-    by-kind (Append o bytes) asked = sym (add-zero (names_weight base f p h))
-    by-kind (Truncate o length) asked = sym (add-zero (names_weight base f p h))
-    by-kind (GetAttr o at) asked = sym (add-zero (names_weight base f p h))
-    by-kind (SetAttr o bytes) asked = sym (add-zero (names_weight base f p h))
-    by-kind (GetAclByUser o user at) asked = sym (add-zero (names_weight base f p h))
-    by-kind (GetAclByIndex o index at) asked = sym (add-zero (names_weight base f p h))
-    by-kind (SetAcl o user rights) asked = sym (add-zero (names_weight base f p h))
-    by-kind (PList range after at) asked = sym (add-zero (names_weight base f p h))
-    by-kind (PMount purse name at) asked = sym (add-zero (names_weight base f p h))
-    by-kind (Flush from to) asked = sym (add-zero (names_weight base f p h))
-    by-kind (FlushO o from to) asked = sym (add-zero (names_weight base f p h))
-    by-kind (SetWindow ticks) asked = sym (add-zero (names_weight base f p h))
-    by-kind (SetBudget purse budget) asked = sym (add-zero (names_weight base f p h))
-    by-kind (ReadAudit range skip) asked = sym (add-zero (names_weight base f p h))
+    by-kind _ asked = sym (add-zero (names_weight base f p h))
 
   -- whatever record comes next
   pub names-move : IsSound base h → IsNext base h r → NamesMove base f h r p

@@ -6,7 +6,7 @@ use Rattle.std.proofs.lemmas.List.Sums.{sum_by-append, sum_by-cons}
 use Rattle.s4_types.specs.declared.object.Purse.{Purse}
 use Rattle.s4_types.specs.declared.object.ObjectId.{ObjectId}
 use Rattle.s4_types.specs.declared.request.Request.{Request}
-use Rattle.s4_types.specs.declared.request.Request.TheVariants.{Create, Delete, Read, Write, Append, Truncate, GetAttr, SetAttr, GetAclByUser, GetAclByIndex, SetAcl, PCreate, PDelete, PList, PMount, Flush, FlushO, SetWindow, SetBudget, ReadAudit}
+use Rattle.s4_types.specs.declared.request.Request.TheVariants.{Flush, FlushO}
 use Rattle.s4_types.specs.declared.record.Record.{Record}
 use Rattle.s4_types.specs.declared.version.Version.{Version}
 use Rattle.s4_types.specs.declared.version.Item.{Item}
@@ -143,24 +143,7 @@ module _ {base : Base} {size : ℕ} {chains : Chains Version} {kept : Objects} {
 no-span : (request : Request) (o : ObjectId) → is_flush request ≡ false → span_of o request ≡ None
 no-span (Flush from to) o e = cc
 no-span (FlushO q from to) o e = cc
-no-span (Create number) o e = refl
-no-span (Delete q) o e = refl
-no-span (Read q offset length at) o e = refl
-no-span (Write q offset bytes) o e = refl
-no-span (Append q bytes) o e = refl
-no-span (Truncate q length) o e = refl
-no-span (GetAttr q at) o e = refl
-no-span (SetAttr q bytes) o e = refl
-no-span (GetAclByUser q user at) o e = refl
-no-span (GetAclByIndex q index at) o e = refl
-no-span (SetAcl q user rights) o e = refl
-no-span (PCreate name q) o e = refl
-no-span (PDelete purse name) o e = refl
-no-span (PList range after at) o e = refl
-no-span (PMount purse name at) o e = refl
-no-span (SetWindow ticks) o e = refl
-no-span (SetBudget purse budget) o e = refl
-no-span (ReadAudit range skip) o e = refl
+no-span _ o e = refl
 
 module _ {base : Base} {h : List Record} {r : Record} (s : IsSound base h) (n : IsNext base h r) (f : ℕ → ℕ → ℕ) (p : Purse) {refunds : List Refund} (nothing : refunds ≡ []) where
   freed-none-charged : freed_weight base f p h r ≡ 0 → IsCharged base f p h r refunds

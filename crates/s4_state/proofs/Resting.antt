@@ -4,7 +4,7 @@ use Rattle.std.specs.Prelude.{◌&&◌}
 use Rattle.s4_types.specs.declared.object.Purse.{Purse}
 use Rattle.s4_types.specs.declared.object.ObjectId.{ObjectId}
 use Rattle.s4_types.specs.declared.request.Request.{Request}
-use Rattle.s4_types.specs.declared.request.Request.TheVariants.{Create, Delete, Read, Write, Append, Truncate, GetAttr, SetAttr, GetAclByUser, GetAclByIndex, SetAcl, PCreate, PDelete, PList, PMount, Flush, FlushO, SetWindow, SetBudget, ReadAudit}
+use Rattle.s4_types.specs.declared.request.Request.TheVariants.{Create, Delete, Write, Append, Truncate, SetAttr, SetAcl, PCreate, PDelete, Flush, FlushO, SetWindow, SetBudget}
 use Rattle.s4_types.specs.declared.record.Record.{Record}
 use Rattle.s4_types.specs.declared.version.Version.{Version}
 use Rattle.s4_types.specs.Kinds.{is_refused, only_reads}
@@ -13,7 +13,7 @@ use Rattle.s4_types.proofs.Booleans.{&&-false}
 use Rattle.s4_store.specs.Chains.{Chains}
 use Rattle.s4_parts.specs.declared.parts.Parts.{Parts as Table}
 use Rattle.s4_objects.specs.declared.objects.Objects.{Objects}
-use Rattle.s4_state.specs.Counts.{counted, made_by}
+use Rattle.s4_types.specs.Counts.{counted, made_by}
 use Rattle.s4_state.specs.Flushes.{is_flush}
 use Rattle.s4_state.specs.Sound.{IsSound, IsNext}
 use Rattle.s4_state.specs.Stands.{StandsFor}
@@ -24,24 +24,7 @@ use Rattle.s4_state.proofs.Binding.{stands_window, stands_budget}
 pub no_flush : (q : Request) → ((from to : ℕ) → q ≡ Flush from to → ⊥) → ((o : ObjectId) (from to : ℕ) → q ≡ FlushO o from to → ⊥) → is_flush q ≡ false
 no_flush (Flush from to) a b = absurd (a from to refl)
 no_flush (FlushO o from to) a b = absurd (b o from to refl)
-no_flush (Create number) a b = refl
-no_flush (Delete o) a b = refl
-no_flush (Read o offset length at) a b = refl
-no_flush (Write o offset bytes) a b = refl
-no_flush (Append o bytes) a b = refl
-no_flush (Truncate o length) a b = refl
-no_flush (GetAttr o at) a b = refl
-no_flush (SetAttr o bytes) a b = refl
-no_flush (GetAclByUser o user at) a b = refl
-no_flush (GetAclByIndex o index at) a b = refl
-no_flush (SetAcl o user rights) a b = refl
-no_flush (PCreate name o) a b = refl
-no_flush (PDelete purse name) a b = refl
-no_flush (PList range after at) a b = refl
-no_flush (PMount purse name at) a b = refl
-no_flush (SetWindow ticks) a b = refl
-no_flush (SetBudget purse budget) a b = refl
-no_flush (ReadAudit range skip) a b = refl
+no_flush _ a b = refl
 
 -- the request is none of those that change objects or names, flushes aside
 pub record IsOther (q : Request) : Type 0 where
@@ -67,13 +50,6 @@ module _ {base : Base} {size : ℕ} {chains : Chains Version} {kept : Objects} {
   -- a record that does neither of these changes, and is no flush
   module _ (n : IsNext base h r) (granted : is_refused r.reply ≡ false) where
     pub stands_rest : (q : Request) → r.request ≡ q → is_flush q ≡ false → IsOther q → StandsFor base (size + counted made_by r) chains kept serials table (h ++ r ∷ [])
-    stands_rest (Read o offset length at) asked f other = stands_read (ap only_reads asked)
-    stands_rest (GetAttr o at) asked f other = stands_read (ap only_reads asked)
-    stands_rest (GetAclByUser o user at) asked f other = stands_read (ap only_reads asked)
-    stands_rest (GetAclByIndex o index at) asked f other = stands_read (ap only_reads asked)
-    stands_rest (PList range after at) asked f other = stands_read (ap only_reads asked)
-    stands_rest (PMount purse name at) asked f other = stands_read (ap only_reads asked)
-    stands_rest (ReadAudit range skip) asked f other = stands_read (ap only_reads asked)
     stands_rest (SetWindow ticks) asked f other = stands_window s n granted asked sound
     stands_rest (SetBudget purse budget) asked f other = stands_budget s n granted asked sound
     stands_rest (Flush from to) asked f other = cc
@@ -87,3 +63,4 @@ module _ {base : Base} {size : ℕ} {chains : Chains Version} {kept : Objects} {
     stands_rest (SetAcl o user rights) asked f other = absurd (other.acl o user rights refl)
     stands_rest (PCreate name o) asked f other = absurd (other.bind name o refl)
     stands_rest (PDelete purse name) asked f other = absurd (other.unbind purse name refl)
+    stands_rest _ asked f other = stands_read (ap only_reads asked)

@@ -7,7 +7,6 @@ use Rattle.std.proofs.lemmas.List.Sums.{sum_by-append, sum_by-cons}
 use Rattle.s4_types.specs.declared.object.Purse.{Purse}
 use Rattle.s4_types.specs.declared.object.ObjectId.{ObjectId}
 use Rattle.s4_types.specs.declared.acl.AclEntry.{AclEntry}
-use Rattle.s4_types.specs.declared.request.Request.{Request}
 use Rattle.s4_types.specs.declared.record.Record.{Record}
 use Rattle.s4_types.specs.declared.version.Version.{Version}
 use Rattle.s4_types.specs.declared.version.Item.{Item}
@@ -38,7 +37,8 @@ use Rattle.s4_objects.specs.Opening.{first_on}
 use Rattle.s4_objects.specs.Table.{found_in, kept_in, held_in, ends_in, Holds, KeepsOthers, LeavesNoChain}
 use Rattle.s4_parts.specs.declared.parts.Parts.{Parts as Table}
 use Rattle.s4_parts.specs.Waiting.{waiting_in}
-use Rattle.s4_state.specs.Counts.{made_by, values_ended_by, bindings_ended_by, counted, made_count, object_ends, binding_ends}
+use Rattle.s4_types.specs.Changes.{Change, change_of}
+use Rattle.s4_types.specs.Counts.{made_by, values_ended_by, bindings_ended_by, counted, made_count, object_ends, binding_ends}
 use Rattle.s4_state.specs.Laid.{laid, versions_on}
 use Rattle.s4_state.specs.Sound.{IsSound}
 use Rattle.s4_state.specs.Stands.{horizon_now, ObjectsStand, NamesStand, IsTidy, Balances, StandsFor, MakesNone, RebindsNone, Counts, PutsOn, EndsAll}
@@ -102,6 +102,7 @@ module _ {base : Base} {size : ℕ} {chains : Chains Version} {kept : Objects} {
       bindings = s.partitions.bindings;
       names = s.partitions.names;
       ends = s.partitions.ends;
+      none_empty = s.partitions.none_empty;
       apart = λ p n c got o k w is. s.partitions.apart p n c got o k w (sym (found o) ∙ is);
     };
     tidy = record { none_else = λ c o f. s.tidy.none_else c o (λ q k w got. f q k w (found q ∙ got)) };
@@ -179,8 +180,8 @@ module _ {base : Base} {size : ℕ} {chains : Chains Version} {kept : Objects} {
       (nothing bindings_ended_by))
       s.tidy (none-made (nothing made_by)) (no-more (ends_in kept) r.moment (nothing values_ended_by)) (no-more (map (λ e. e.end) (waiting_in table)) r.moment (nothing bindings_ended_by))
     where
-      nothing : (count : Request → ℕ) → counted count r ≡ 0
-      nothing count = ap (λ b. if b then count r.request else 0) idle
+      nothing : (count : Change → ℕ) → counted count r ≡ 0
+      nothing count = ap (λ b. if b then count (change_of r.request) else 0) idle
 
       strange : (p : Purse) → concerns p r ≡ false
       strange p = ap (λ b. b && (is_wide r.caller r.request || is_about p r.caller r.request)) idle

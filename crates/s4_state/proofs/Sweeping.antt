@@ -1,6 +1,6 @@
 -- What is kept stands where expired values and bindings were freed.
-use Rattle.std.proofs.Common.{◌≡◌, ℕ, zero, suc, ◌+◌, ◌-◌, ◌≤◌, true, false, cond, List, [], ◌∷◌, refl, sym, ◌∙◌, ap, subst, arith, length, drop, min, filter}
-use Rattle.std.specs.Prelude.{nat_le, not, map, count_by}
+use Rattle.std.proofs.Common.{◌≡◌, ℕ, zero, suc, ◌+◌, ◌-◌, ◌≤◌, true, false, cond, Option, Some, None, List, [], ◌∷◌, refl, sym, ◌∙◌, ap, subst, arith, length, drop, min, filter}
+use Rattle.std.specs.Prelude.{nat_le, not, is_some, map, count_by}
 use Rattle.std.specs.List.{prefix_len}
 use Rattle.std.proofs.lemmas.List.{length-drop, length-map, drop-map}
 use Rattle.std.proofs.lemmas.List.Sums.{sum_by-append, sum_by-cons, prefix_len-le-length}
@@ -10,7 +10,7 @@ use Rattle.s4_types.specs.declared.object.ObjectId.{ObjectId}
 use Rattle.s4_types.specs.declared.record.Record.{Record}
 use Rattle.s4_types.specs.declared.version.Version.{Version}
 use Rattle.s4_types.specs.Bindings.{names_of}
-use Rattle.s4_types.proofs.Booleans.{by_test}
+use Rattle.s4_types.proofs.Booleans.{by_test, not_both}
 use Rattle.s4_store.specs.Chains.{Chains, item_count}
 use Rattle.s4_tracks.specs.Swept.{IsSwept, unexpired}
 use Rattle.s4_tracks.proofs.Sweeping.{swept_agrees, agrees_through}
@@ -21,12 +21,12 @@ use Rattle.s4_objects.specs.Ends.{is_gone}
 use Rattle.s4_objects.specs.Table.{kept_in, held_in, ends_in, Holds, KeepsOthers, LeavesNoChain}
 use Rattle.s4_parts.specs.declared.ends.Ended.{Ended}
 use Rattle.s4_parts.specs.declared.parts.Parts.{Parts as Table}
-use Rattle.s4_parts.specs.Table.{bindings_in, names_in, is_any, Holds as TableHolds}
+use Rattle.s4_parts.specs.Table.{bindings_in, names_in, chain_at, is_any, Holds as TableHolds}
 use Rattle.s4_parts.specs.Waiting.{waiting_in, Waits, Sweeps, is_gone as is_gone_of}
 use Rattle.s4_parts.proofs.Queueing.{rising-count}
-use Rattle.s4_state.specs.Counts.{made_count, object_ends, binding_ends, ended_count}
+use Rattle.s4_types.specs.Counts.{made_count, object_ends, binding_ends, ended_count}
 use Rattle.s4_state.specs.Stands.{IsWaiting, ends_above, is_lasting, horizon_now, ObjectsStand, NamesStand, StandsFor}
-use Rattle.s4_state.proofs.Left.{filter-twice}
+use Rattle.s4_types.proofs.Ordered.{filter-twice}
 use Rattle.s4_state.proofs.Binding.{objects_beside, strange, tidy_named}
 use Rattle.s4_state.proofs.Standing.{tidy_beside}
 use Rattle.s4_state.proofs.Naming.{names_beside}
@@ -140,6 +140,7 @@ module _ {base : Base} {size : ℕ} {chains : Chains Version} {kept : Objects} {
               ∙ ap (λ test. filter test (names_in chains table p)) same ∙ names-then.names p ∙ sym (ap (λ test. filter test (names_of base p h)) same);
           ends = subst (λ waiting. IsWaiting hz waiting (binding_ends h)) (drop-map (λ e. e.end) n (waiting_in table) ∙ sym (ap (map (λ e. e.end)) sweeps.waiting))
               (waiting-dropped names-then.ends n (omega (arith, first, rising, prefix)));
+          none_empty = λ p m there. sweeps.given_up p m (s.partitions.none_empty p m (chain-was p m (chain_at table' p m) refl there)) there;
           apart = λ p m c has. s.partitions.apart p m c (sweeps.own p m c has);
         });
         tidy = tidy_named s.tidy sweeps.leaves;
@@ -150,6 +151,11 @@ module _ {base : Base} {size : ℕ} {chains : Chains Version} {kept : Objects} {
             let even = s.balance.even in
             record { begun = s.balance.begun; keeps = s.balance.keeps; even = omega (arith, even, s.used, sweeps.used, fewer, low, first, rising) };
       }
+    where
+      -- a name that has a chain had one
+      chain-was : (p : Purse) (m : List ℕ) (f : Option ℕ) → chain_at table' p m ≡ f → is_some f ≡ true → is_some (chain_at table p m) ≡ true
+      chain-was p m None got there = absurd (not_both _ there refl)
+      chain-was p m (Some c) got there = ap is_some (sweeps.own p m c got)
 
   -- those that are held are those that aren't expired, and those that wait and are
   pub still_ended : size + ended_count hz h ≡ s.balance.begun + made_count h + (count_by (is_gone hz) (ends_in kept) + count_by (is_gone_of hz) (waiting_in table))

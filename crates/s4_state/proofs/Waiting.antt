@@ -7,26 +7,27 @@ use Rattle.std.proofs.lemmas.List.Elements.{filter-append}
 use Rattle.std.proofs.lemmas.List.Folds.{list_all-append}
 use Rattle.std.proofs.lemmas.List.{append-nil, length-append, length-replicate}
 use Rattle.s4_types.specs.declared.request.Request.{Request}
-use Rattle.s4_types.specs.declared.request.Request.TheVariants.{Create, Delete, Read, Write, Append, Truncate, GetAttr, SetAttr, GetAclByUser, GetAclByIndex, SetAcl, PCreate, PDelete, PList, PMount, Flush, FlushO, SetWindow, SetBudget, ReadAudit}
+use Rattle.s4_types.specs.declared.request.Request.TheVariants.{SetWindow}
 use Rattle.s4_types.specs.declared.record.Record.{Record}
 use Rattle.s4_types.specs.Base.{Base}
 use Rattle.s4_types.specs.Horizon.{Guarded, windowed_by, guarded_after, guarded_at, horizon_at}
 use Rattle.s4_types.specs.Kinds.{concerns_all}
 use Rattle.s4_types.proofs.Booleans.{by_test, both, not_both}
 use Rattle.s4_objects.specs.Ends.{all_by, is_gone}
-use Rattle.s4_state.specs.Counts.{counted, moments_of}
+use Rattle.s4_types.specs.Changes.{Change}
+use Rattle.s4_types.specs.Counts.{counted, moments_of}
 use Rattle.s4_state.specs.Stands.{IsWaiting, ends_above}
-use Rattle.s4_state.proofs.Left.{filter-less}
+use Rattle.s4_types.proofs.Ordered.{filter-less}
 
 -- THE ENDS OF A HISTORY
 
-pub moments-snoc : (count : Request → ℕ) (h : List Record) (r : Record) → moments_of count (h ++ r ∷ []) ≡ moments_of count h ++ replicate (counted count r) r.moment
+pub moments-snoc : (count : Change → ℕ) (h : List Record) (r : Record) → moments_of count (h ++ r ∷ []) ≡ moments_of count h ++ replicate (counted count r) r.moment
 moments-snoc count h r = flat_map-append (λ x. replicate (counted count x) x.moment) h (r ∷ []) ∙ ap (λ ends. moments_of count h ++ ends) (append-nil (replicate (counted count r) r.moment))
 
 pub longer-by : (ends : List ℕ) (n m : ℕ) → length (ends ++ replicate n m) ≡ length ends + n
 longer-by ends n m = length-append ends (replicate n m) ∙ ap (λ k. length ends + k) (length-replicate n m)
 
-pub moments-length : (count : Request → ℕ) (h : List Record) (r : Record) → length (moments_of count (h ++ r ∷ [])) ≡ length (moments_of count h) + counted count r
+pub moments-length : (count : Change → ℕ) (h : List Record) (r : Record) → length (moments_of count (h ++ r ∷ [])) ≡ length (moments_of count h) + counted count r
 moments-length count h r = ap length (moments-snoc count h r) ∙ longer-by (moments_of count h) (counted count r) r.moment
 
 -- where none is added
@@ -38,7 +39,7 @@ same-by zero x m e = refl
 same-by (suc n) x m e = ap (λ b. b && all_by m (replicate n x)) e ∙ same-by n x m e
 
 -- no end is later than the records
-pub ends-by : (count : Request → ℕ) (m : ℕ) (h : List Record) → list_all (λ r. nat_le r.moment m) h ≡ true → all_by m (moments_of count h) ≡ true
+pub ends-by : (count : Change → ℕ) (m : ℕ) (h : List Record) → list_all (λ r. nat_le r.moment m) h ≡ true → all_by m (moments_of count h) ≡ true
 ends-by count m [] e = refl
 ends-by count m (r ∷ h) e =
     let parts = both (nat_le r.moment m) (list_all (λ x. nat_le x.moment m) h) e in
@@ -50,25 +51,7 @@ ends-by count m (r ∷ h) e =
 -- the floor isn't above a moment that no record is above
 floor-next : (m : ℕ) (g : Guarded) (b : ℕ) (request : Request) → g.floor ≤ b → m ≤ b → (windowed_by m request g).floor ≤ b
 floor-next m g b (SetWindow ticks) l e = omega (arith, l, e)
-floor-next m g b (Create number) l e = l
-floor-next m g b (Delete o) l e = l
-floor-next m g b (Read o offset length at) l e = l
-floor-next m g b (Write o offset bytes) l e = l
-floor-next m g b (Append o bytes) l e = l
-floor-next m g b (Truncate o length) l e = l
-floor-next m g b (GetAttr o at) l e = l
-floor-next m g b (SetAttr o bytes) l e = l
-floor-next m g b (GetAclByUser o user at) l e = l
-floor-next m g b (GetAclByIndex o index at) l e = l
-floor-next m g b (SetAcl o user rights) l e = l
-floor-next m g b (PCreate name o) l e = l
-floor-next m g b (PDelete purse name) l e = l
-floor-next m g b (PList range after at) l e = l
-floor-next m g b (PMount purse name at) l e = l
-floor-next m g b (Flush from to) l e = l
-floor-next m g b (FlushO o from to) l e = l
-floor-next m g b (SetBudget purse budget) l e = l
-floor-next m g b (ReadAudit range skip) l e = l
+floor-next m g b _ l e = l
 
 floor-by : (b : ℕ) (g : Guarded) (h : List Record) → g.floor ≤ b → list_all (λ r. nat_le r.moment b) h ≡ true → (fold guarded_after g h).floor ≤ b
 floor-by b g [] l e = l
@@ -125,6 +108,6 @@ module _ {hz : ℕ} {waiting all : List ℕ} where
   waiting_more more s = record { above = filter-append (λ end. not (is_gone hz end)) waiting more ∙ ap (λ ends. ends ++ ends_above hz more) s.above ∙ sym (filter-append (λ end. not (is_gone hz end)) all more) }
 
 -- the ends of the next record wait behind the others
-pub waiting_next : {hz hz' : ℕ} → hz ≤ hz' → (count : Request → ℕ) (h : List Record) (r : Record) → {waiting waiting' : List ℕ} → waiting' ≡ waiting ++ replicate (counted count r) r.moment
+pub waiting_next : {hz hz' : ℕ} → hz ≤ hz' → (count : Change → ℕ) (h : List Record) (r : Record) → {waiting waiting' : List ℕ} → waiting' ≡ waiting ++ replicate (counted count r) r.moment
     → IsWaiting hz waiting (moments_of count h) → IsWaiting hz' waiting' (moments_of count (h ++ r ∷ []))
 waiting_next l count h r e s = waiting_up l (waiting_same e (moments-snoc count h r) (waiting_more (replicate (counted count r) r.moment) s))

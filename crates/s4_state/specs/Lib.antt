@@ -1,9 +1,9 @@
 pub mod Held
 pub mod Laid
 pub mod Sound
-pub mod Counts
+pub mod Current
 pub mod Flushes
 pub mod Shown
-pub mod Log
+pub mod Told
 pub mod Weights
 pub mod Stands

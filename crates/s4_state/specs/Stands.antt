@@ -1,15 +1,18 @@
 -- What the drive keeps stands for its history.
-use Rattle.std.specs.Prelude.{◌≡◌, ℕ, Bool, true, false, ◌+◌, ◌≤◌, ◌&&◌, not, Some, List, [], ◌∷◌, ◌++◌, map, filter, length, vec_capacity, if◌then◌else◌}
-use Rattle.std.specs.Global.{Vec}
+use Rattle.std.specs.Prelude.{◌≡◌, ℕ, Bool, true, false, ◌+◌, ◌≤◌, ◌&&◌, not, Some, List, [], ◌∷◌, ◌++◌, map, filter, length, if◌then◌else◌}
 use Rattle.s4_store.specs.Chains.{Chains, IsOpen, item_count}
 use Rattle.s4_types.specs.declared.object.Purse.{Purse}
 use Rattle.s4_types.specs.declared.object.ObjectId.{ObjectId}
+use Rattle.s4_types.specs.declared.readiness.Readiness.{Readiness}
+use Rattle.s4_types.specs.declared.readiness.Readiness.TheVariants.{ForNone}
 use Rattle.s4_types.specs.declared.record.Record.{Record}
+use Rattle.s4_types.specs.declared.request.Request.{Request}
 use Rattle.s4_types.specs.declared.version.Version.{Version}
 use Rattle.s4_types.specs.declared.version.Item.{Item}
 use Rattle.s4_types.specs.Names.{same_object}
 use Rattle.s4_types.specs.Versions.{Value, makes}
-use Rattle.s4_types.specs.Base.{Base, opened}
+use Rattle.s4_types.specs.Base.{Base}
+use Rattle.s4_types.specs.Lists.{fresh_lists, base_of_lists}
 use Rattle.s4_types.specs.Bindings.{bindings_after, names_after, names_of}
 use Rattle.s4_types.specs.Horizon.{horizon_at}
 use Rattle.s4_types.specs.Serials.{drawn, draws}
@@ -18,18 +21,18 @@ use Rattle.s4_names.specs.Drawn.{drawn_in}
 use Rattle.s4_tracks.specs.Chain.{with_put, with_end}
 use Rattle.s4_tracks.specs.Swept.{unexpired, AgreesWith}
 use Rattle.s4_objects.specs.declared.kept.Which.{Which}
-use Rattle.s4_objects.specs.declared.flushes.Refund.{Refund}
 use Rattle.s4_objects.specs.declared.objects.Objects.{Objects}
 use Rattle.s4_objects.specs.Chains.{same_which}
 use Rattle.s4_objects.specs.Ends.{is_gone}
 use Rattle.s4_objects.specs.Table.{kept_in, held_in, ends_in, Holds as ObjectsHold, IsForeign}
 use Rattle.s4_parts.specs.declared.parts.Parts.{Parts as Table}
 use Rattle.s4_parts.specs.Table as nameless
-use Rattle.s4_parts.specs.Table.{Holds, names_in, bindings_in, chain_at, is_any}
+use Rattle.s4_parts.specs.Table.{Holds, names_in, bindings_in, chain_at, is_any, NoneIsEmpty}
 use Rattle.s4_parts.specs.Waiting.{waiting_in, Waits}
 use Rattle.s4_state.specs.declared.parts.Parts.{Parts}
-use Rattle.s4_state.specs.Log.{Log}
-use Rattle.s4_state.specs.Counts.{made_by, values_ended_by, bindings_ended_by, counted, made_count, object_ends, binding_ends, Keeps}
+use Rattle.s4_types.specs.Log.{Log, is_ready_for}
+use Rattle.s4_types.specs.Counts.{made_by, values_ended_by, bindings_ended_by, counted, made_count, object_ends, binding_ends}
+use Rattle.s4_state.specs.Current.{Keeps}
 use Rattle.s4_state.specs.Laid.{versions_on, bindings_on}
 use Rattle.s4_state.specs.Sound.{IsSound}
 
@@ -71,6 +74,8 @@ pub record NamesStand (base : Base) (horizon : ℕ) (chains : Chains Version) (k
       ≡ filter (is_lasting horizon chains table p) (names_of base p h)
   -- the ends of past bindings wait in their order
   pub ends : IsWaiting horizon (map (λ e. e.end) (waiting_in table)) (binding_ends h)
+  -- no name has a chain without a binding
+  pub none_empty : NoneIsEmpty chains table
   -- no track of an object has the chain of a name
   pub apart : (p : Purse) (n : List ℕ) (c : ℕ) → chain_at table p n ≡ Some c → IsForeign kept c
 
@@ -98,20 +103,21 @@ pub record StandsFor (base : Base) (size : ℕ) (chains : Chains Version) (kept 
 
 -- what the history starts from
 abbrev pub base_in : {S : Type 0} → Parts S → Base
-base_in parts = opened parts.window
+base_in parts = base_of_lists (fresh_lists parts.window)
 
--- what callers see, where it is made ready or isn't
-abbrev pub log_where : {S : Type 0} → Bool → (S → Chains Version) → Parts S → Log
+-- what callers see, where it is made ready for those
+abbrev pub log_where : {S : Type 0} → Readiness → (S → Chains Version) → Parts S → Log
 log_where ready chains parts = record {
-  window = parts.window;
+  opened = parts.window;
+  base = fresh_lists parts.window;
   history = parts.history.records;
   held = item_count (chains parts.store);
   ready = ready;
 }
 
--- what callers see where it isn't
+-- what callers see where it is for none
 abbrev pub log_in : {S : Type 0} → (S → Chains Version) → Parts S → Log
-log_in chains parts = log_where false chains parts
+log_in chains parts = log_where ForNone chains parts
 
 -- how many values and bindings the store holds
 abbrev pub size_in : {S : Type 0} → (S → Chains Version) → Parts S → ℕ
@@ -133,18 +139,12 @@ StandsStill chains old new = Stands chains new (size_in chains old) old.history.
 abbrev pub IsKept : {S : Type 0} → (S → Chains Version) → Parts S → Type 0
 IsKept chains parts = Stands chains parts (size_in chains parts) parts.history.records
 
--- one more record takes no memory, and there is room for a refund to each value that is held
-pub record HasRoom {S : Type 0} (chains : S → Chains Version) (parts : Parts S) (refunds : Vec Refund) : Type 0 where
-  pub for_record : parts.history.has_room ≡ true
-  pub for_refunds : item_count (chains parts.store) ≤ vec_capacity refunds
-
--- what is kept stands for the history beside it, of which no record was cut off, no refund waits, and
--- where it was made ready there is room for the next record
-pub record StateStands {S : Type 0} (chains : S → Chains Version) (parts : Parts S) (refunds : Vec Refund) (ready : Bool) : Type 0 where
+-- what is kept stands for the history beside it, of which no record was cut off, and where it was made
+-- ready for a request there is room for the next record
+pub record StateStands {S : Type 0} (chains : S → Chains Version) (parts : Parts S) (ready : Readiness) : Type 0 where
   pub kept : IsKept chains parts
   pub whole : parts.history.first ≡ 0
-  pub none : refunds.items ≡ []
-  pub room : ready ≡ true → HasRoom chains parts refunds
+  pub room : (request : Request) → is_ready_for ready request ≡ true → parts.history.has_room ≡ true
 
 -- the record makes no object, and draws no serial
 pub record MakesNone (r : Record) : Type 0 where

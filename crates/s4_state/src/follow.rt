@@ -17,7 +17,8 @@ use std::alloc::Global;
 
 /// Brings what is kept of objects and names to where the record leaves it, and puts what a flush takes
 /// back of charges into a list that is empty. Every growth comes before any change that a call tells.
-/// A wide request's record takes no memory where the list has room for as many as the store holds.
+/// A wide request's record takes no memory, if for a flush the list has room for as many as the store
+/// holds.
 pub fn follow<S: Store<Version>>(
     alloc: Global,
     parts: &mut Parts<S>,
@@ -37,7 +38,8 @@ pub fn follow<S: Store<Version>>(
     ensures none { OnErr result (refunds.new.items ≡ []) }
     ensures capacity { vec_capacity refunds.old ≤ vec_capacity refunds.new }
     ensures enough { is_wide added.now.caller added.now.request ≡ true
-        → item_count (S.chains parts.old.store) ≤ vec_capacity refunds.old → IsOk result }
+        → (is_flush added.now.request ≡ true → item_count (S.chains parts.old.store) ≤ vec_capacity refunds.old)
+        → IsOk result }
     ensures history { parts.new.history ≡ parts.old.history }
     ensures window { parts.new.window ≡ parts.old.window }
 {

@@ -8,7 +8,7 @@ ghost use Rattle.s4_types.specs.Play.{last_of};
 ghost use Rattle.s4_tracks.specs.Swept.{IsFrom};
 ghost use Rattle.s4_state.specs.Shown.{granted};
 ghost use Rattle.s4_state.specs.Sound.{IsSound, IsNext};
-ghost use Rattle.s4_state.specs.Log.{lines_told};
+ghost use Rattle.s4_state.specs.Told.{lines_told};
 ghost use Rattle.s4_state.specs.Stands.{base_in, log_in, horizon_now, IsKept, StandsWith, StandsStill};
 
 use crate::parts::Parts;

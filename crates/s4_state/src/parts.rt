@@ -38,7 +38,7 @@ pub struct Parts<S> {
 }
 
 impl<S: Store<Version>> Parts<S> {
-    ghost use Rattle.s4_state.specs.Log.{bound_object, data_told, attributes_told};
+    ghost use Rattle.s4_state.specs.Told.{bound_object, data_told, attributes_told};
     ghost use Rattle.s4_state.specs.Stands.{base_in, log_in, horizon_now, IsKept};
 
     /// The object that the next Create in the purse makes, if a serial is left.

@@ -1,7 +1,7 @@
 //! Sweeps: values and bindings that have expired are freed.
 
 ghost use Rattle.std.specs.Prelude.{◌≡◌, ◌+◌, ◌-◌, min};
-ghost use Rattle.s4_state.specs.Counts.{made_count, ended_count};
+ghost use Rattle.s4_types.specs.Counts.{made_count, ended_count};
 ghost use Rattle.s4_state.specs.Stands.{base_in, size_in, horizon_now, IsKept, Stands};
 
 use crate::parts::Parts;

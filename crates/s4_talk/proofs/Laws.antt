@@ -8,18 +8,17 @@ use Rattle.s4_types.specs.declared.principal.Caller.{Caller}
 use Rattle.s4_types.specs.declared.request.Request as asked
 use Rattle.s4_types.specs.declared.reply.Reply.{Reply}
 use Rattle.s4_codec.specs.Replies.{has_body}
-use Rattle.s4_session.specs.declared.event.Event.{Event}
-use Rattle.s4_session.specs.declared.event.Event.TheVariants.{Welcome, Request, Fault}
-use Rattle.s4_session.specs.declared.event.Fault as faults
-use Rattle.s4_session.specs.declared.event.Stand.TheVariants.{Greeting}
-use Rattle.s4_session.specs.Logins.{Logins}
-use Rattle.s4_session.specs.Stream.{Heard, events_of}
-use Rattle.s4_session.specs.Feeding.{Listening, hear_piece, left_by}
-use Rattle.s4_session.specs.Sent.{sent_for, welcome, reply_frame, fault_frame}
-use Rattle.s4_session.specs.Determined.{requests_in}
-use Rattle.s4_session.proofs.Cuts.{hear_cut}
+use Rattle.s4_stream.specs.declared.event.Event.{Event}
+use Rattle.s4_stream.specs.declared.event.Event.TheVariants.{Welcome, Request, Fault}
+use Rattle.s4_stream.specs.declared.event.SessionFault as faults
+use Rattle.s4_stream.specs.declared.event.SessionState.TheVariants.{Greeting}
+use Rattle.s4_stream.specs.Logins.{Logins}
+use Rattle.s4_stream.specs.Stream.{Heard, events_of}
+use Rattle.s4_stream.specs.Feeding.{Listening, hear_piece, left_by}
+use Rattle.s4_stream.specs.Talk.{sent_for, welcome, reply_frame, fault_frame, requests_in}
+use Rattle.s4_stream.proofs.Cuts.{hear_cut}
 use Rattle.s4_talk.specs.Calls.{Call, call_made, calls_for}
-use Rattle.s4_talk.specs.Turning.{fault_after, Serves, HasHeard, Hears, Told, told, opened, Takes, Scene, scene, Turns, Intakes, Sends, is_whole_end, is_whole, tells_all, EndsSo, Talked}
+use Rattle.s4_talk.specs.Turning.{fault_after, Serves, HasHeard, Hears, Told, told, fresh_talk, Takes, Scene, scene, Turns, Intakes, Sends, is_whole_end, is_whole, tells_all, EndsSo, Talked}
 use Rattle.s4_talk.specs.declared.turns.TalkEnd.{TalkEnd}
 use Rattle.s4_talk.specs.declared.turns.TalkEnd.TheVariants as ends
 use Rattle.s4_talk.specs.declared.turns.TurnEnd.{TurnEnd}
@@ -86,7 +85,7 @@ sent_for-append (Request caller r ∷ xs) ys (x ∷ rs) more e =
 sent_for-append (Fault f ∷ xs) ys rs more e =
     ap (λ (w : List ℕ). fault_frame f ++ w) (sent_for-append xs ys rs more e) ∙ sym (append_assoc (fault_frame f) (sent_for xs rs) (sent_for ys more))
 
-fault_after-append : (f : Option faults.Fault) (xs ys : List Event) → fault_after f (xs ++ ys) ≡ fault_after (fault_after f xs) ys
+fault_after-append : (f : Option faults.SessionFault) (xs ys : List Event) → fault_after f (xs ++ ys) ≡ fault_after (fault_after f xs) ys
 fault_after-append f [] ys = refl
 fault_after-append f (Welcome caller ∷ xs) ys = fault_after-append f xs ys
 fault_after-append f (Request caller r ∷ xs) ys = fault_after-append f xs ys
@@ -94,7 +93,7 @@ fault_after-append f (Fault g ∷ xs) ys = fault_after-append (Some g) xs ys
 
 -- ---- serving
 
-pub Serves-none : (w : Bool) (c : List Call) (f : Option faults.Fault) (u : List ℕ) → Serves w [] c c f f u u
+pub Serves-none : (w : Bool) (c : List Call) (f : Option faults.SessionFault) (u : List ℕ) → Serves w [] c c f f u u
 Serves-none w c f u = record {
   served = [];
   missed = [];
@@ -111,7 +110,7 @@ Serves-none w c f u = record {
 }
 
 -- nothing of the events is served
-pub Serves-nothing : (events : List Event) (c : List Call) (f : Option faults.Fault) (u v : List ℕ) → v ≡ u → Serves false events c c f f u v
+pub Serves-nothing : (events : List Event) (c : List Call) (f : Option faults.SessionFault) (u v : List ℕ) → v ≡ u → Serves false events c c f f u v
 Serves-nothing events c f u v e = record {
   served = [];
   missed = events;
@@ -131,7 +130,7 @@ Serves-nothing events c f u v e = record {
 without_rest : {A : Type 0} (xs ys zs : List A) → xs ≡ ys ++ zs → zs ≡ [] → xs ≡ ys
 without_rest xs ys zs e none = e ∙ ap (λ z. ys ++ z) none ∙ append-nil ys
 
-pub Serves-then : (w : Bool) (xs ys : List Event) (c d e : List Call) (f g h : Option faults.Fault) (p q r : List ℕ) → Serves true xs c d f g p q → Serves w ys d e g h q r → Serves w (xs ++ ys) c e f h p r
+pub Serves-then : (w : Bool) (xs ys : List Event) (c d e : List Call) (f g h : Option faults.SessionFault) (p q r : List ℕ) → Serves true xs c d f g p q → Serves w ys d e g h q r → Serves w (xs ++ ys) c e f h p r
 Serves-then w xs ys c d e f g h p q r a b =
     let all : xs ≡ a.served = without_rest xs a.served a.missed a.order (a.none_missed refl) in
     let so : q ≡ p ++ sent_for a.served a.replies = sym (append-nil q) ∙ (ap (λ (z : List ℕ). q ++ z) (sym (a.none_lost refl)) ∙ a.sent) in
@@ -145,7 +144,7 @@ Serves-then w xs ys c d e f g h p q r a b =
       called = b.called ∙ (ap (λ (z : List Call). z ++ calls_for b.served b.replies) a.called
           ∙ (append_assoc c (calls_for a.served a.replies) (calls_for b.served b.replies)
           ∙ ap (λ (z : List Call). c ++ z) (sym (calls_for-append a.served b.served a.replies b.replies a.each))));
-      faulted = b.faulted ∙ (ap (λ (z : Option faults.Fault). fault_after z b.served) a.faulted ∙ sym (fault_after-append f a.served b.served));
+      faulted = b.faulted ∙ (ap (λ (z : Option faults.SessionFault). fault_after z b.served) a.faulted ∙ sym (fault_after-append f a.served b.served));
       sent = b.sent ∙ (ap (λ (z : List ℕ). z ++ sent_for b.served b.replies) so
           ∙ (append_assoc p (sent_for a.served a.replies) (sent_for b.served b.replies)
           ∙ ap (λ (z : List ℕ). p ++ z) (sym (sent_for-append a.served b.served a.replies b.replies a.each))));
@@ -155,7 +154,7 @@ Serves-then w xs ys c d e f g h p q r a b =
     }
 
 -- what comes behind is missed
-pub Serves-cut : (xs ys : List Event) (c d : List Call) (f g : Option faults.Fault) (p q : List ℕ) → Serves false xs c d f g p q → Serves false (xs ++ ys) c d f g p q
+pub Serves-cut : (xs ys : List Event) (c d : List Call) (f g : Option faults.SessionFault) (p q : List ℕ) → Serves false xs c d f g p q → Serves false (xs ++ ys) c d f g p q
 Serves-cut xs ys c d f g p q a = record {
   served = a.served;
   missed = a.missed ++ ys;
@@ -172,7 +171,7 @@ Serves-cut xs ys c d f g p q a = record {
 }
 
 -- bytes before all others change nothing
-pub Serves-behind : (w : Bool) (xs : List Event) (c d : List Call) (f g : Option faults.Fault) (p q bytes : List ℕ) → Serves w xs c d f g p q → Serves w xs c d f g (bytes ++ p) (bytes ++ q)
+pub Serves-behind : (w : Bool) (xs : List Event) (c d : List Call) (f g : Option faults.SessionFault) (p q bytes : List ℕ) → Serves w xs c d f g p q → Serves w xs c d f g (bytes ++ p) (bytes ++ q)
 Serves-behind w xs c d f g p q bytes a = record {
   served = a.served;
   missed = a.missed;
@@ -189,10 +188,10 @@ Serves-behind w xs c d f g p q bytes a = record {
 }
 
 -- the same bytes
-pub Serves-same : (w : Bool) (xs : List Event) (c d : List Call) (f g : Option faults.Fault) (p q r s : List ℕ) → p ≡ r → q ≡ s → Serves w xs c d f g p q → Serves w xs c d f g r s
+pub Serves-same : (w : Bool) (xs : List Event) (c d : List Call) (f g : Option faults.SessionFault) (p q r s : List ℕ) → p ≡ r → q ≡ s → Serves w xs c d f g p q → Serves w xs c d f g r s
 Serves-same w xs c d f g p q r s e k a = subst (λ (z : List ℕ). Serves w xs c d f g z s) e (subst (λ (z : List ℕ). Serves w xs c d f g p z) k a)
 
-pub Serves-welcome : (caller : Caller) (c : List Call) (f : Option faults.Fault) (p q : List ℕ) → q ≡ p ++ welcome → Serves true (Welcome caller ∷ []) c c f f p q
+pub Serves-welcome : (caller : Caller) (c : List Call) (f : Option faults.SessionFault) (p q : List ℕ) → q ≡ p ++ welcome → Serves true (Welcome caller ∷ []) c c f f p q
 Serves-welcome caller c f p q e = record {
   served = Welcome caller ∷ [];
   missed = [];
@@ -208,7 +207,7 @@ Serves-welcome caller c f p q e = record {
   bodies = λ _. refl;
 }
 
-pub Serves-fault : (g : faults.Fault) (c : List Call) (f : Option faults.Fault) (p q : List ℕ) → q ≡ p ++ fault_frame g → Serves true (Fault g ∷ []) c c f (Some g) p q
+pub Serves-fault : (g : faults.SessionFault) (c : List Call) (f : Option faults.SessionFault) (p q : List ℕ) → q ≡ p ++ fault_frame g → Serves true (Fault g ∷ []) c c f (Some g) p q
 Serves-fault g c f p q e = record {
   served = Fault g ∷ [];
   missed = [];
@@ -224,7 +223,7 @@ Serves-fault g c f p q e = record {
   bodies = λ _. refl;
 }
 
-pub Serves-request : (caller : Caller) (r : asked.Request) (x : Reply) (c d : List Call) (f : Option faults.Fault) (p q : List ℕ) → d ≡ c ++ call_made caller r x → IsTrue (has_body x) → q ≡ p ++ reply_frame x
+pub Serves-request : (caller : Caller) (r : asked.Request) (x : Reply) (c d : List Call) (f : Option faults.SessionFault) (p q : List ℕ) → d ≡ c ++ call_made caller r x → IsTrue (has_body x) → q ≡ p ++ reply_frame x
     → Serves true (Request caller r ∷ []) c d f f p q
 Serves-request caller r x c d f p q calls body e = record {
   served = Request caller r ∷ [];
@@ -242,7 +241,7 @@ Serves-request caller r x c d f p q calls body e = record {
 }
 
 -- a request was called, and there was no memory for its frame
-pub Serves-lost : (caller : Caller) (r : asked.Request) (x : Reply) (c d : List Call) (f : Option faults.Fault) (p q : List ℕ) → d ≡ c ++ call_made caller r x → q ≡ p → Serves false (Request caller r ∷ []) c d f f p q
+pub Serves-lost : (caller : Caller) (r : asked.Request) (x : Reply) (c d : List Call) (f : Option faults.SessionFault) (p q : List ℕ) → d ≡ c ++ call_made caller r x → q ≡ p → Serves false (Request caller r ∷ []) c d f f p q
 Serves-lost caller r x c d f p q calls e = record {
   served = Request caller r ∷ [];
   missed = [];
@@ -299,7 +298,7 @@ Hears-then w logins a b c p q xs ys h k = record {
 
 -- ---- taking a piece
 
-pub Takes-piece : (w : Bool) (logins : Logins) (piece : List ℕ) (events : List Event) (c d : List Call) (s t : Listening) (f g : Option faults.Fault) (u v : List ℕ) → events ≡ (hear_piece logins s piece).events → t ≡ left_by (hear_piece logins s piece)
+pub Takes-piece : (w : Bool) (logins : Logins) (piece : List ℕ) (events : List Event) (c d : List Call) (s t : Listening) (f g : Option faults.SessionFault) (u v : List ℕ) → events ≡ (hear_piece logins s piece).events → t ≡ left_by (hear_piece logins s piece)
     → Serves w events c d f g u v → Takes w logins piece c d (told s f u) (told t g v)
 Takes-piece w logins piece events c d s t f g u v e at serves = record {
   events = events;
@@ -308,7 +307,7 @@ Takes-piece w logins piece events c d s t f g u v e at serves = record {
 }
 
 -- there was no memory to hear it
-pub Takes-nothing : (logins : Logins) (piece : List ℕ) (c : List Call) (s t : Listening) (f : Option faults.Fault) (u : List ℕ) → Takes false logins piece c c (told s f u) (told t f u)
+pub Takes-nothing : (logins : Logins) (piece : List ℕ) (c : List Call) (s t : Listening) (f : Option faults.SessionFault) (u : List ℕ) → Takes false logins piece c c (told s f u) (told t f u)
 Takes-nothing logins piece c s t f u = record {
   events = (hear_piece logins s piece).events;
   hears = Hears-nothing logins s t piece;
@@ -335,7 +334,7 @@ Turns-then w logins a b c x y = record {
 }
 
 -- a turn that only writes
-pub turn_of_sends : (logins : Logins) (left h h' : Option (List ℕ)) (c : List Call) (s : Listening) (f : Option faults.Fault) (u u' : List ℕ) → Sends h h' u u' → Turns true logins (scene left h c (told s f u)) (scene left h' c (told s f u'))
+pub turn_of_sends : (logins : Logins) (left h h' : Option (List ℕ)) (c : List Call) (s : Listening) (f : Option faults.SessionFault) (u u' : List ℕ) → Sends h h' u u' → Turns true logins (scene left h c (told s f u)) (scene left h' c (told s f u'))
 turn_of_sends logins left h h' c s f u u' x = record {
   read = [];
   written = x.written;
@@ -359,20 +358,20 @@ turn_of_intakes w logins left left' h c c' t t' x = record {
 }
 
 -- writing, and then reading and serving
-pub turn_of_both : (w : Bool) (logins : Logins) (left left' h h' : Option (List ℕ)) (c c' : List Call) (s s' : Listening) (f f' : Option faults.Fault) (u v v' : List ℕ) → Sends h h' u v
+pub turn_of_both : (w : Bool) (logins : Logins) (left left' h h' : Option (List ℕ)) (c c' : List Call) (s s' : Listening) (f f' : Option faults.SessionFault) (u v v' : List ℕ) → Sends h h' u v
     → Intakes w logins left left' c c' (told s f v) (told s' f' v') → Turns w logins (scene left h c (told s f u)) (scene left' h' c' (told s' f' v'))
 turn_of_both w logins left left' h h' c c' s s' f f' u v v' x y =
     Turns-then w logins (scene left h c (told s f u)) (scene left h' c (told s f v)) (scene left' h' c' (told s' f' v')) (turn_of_sends logins left h h' c s f u v x) (turn_of_intakes w logins left left' h' c c' (told s f v) (told s' f' v') y)
 
 -- and then writing again
-pub turn_of_all : (logins : Logins) (left left' h h' h'' : Option (List ℕ)) (c c' : List Call) (s s' : Listening) (f f' : Option faults.Fault) (u v v' v'' : List ℕ) → Sends h h' u v
+pub turn_of_all : (logins : Logins) (left left' h h' h'' : Option (List ℕ)) (c c' : List Call) (s s' : Listening) (f f' : Option faults.SessionFault) (u v v' v'' : List ℕ) → Sends h h' u v
     → Intakes true logins left left' c c' (told s f v) (told s' f' v') → Sends h' h'' v' v'' → Turns true logins (scene left h c (told s f u)) (scene left' h'' c' (told s' f' v''))
 turn_of_all logins left left' h h' h'' c c' s s' f f' u v v' v'' x y z =
     Turns-then true logins (scene left h c (told s f u)) (scene left' h' c' (told s' f' v')) (scene left' h'' c' (told s' f' v''))
     (turn_of_both true logins left left' h h' c c' s s' f f' u v v' x y) (turn_of_sends logins left' h' h'' c' s' f' v' v'' z)
 
 -- nothing was read
-pub Intakes-none : (w : Bool) (logins : Logins) (left left' : Option (List ℕ)) (c : List Call) (s : Listening) (f : Option faults.Fault) (u : List ℕ) → Keeps left left' → Intakes w logins left left' c c (told s f u) (told s f u)
+pub Intakes-none : (w : Bool) (logins : Logins) (left left' : Option (List ℕ)) (c : List Call) (s : Listening) (f : Option faults.SessionFault) (u : List ℕ) → Keeps left left' → Intakes w logins left left' c c (told s f u) (told s f u)
 Intakes-none w logins left left' c s f u keeps = record {
   read = [];
   consumes = keeps_consumes left left' keeps;
@@ -380,7 +379,7 @@ Intakes-none w logins left left' c s f u keeps = record {
 }
 
 -- the reader is at its end
-pub Intakes-end : (logins : Logins) (left left' : Option (List ℕ)) (c : List Call) (s : Listening) (f : Option faults.Fault) (u buf : List ℕ) (n : ℕ) → n ≡ 0 → Consumes left left' (take n buf) → Intakes true logins left left' c c (told s f u) (told s f u)
+pub Intakes-end : (logins : Logins) (left left' : Option (List ℕ)) (c : List Call) (s : Listening) (f : Option faults.SessionFault) (u buf : List ℕ) (n : ℕ) → n ≡ 0 → Consumes left left' (take n buf) → Intakes true logins left left' c c (told s f u) (told s f u)
 Intakes-end logins left left' c s f u buf n none e = record {
   read = [];
   consumes = subst (λ (m : ℕ). Consumes left left' (take m buf)) none e;
@@ -436,7 +435,7 @@ all_told ends.WriteFailed events left t w c c' so s is = cc
 all_told ends.NoMemory events left t w c c' so s is = cc
 
 -- the talk that turns make
-pub Talked-from : (end : TalkEnd) (logins : Logins) (left left' held held' : Option (List ℕ)) (c c' : List Call) (t : Told) → Turns (is_whole_end end) logins (scene left held c opened) (scene left' held' c' t) → EndsSo end left' t
+pub Talked-from : (end : TalkEnd) (logins : Logins) (left left' held held' : Option (List ℕ)) (c c' : List Call) (t : Told) → Turns (is_whole_end end) logins (scene left held c fresh_talk) (scene left' held' c' t) → EndsSo end left' t
     → Talked end logins left left' held held' c c'
 Talked-from end logins left left' held held' c c' t x so =
     let s : Serves (is_whole_end end) (events_of logins x.read) c c' None t.fault [] (x.written ++ t.waiting)

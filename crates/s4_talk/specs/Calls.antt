@@ -4,8 +4,8 @@ use Rattle.s4_types.specs.declared.principal.Caller.{Caller}
 use Rattle.s4_types.specs.declared.request.Request as asked
 use Rattle.s4_types.specs.declared.reply.Reply.{Reply}
 use Rattle.s4_types.specs.Play.{is_no_memory}
-use Rattle.s4_session.specs.declared.event.Event.{Event}
-use Rattle.s4_session.specs.declared.event.Event.TheVariants.{Welcome, Request, Fault}
+use Rattle.s4_stream.specs.declared.event.Event.{Event}
+use Rattle.s4_stream.specs.declared.event.Event.TheVariants.{Welcome, Request, Fault}
 
 -- a request that was carried out
 pub record Call : Type 0 where

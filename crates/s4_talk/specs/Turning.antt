@@ -4,15 +4,14 @@ use Rattle.std.specs.List.{list_all}
 use Rattle.std.specs.Io.KnownBytes.{Consumes, Appends, IsAtEnd}
 use Rattle.s4_types.specs.declared.reply.Reply.{Reply}
 use Rattle.s4_codec.specs.Replies.{has_body}
-use Rattle.s4_session.specs.declared.event.Event.{Event}
-use Rattle.s4_session.specs.declared.event.Event.TheVariants.{Welcome, Request, Fault}
-use Rattle.s4_session.specs.declared.event.Fault as faults
-use Rattle.s4_session.specs.declared.event.Stand.TheVariants.{Greeting}
-use Rattle.s4_session.specs.Logins.{Logins}
-use Rattle.s4_session.specs.Stream.{hear, events_of}
-use Rattle.s4_session.specs.Feeding.{Listening, left_by}
-use Rattle.s4_session.specs.Sent.{sent_for}
-use Rattle.s4_session.specs.Determined.{requests_in}
+use Rattle.s4_stream.specs.declared.event.Event.{Event}
+use Rattle.s4_stream.specs.declared.event.Event.TheVariants.{Welcome, Request, Fault}
+use Rattle.s4_stream.specs.declared.event.SessionFault as faults
+use Rattle.s4_stream.specs.declared.event.SessionState.TheVariants.{Greeting}
+use Rattle.s4_stream.specs.Logins.{Logins}
+use Rattle.s4_stream.specs.Stream.{hear, events_of}
+use Rattle.s4_stream.specs.Feeding.{Listening, left_by}
+use Rattle.s4_stream.specs.Talk.{sent_for, requests_in}
 use Rattle.s4_talk.specs.declared.turns.Intake.{Intake}
 use Rattle.s4_talk.specs.declared.turns.Intake.TheVariants as intake
 use Rattle.s4_talk.specs.declared.turns.TalkEnd.{TalkEnd}
@@ -24,7 +23,7 @@ use Rattle.s4_talk.specs.Calls.{Call, calls_for}
 -- SERVING
 
 -- the last fault of the events, or this one where there is none
-abbrev pub fault_after : Option faults.Fault → List Event → Option faults.Fault
+abbrev pub fault_after : Option faults.SessionFault → List Event → Option faults.SessionFault
 fault_after fault [] = fault
 fault_after fault (Welcome caller ∷ events) = fault_after fault events
 fault_after fault (Request caller r ∷ events) = fault_after fault events
@@ -33,7 +32,7 @@ fault_after fault (Fault f ∷ events) = fault_after (Some f) events
 -- Of the events a beginning is served, each once and in order: its requests have one
 -- reply each and are called, and what is sent for it is added to the bytes.
 -- Where it is whole, no event is missed, no frame is lost for want of memory, and each reply has a spelling within a frame.
-pub record Serves (whole : Bool) (events : List Event) (calls calls' : List Call) (fault fault' : Option faults.Fault)
+pub record Serves (whole : Bool) (events : List Event) (calls calls' : List Call) (fault fault' : Option faults.SessionFault)
     (before after : List ℕ) : Type 0 where
   pub served : List Event
   pub missed : List Event
@@ -64,15 +63,15 @@ pub record Hears (whole : Bool) (logins : Logins) (old new : Listening) (read : 
 -- What callers see of a talk: where its session stands, the fault that ended that, and the bytes that wait to be written.
 pub record Told : Type 0 where
   pub session : Listening
-  pub fault : Option faults.Fault
+  pub fault : Option faults.SessionFault
   pub waiting : List ℕ
 
-abbrev pub told : Listening → Option faults.Fault → List ℕ → Told
+abbrev pub told : Listening → Option faults.SessionFault → List ℕ → Told
 told s f w = record { session = s; fault = f; waiting = w }
 
 -- a talk in which nothing was said
-abbrev pub opened : Told
-opened = told (record { stand = Greeting; held = [] }) None []
+abbrev pub fresh_talk : Told
+fresh_talk = told (record { state = Greeting; pending = [] }) None []
 
 -- A piece is heard and served.
 pub record Takes (whole : Bool) (logins : Logins) (piece : List ℕ) (calls calls' : List Call) (old new : Told) : Type 0 where

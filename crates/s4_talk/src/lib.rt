@@ -3,7 +3,6 @@
 #![tactic(auto)]
 
 mod answer;
-mod frames;
 mod serving;
 mod turns;
 mod whole;

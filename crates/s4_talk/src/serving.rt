@@ -4,15 +4,16 @@ ghost use Rattle.std.specs.Prelude.{◌∷◌, [], is_ok};
 ghost use Rattle.s4_talk.specs.Turning.{Serves, Takes, told};
 
 use crate::answer::Answer;
-use crate::frames::{add_frame, add_reply, reserve_frame};
 use bytes::BytesMut;
-use s4_session::{Event, FAULT, Fault, Logins, Session, VERSION, WELCOME};
+use s4_stream::{
+    Event, Logins, Session, SessionFault, add_fault, add_reply, add_welcome, reserve_frame,
+};
 use s4_types::NoMemory;
 
 /// Hears a piece and serves the frames that it makes whole.
 pub fn take_piece<A: Answer>(
     session: &mut Session,
-    fault: &mut Option<Fault>,
+    fault: &mut Option<SessionFault>,
     waiting: &mut BytesMut,
     logins: &Logins,
     piece: &[u8],
@@ -27,7 +28,7 @@ pub fn take_piece<A: Answer>(
 
 /// Serves events in turn, until there is no memory for one.
 fn serve_all<A: Answer>(
-    fault: &mut Option<Fault>,
+    fault: &mut Option<SessionFault>,
     waiting: &mut BytesMut,
     events: Vec<Event>,
     answer: &mut A,
@@ -44,7 +45,7 @@ fn serve_all<A: Answer>(
 /// Serves an event: a good Hello by the Welcome, a request by its reply, a fault by its frame. Room
 /// for the greatest frame is made before a request is handed on.
 fn serve<A: Answer>(
-    fault: &mut Option<Fault>,
+    fault: &mut Option<SessionFault>,
     waiting: &mut BytesMut,
     event: Event,
     answer: &mut A,
@@ -54,13 +55,13 @@ fn serve<A: Answer>(
 {
     reserve_frame(waiting)?;
     match event {
-        Event::Welcome(_) => add_frame(waiting, &[WELCOME, VERSION]),
+        Event::Welcome(_) => add_welcome(waiting)?,
         Event::Request(caller, request) => {
             let reply = answer.answer(caller, request);
             add_reply(waiting, &reply)?;
         }
         Event::Fault(told) => {
-            add_frame(waiting, &[FAULT, told.number()]);
+            add_fault(waiting, told)?;
             *fault = Some(told);
         }
     }

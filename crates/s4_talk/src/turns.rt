@@ -1,12 +1,14 @@
 //! A talk, turn by turn.
 
 ghost use Rattle.std.specs.Prelude.{◌≡◌, [], length};
-ghost use Rattle.s4_talk.specs.Turning.{EndsSo, Intakes, IntakesSo, Sends, Turns, TurnsSo, is_served, is_whole, opened, scene, told};
+ghost use Rattle.s4_stream.specs.Stream.{caller_at};
+ghost use Rattle.s4_talk.specs.Turning.{EndsSo, Intakes, IntakesSo, Sends, Turns, TurnsSo, is_served, is_whole, fresh_talk, scene, told};
 
 use crate::answer::Answer;
 use crate::serving::take_piece;
 use bytes::BytesMut;
-use s4_session::{Fault, Logins, Session};
+use s4_stream::{Logins, Session, SessionFault};
+use s4_types::Caller;
 use std::alloc::Global;
 use std::io::{ErrorKind, Read, Write};
 use std::marker::Model;
@@ -17,7 +19,7 @@ pub enum TalkEnd {
     /// The peer says no more, and was told all.
     PeerClosed,
     /// The peer was told this fault after all else.
-    Faulted(Fault),
+    Faulted(SessionFault),
     /// A read failed. All that was answered before is written.
     ReadFailed,
     /// A write failed, or took no byte.
@@ -47,7 +49,7 @@ const PIECE: usize = 4096;
 #[derive(Drop)]
 pub struct Talking {
     session: Session,
-    fault: Option<Fault>,
+    fault: Option<SessionFault>,
     waiting: BytesMut,
 }
 
@@ -62,7 +64,7 @@ impl Model for Talking {
 impl Talking {
     /// A talk in which nothing was said. Takes no memory.
     pub fn open(alloc: Global) -> Talking
-        ensures { result ≡ opened }
+        ensures { result ≡ fresh_talk }
     {
         Talking {
             session: Session::open(alloc),
@@ -98,6 +100,20 @@ impl Talking {
         turn(session, fault, waiting, logins, reader, writer, answer)
     }
 
+    /// Who calls in this talk, after a good Hello and up to a fault.
+    pub fn caller(&self) -> Option<Caller>
+        ensures { result ≡ caller_at self.now.session.state }
+    {
+        self.session.caller()
+    }
+
+    /// The fault that ended the session, also where its frame still waits.
+    pub fn fault(&self) -> Option<SessionFault>
+        ensures { result ≡ self.now.fault }
+    {
+        self.fault
+    }
+
     /// How many bytes wait to be written.
     pub fn waiting(&self) -> usize
         ensures { result ≡ length self.now.waiting }
@@ -108,7 +124,7 @@ impl Talking {
 
 fn turn<R: Read, W: Write, A: Answer>(
     session: &mut Session,
-    fault: &mut Option<Fault>,
+    fault: &mut Option<SessionFault>,
     waiting: &mut BytesMut,
     logins: &Logins,
     reader: &mut R,
@@ -161,7 +177,7 @@ enum Intake {
 /// Reads once, and serves the whole frames.
 fn take_in<R: Read, A: Answer>(
     session: &mut Session,
-    fault: &mut Option<Fault>,
+    fault: &mut Option<SessionFault>,
     waiting: &mut BytesMut,
     logins: &Logins,
     reader: &mut R,

@@ -4,7 +4,7 @@ ghost use Rattle.s4_talk.specs.Turning.{Talked};
 
 use crate::answer::Answer;
 use crate::turns::{TalkEnd, Talking, TurnEnd};
-use s4_session::Logins;
+use s4_stream::Logins;
 use std::alloc::Global;
 use std::io::{Read, Write};
 use std::sync::Wait;

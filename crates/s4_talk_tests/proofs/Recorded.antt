@@ -8,7 +8,7 @@ use Rattle.s4_types.specs.declared.reply.Reply.{Reply}
 use Rattle.s4_types.specs.declared.record.Record.{Record}
 use Rattle.s4_types.specs.Play.{record_of, is_no_memory}
 use Rattle.s4_types.proofs.Booleans.{by_test}
-use Rattle.s4_state.specs.Log.{Log, base_of}
+use Rattle.s4_types.specs.Log.{Log, base_of}
 use Rattle.s4_drive.specs.Step.{Steps, Answers}
 use Rattle.s4_talk.specs.Calls.{Call, call_made}
 use Rattle.s4_talk_tests.specs.Desks.{call_of}

@@ -6,7 +6,7 @@ use crate::stream::{
     BAD_HELLO, BAD_LENGTH, BAD_LOGIN, CREATE, DATA, DONE, HELLO, MADE, MALFORMED, READ, TOO_LONG,
     WELCOME, WRITE, joined, logins,
 };
-use s4_session::Fault;
+use s4_session::SessionFault;
 use s4_talk::{TalkEnd, talk};
 use std::alloc::Global;
 use std::process::Abort;
@@ -67,9 +67,9 @@ struct Row {
     carried_out: usize,
 }
 
-const FRAME_LENGTH: TalkEnd = TalkEnd::Faulted(Fault::FrameLength);
+const FRAME_LENGTH: TalkEnd = TalkEnd::Faulted(SessionFault::FrameLength);
 
-const MISPLACED: TalkEnd = TalkEnd::Faulted(Fault::Malformed);
+const MISPLACED: TalkEnd = TalkEnd::Faulted(SessionFault::Malformed);
 
 /// The greatest frame: a Write to 7.0.1 whose data is as long as the two bytes behind this say.
 const GREATEST_WRITE: &[u8] =
@@ -159,7 +159,7 @@ const ROWS: [Row; 14] = [
     Row {
         said: &[BAD_HELLO, CREATE],
         letters: 0,
-        end: TalkEnd::Faulted(Fault::BadLogin),
+        end: TalkEnd::Faulted(SessionFault::BadLogin),
         written: &[BAD_LOGIN],
         carried_out: 0,
     },

@@ -60,11 +60,6 @@ swept_drop hz k held all l s = swept_through hz (drop k held) held all (dropped 
 
 -- CHANGES
 
-with_end-snoc : (m : ℕ) (vs : List Version) (v : Version) → with_end m (vs ++ v ∷ []) ≡ vs ++ ended m v ∷ []
-with_end-snoc m [] v = refl
-with_end-snoc m (u ∷ []) v = refl
-with_end-snoc m (u ∷ w ∷ vs) v = ap (λ ws. u ∷ ws) (with_end-snoc m (w ∷ vs) v)
-
 -- a value that is expired has an end, and keeps it
 ended-expired : (hz m : ℕ) (v : Version) → is_expired hz v ≡ true → ended m v ≡ v
 ended-expired hz m v e = ap (λ (x : Option ℕ). record v { end = x }) (kept v.end e)

@@ -1,6 +1,11 @@
 pub mod Booleans
 pub mod SameNames
+pub mod Ordered
+pub mod SameRequests
+pub mod SameReplies
 pub mod Snoc
+pub mod InTime
+pub mod Counting
 pub mod Windows
 pub mod Erasing
 pub mod Entries

@@ -2,7 +2,7 @@
 use Rattle.std.proofs.Common.{◌≡◌, ℕ, ◌≤◌, cond, List, [], ◌∷◌, ◌++◌, sym, subst, arith}
 use Rattle.std.proofs.lemmas.List.Sums.{fold-append}
 use Rattle.s4_types.specs.declared.request.Request.{Request}
-use Rattle.s4_types.specs.declared.request.Request.TheVariants.{Create, Delete, Read, Write, Append, Truncate, GetAttr, SetAttr, GetAclByUser, GetAclByIndex, SetAcl, PCreate, PDelete, PList, PMount, Flush, FlushO, SetWindow, SetBudget, ReadAudit}
+use Rattle.s4_types.specs.declared.request.Request.TheVariants.{SetWindow}
 use Rattle.s4_types.specs.declared.record.Record.{Record}
 use Rattle.s4_types.specs.Base.{Base}
 use Rattle.s4_types.specs.Kinds.{concerns_all}
@@ -21,25 +21,7 @@ windowed-later g m ticks t u e f = omega (arith, e, f)
 
 by-later : (g : Guarded) (m : ℕ) (request : Request) (t u : ℕ) → t ≤ m → m ≤ u → horizon_of g t ≤ horizon_of (windowed_by m request g) u
 by-later g m (SetWindow ticks) t u e f = windowed-later g m ticks t u e f
-by-later g m (Create number) t u e f = later-still g t u (omega (arith, e, f))
-by-later g m (Delete o) t u e f = later-still g t u (omega (arith, e, f))
-by-later g m (Read o offset length at) t u e f = later-still g t u (omega (arith, e, f))
-by-later g m (Write o offset bytes) t u e f = later-still g t u (omega (arith, e, f))
-by-later g m (Append o bytes) t u e f = later-still g t u (omega (arith, e, f))
-by-later g m (Truncate o length) t u e f = later-still g t u (omega (arith, e, f))
-by-later g m (GetAttr o at) t u e f = later-still g t u (omega (arith, e, f))
-by-later g m (SetAttr o bytes) t u e f = later-still g t u (omega (arith, e, f))
-by-later g m (GetAclByUser o user at) t u e f = later-still g t u (omega (arith, e, f))
-by-later g m (GetAclByIndex o index at) t u e f = later-still g t u (omega (arith, e, f))
-by-later g m (SetAcl o user rights) t u e f = later-still g t u (omega (arith, e, f))
-by-later g m (PCreate name o) t u e f = later-still g t u (omega (arith, e, f))
-by-later g m (PDelete purse name) t u e f = later-still g t u (omega (arith, e, f))
-by-later g m (PList range after at) t u e f = later-still g t u (omega (arith, e, f))
-by-later g m (PMount purse name at) t u e f = later-still g t u (omega (arith, e, f))
-by-later g m (Flush from to) t u e f = later-still g t u (omega (arith, e, f))
-by-later g m (FlushO o from to) t u e f = later-still g t u (omega (arith, e, f))
-by-later g m (SetBudget purse budget) t u e f = later-still g t u (omega (arith, e, f))
-by-later g m (ReadAudit range skip) t u e f = later-still g t u (omega (arith, e, f))
+by-later g m _ t u e f = later-still g t u (omega (arith, e, f))
 
 pub horizon_at-later : (base : Base) (h : List Record) (r : Record) (t u : ℕ) → t ≤ r.moment → r.moment ≤ u → horizon_at base h t ≤ horizon_at base (h ++ r ∷ []) u
 horizon_at-later base h r t u e f = subst (λ g. horizon_of (guarded_at base h) t ≤ horizon_of g u) (sym (guarded-snoc base h r)) (by_test (concerns_all r)

@@ -4,6 +4,7 @@ pub mod Rights
 pub mod Acl
 pub mod Same
 pub mod SameAudit
+pub mod Changes
 pub mod Kinds
 pub mod Base
 pub mod Versions
@@ -18,4 +19,7 @@ pub mod Audit
 pub mod Answer
 pub mod Limits
 pub mod Play
+pub mod Lists
+pub mod Counts
+pub mod Log
 pub mod Strike

@@ -5,19 +5,18 @@ ghost use Rattle.std.specs.Prelude.{◌≡◌, IsOk, IfErr};
 ghost use Rattle.std.specs.Process.{exit_status as code_of};
 ghost use Rattle.s4_commands.specs.Faults.{exit_status};
 
-use s4_commands::{Command, Fault, FaultText, obey};
+use s4_commands::{Fault, FaultText, obey};
 use s4_run::RunFault;
 use std::io;
 use std::io::BufWriter;
 use std::net::{Net, TcpListener, TcpStream};
 use std::process::ExitCode;
-use std::rt::Files;
 use std::sync::Wait;
 use std::thread::Threads;
 use std::time::Clock;
 
 fn main(rt: HostRuntime) -> ExitCode {
-    let outcome = s4_command_line::given(&rt).and_then(|command| answer(&rt, &command));
+    let outcome = answer(&rt, &rt);
     ended(&rt, &outcome)
 }
 
@@ -35,20 +34,21 @@ fn ended<R: Eprint>(rt: &R, outcome: &Result<(), Fault>) -> ExitCode
     }
 }
 
-/// Does what the command asks for, from standard input to standard output.
+/// Does what the command line asks for, from standard input to standard output.
 fn answer<
-    R: Files
-        + Net<Listener = TcpListener, Stream = TcpStream>
+    R: Net<Listener = TcpListener, Stream = TcpStream>
         + Threads
         + Wait
         + Clock
+        + Eprint
         + Sync
         + Input
         + Print
         + AllocGlobal,
->(rt: &R, command: &Command) -> Result<(), Fault> {
+>(rt: &R, files: &HostRuntime) -> Result<(), Fault> {
+    let command = s4_command_line::given(files, files)?;
     match BufWriter::new(rt.alloc(), io::writer(rt)) {
-        Ok(mut output) => obey(rt, command, rt.reader(), &mut output),
+        Ok(mut output) => obey(rt, files, &command, rt.reader(), &mut output),
         Err(error) => Err(Fault::Run(RunFault::writing(error))),
     }
 }

@@ -1,6 +1,6 @@
 use Rattle.std.proofs.Common.{ℕ, ◌<◌, ◌≤◌, get_or}
 use Rattle.s4_types.specs.Play.{last_of}
-use Rattle.s4_state.specs.Log.{Log}
+use Rattle.s4_types.specs.Log.{Log}
 use Rattle.s4_cells_tests.proofs.all_cells.latest.Given as goal
 
 abbrev pub invariant-loop-place : goal.invariant-loop-place

@@ -4,7 +4,7 @@ use Rattle.s4_types.specs.declared.reply.Refusal.TheVariants.{OverBudget}
 use Rattle.s4_types.specs.Spending.{spent_at, budget_of}
 use Rattle.s4_types.proofs.Booleans.{by_test}
 use Rattle.s4_ledger.specs.Books as books
-use Rattle.s4_state.specs.Log.{base_of}
+use Rattle.s4_types.specs.Log.{base_of}
 use Rattle.s4_drive.proofs.Reckoning.{spent-then, fits-within, nothing-within, is-over}
 use Rattle.s4_drive.proofs.limits.afford.Goals as goal
 use Rattle.s4_drive.proofs.limits.afford.Goals.{then-charge-eq0-via-then-charge-eq0, then-charge-eq0-via-else-charge-eq0+then-room_at}

@@ -10,7 +10,7 @@ use Rattle.s4_types.specs.Names.{object_in}
 use Rattle.s4_types.specs.Bindings.{bound_at, bound_count}
 use Rattle.s4_types.specs.Judgement.{judge}
 use Rattle.s4_types.specs.Outcome.{◌>>◌, refuse_if}
-use Rattle.s4_state.specs.Log.{base_of}
+use Rattle.s4_types.specs.Log.{base_of}
 use Rattle.s4_drive.proofs.partitions.bind_outcome.Goals as goal
 
 -- what is told once the judgement and the first test passed

@@ -1,6 +1,6 @@
 use Rattle.std.proofs.Common.{sym, ◌∙◌, ap}
 use Rattle.s4_types.specs.Answer.{outcome_by_kind}
-use Rattle.s4_state.specs.Log.{base_of}
+use Rattle.s4_types.specs.Log.{base_of}
 use Rattle.s4_drive.proofs.Told.{exactly}
 use Rattle.s4_drive.proofs.step.outcome_by_kind.Goals as goal
 

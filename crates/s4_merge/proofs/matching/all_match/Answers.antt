@@ -1,6 +1,6 @@
 use Rattle.std.proofs.Common.{◌≡◌, ◌∙◌, length, get_or, ap, below_more}
 use Rattle.std.proofs.lemmas.List.{get_or_default}
-use Rattle.s4_state.specs.Log.{Log}
+use Rattle.s4_types.specs.Log.{Log}
 use Rattle.s4_merge.specs.Claims.{Matches, all_calls}
 use Rattle.s4_merge.proofs.matching.all_match.Goals as goal
 

@@ -1,5 +1,5 @@
 use Rattle.std.proofs.Common.{ℕ, ◌<◌, length, get_or}
-use Rattle.s4_state.specs.Log.{Log}
+use Rattle.s4_types.specs.Log.{Log}
 use Rattle.s4_merge.specs.Claims.{Matches, all_calls}
 use Rattle.s4_merge.proofs.matching.all_match.Given as goal
 

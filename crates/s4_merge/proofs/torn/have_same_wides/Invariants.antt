@@ -1,5 +1,5 @@
 use Rattle.std.proofs.Common.{◌≡◌, ℕ, ◌<◌, get_or}
-use Rattle.s4_state.specs.Log.{Log}
+use Rattle.s4_types.specs.Log.{Log}
 use Rattle.s4_merge.specs.Merged.{wide_records}
 use Rattle.s4_merge.proofs.torn.have_same_wides.Given as goal
 

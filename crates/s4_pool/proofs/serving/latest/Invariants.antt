@@ -1,6 +1,6 @@
 use Rattle.std.proofs.Common.{ℕ, ◌<◌, ◌≤◌, get_or}
 use Rattle.s4_types.specs.Play.{last_of}
-use Rattle.s4_state.specs.Log.{Log}
+use Rattle.s4_types.specs.Log.{Log}
 use Rattle.s4_pool.proofs.serving.latest.Given as goal
 
 abbrev pub invariant-loop-cell : goal.invariant-loop-cell

@@ -1,7 +1,7 @@
 use Rattle.std.proofs.Common.{ap, ◌∙◌}
 use Rattle.s4_types.specs.Play.{is_no_memory}
 use Rattle.s4_types.proofs.Outcomes.{is_no_memory-answer}
-use Rattle.s4_state.specs.Log.{base_of}
+use Rattle.s4_types.specs.Log.{base_of}
 use Rattle.s4_pool.proofs.serving.serve_one.Goals as goal
 
 pub returns-clause-told : goal.returns-clause-told

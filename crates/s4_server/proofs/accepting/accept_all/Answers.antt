@@ -25,7 +25,7 @@ pub loop-init : goal.loop-init
 loop-init g c = (refl, λ some. (some, sym (append-nil c.args.seat.now.put)))
 
 pub returns-then-number-from-clause-put : goal.returns-then-number-from-clause-put
-returns-then-number-from-clause-put g c =
+returns-then-number-from-clause-put g c = λ _.
     let n = c.loop.number in
     let m = c.number_after-number.result in
     let last : m ≡ c.args.connections = search rules in
@@ -36,6 +36,20 @@ returns-then-number-from-clause-put g c =
     let put : c.put.new.seat.put ≡ c.loop.seat.put ++ (m ∷ []) = ap (λ (s : Seat). s.put) c.put.ensures in
     subst (λ (k : ℕ). c.put.new.seat.put ≡ c.args.seat.now.put ++ numbers_to k) last
     (put_next n m c.args.connections c.args.seat.now.put c.loop.seat.put c.put.new.seat.put (next_is n m c.args.connections c.number_after-number.ensures inv.0 few) inv.1 put)
+
+pub returns-then-number-from-clause-fewer : goal.returns-then-number-from-clause-fewer
+returns-then-number-from-clause-fewer g c = λ some.
+    let n = c.loop.number in
+    let m = c.number_after-number.result in
+    let last : m ≡ c.args.connections = search rules in
+    let few : c.args.connections < 2 ^ 32 = search rules in
+    let inv = c.loop.invariant.1 some in
+    let put : c.put.new.seat.put ≡ c.loop.seat.put ++ (m ∷ []) = ap (λ (s : Seat). s.put) c.put.ensures in
+    record {
+      count = m;
+      few = omega arith;
+      put = put_next n m c.args.connections c.args.seat.now.put c.loop.seat.put c.put.new.seat.put (next_is n m c.args.connections c.number_after-number.ensures inv.0 few) inv.1 put;
+    }
 
 pub loop-preserved : goal.loop-preserved
 loop-preserved g c =

@@ -3,13 +3,13 @@ use Rattle.std.specs.Prelude.{OnOk, IsTrue, Result, Ok, Err}
 use Rattle.s4_types.specs.declared.reply.Reply.{Reply}
 use Rattle.s4_types.specs.declared.request.Request as asked
 use Rattle.s4_types.specs.declared.principal.Caller.{Caller}
-use Rattle.s4_state.specs.Log.{Log}
+use Rattle.s4_types.specs.Log.{Log}
 use Rattle.s4_drive.specs.Step.{Steps}
 use Rattle.s4_codec.specs.Replies.{has_body}
-use Rattle.s4_session.specs.declared.event.Event.{Event}
-use Rattle.s4_session.specs.declared.event.Event.TheVariants.{Request}
+use Rattle.s4_stream.specs.declared.event.Event.{Event}
+use Rattle.s4_stream.specs.declared.event.Event.TheVariants.{Request}
 use Rattle.s4_session.specs.Answered.{Answered}
-use Rattle.s4_session.specs.Sent.{reply_frame}
+use Rattle.s4_stream.specs.Talk.{reply_frame}
 use Rattle.s4_session.proofs.Answering.{answered_request, step_last}
 use Rattle.s4_session.proofs.answer.answer.Goals as goal
 
@@ -22,8 +22,8 @@ on_ok (Err x) t event caller r old new reply p q is made sent body = tt
 
 pub returns-in-Request-clause-answered : goal.returns-in-Request-clause-answered
 returns-in-Request-clause-answered c =
-    on_ok c.send_reply.result c.args.moment c.args.event.now c.in-Request.caller c.in-Request.request c.args.drive.now c.step-reply.new.self c.step-reply.result c.args.out.now.items c.send_reply.new.out.items
-    c.in-Request.is c.step-reply.ensures.steps c.send_reply.ensures.sent c.send_reply.ensures.body
+    on_ok c.add_reply.result c.args.moment c.args.event.now c.in-Request.caller c.in-Request.request c.args.drive.now c.step-reply.new.self c.step-reply.result c.args.out.now.items c.add_reply.new.out.items
+    c.in-Request.is c.step-reply.ensures.steps c.add_reply.ensures.added c.add_reply.ensures.body
 
 pub returns-in-Request-clause-last : goal.returns-in-Request-clause-last
 returns-in-Request-clause-last c =

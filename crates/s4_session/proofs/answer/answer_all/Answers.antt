@@ -1,6 +1,6 @@
 use Rattle.std.proofs.Common.{◌≡◌, ◌+◌, ◌<◌, ◌++◌, ◌∷◌, [], List, ℕ, length, take, sym, ap, subst, ◌∙◌, arith}
 use Rattle.std.proofs.lemmas.List.{take_more}
-use Rattle.s4_session.specs.declared.event.Event.{Event}
+use Rattle.s4_stream.specs.declared.event.Event.{Event}
 use Rattle.s4_session.specs.Answered.{Answered}
 use Rattle.s4_session.proofs.Answering.{answered_then}
 use Rattle.s4_session.proofs.answer.answer_all.Goals as goal

@@ -1,6 +1,6 @@
 use Rattle.std.proofs.Common.{◌-◌, subst}
 use Rattle.s4_names.specs.Drawn.{drawn_in}
-use Rattle.s4_state.specs.Counts.{made_count}
+use Rattle.s4_types.specs.Counts.{made_count}
 use Rattle.s4_state.specs.Stands.{base_in, size_in, StandsFor}
 use Rattle.s4_state.proofs.Beginning.{all_made}
 use Rattle.s4_state.proofs.Fitted.{ended_made}

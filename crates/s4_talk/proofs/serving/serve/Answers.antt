@@ -1,6 +1,5 @@
-use Rattle.std.proofs.Common.{rules, ◌≡◌, ◌∙◌, ap, false, is_ok, ◌++◌, ◌∷◌, [], List, ℕ}
-use Rattle.s4_codec.specs.Frames.{framed}
-use Rattle.s4_session.specs.Sent.{welcome, reply_frame, fault_frame}
+use Rattle.std.proofs.Common.{rules, ◌≡◌, ◌∙◌, ap, false, is_ok, ◌++◌, List, ℕ}
+use Rattle.s4_stream.specs.Talk.{welcome, reply_frame, fault_frame}
 use Rattle.s4_talk.proofs.Laws.{Serves-nothing, Serves-welcome, Serves-request, Serves-lost, Serves-fault}
 use Rattle.s4_talk.proofs.serving.serve.Goals as goal
 
@@ -9,21 +8,31 @@ returns-in_err-reserve_frame g c =
     let e : is_ok c.from_residual.result ≡ false = search rules in
     rw e (Serves-nothing _ _ _ _ _ c.reserve_frame.ensures.bytes)
 
+pub returns-in_err-add_welcome-in-Welcome : goal.returns-in_err-add_welcome-in-Welcome
+returns-in_err-add_welcome-in-Welcome g c =
+    let e : is_ok c.from_residual-in_err-add_welcome-in-Welcome.result ≡ false = search rules in
+    rw e (Serves-nothing _ _ _ _ _ (c.in_err-add_welcome-in-Welcome.ensures.none ∙ c.reserve_frame.ensures.bytes))
+
 pub returns-in_err-add_reply-in-Request : goal.returns-in_err-add_reply-in-Request
 returns-in_err-add_reply-in-Request g c =
     let e : is_ok c.from_residual-in_err-add_reply-in-Request.result ≡ false = search rules in
     rw (e, c.in-Request.is) (Serves-lost c.in-Request.caller c.in-Request.request c.answer-reply.result _ _ _ _ _ c.answer-reply.ensures.called (c.in_err-add_reply-in-Request.ensures.none ∙ c.reserve_frame.ensures.bytes))
 
-pub returns-in-Welcome : goal.returns-in-Welcome
-returns-in-Welcome g c =
-    rw c.in-Welcome.is (Serves-welcome c.in-Welcome.field-0 _ _ _ _ (c.add_frame.ensures ∙ ap (λ (z : List ℕ). z ++ welcome) c.reserve_frame.ensures.bytes))
+pub returns-in_err-add_fault-in-Fault : goal.returns-in_err-add_fault-in-Fault
+returns-in_err-add_fault-in-Fault g c =
+    let e : is_ok c.from_residual-in_err-add_fault-in-Fault.result ≡ false = search rules in
+    rw e (Serves-nothing _ _ _ _ _ (c.in_err-add_fault-in-Fault.ensures.none ∙ c.reserve_frame.ensures.bytes))
+
+pub returns-in_ok-add_welcome-in-Welcome : goal.returns-in_ok-add_welcome-in-Welcome
+returns-in_ok-add_welcome-in-Welcome g c =
+    rw c.in-Welcome.is (Serves-welcome c.in-Welcome.field-0 _ _ _ _ (c.in_ok-add_welcome-in-Welcome.ensures.added ∙ ap (λ (z : List ℕ). z ++ welcome) c.reserve_frame.ensures.bytes))
 
 pub returns-in_ok-add_reply-in-Request : goal.returns-in_ok-add_reply-in-Request
 returns-in_ok-add_reply-in-Request g c =
     rw c.in-Request.is (Serves-request c.in-Request.caller c.in-Request.request c.answer-reply.result _ _ _ _ _ c.answer-reply.ensures.called c.in_ok-add_reply-in-Request.ensures.body
-    (c.in_ok-add_reply-in-Request.ensures.sent ∙ ap (λ (z : List ℕ). z ++ reply_frame c.answer-reply.result) c.reserve_frame.ensures.bytes))
+    (c.in_ok-add_reply-in-Request.ensures.added ∙ ap (λ (z : List ℕ). z ++ reply_frame c.answer-reply.result) c.reserve_frame.ensures.bytes))
 
-pub returns-in-Fault : goal.returns-in-Fault
-returns-in-Fault g c =
+pub returns-in_ok-add_fault-in-Fault : goal.returns-in_ok-add_fault-in-Fault
+returns-in_ok-add_fault-in-Fault g c =
     rw c.in-Fault.is (Serves-fault c.in-Fault.told _ _ _ _
-    (c.add_frame-in-Fault.ensures ∙ (ap (λ (n : ℕ). c.reserve_frame.new.waiting.items ++ framed (17 ∷ n ∷ [])) c.number.ensures ∙ ap (λ (z : List ℕ). z ++ fault_frame c.in-Fault.told) c.reserve_frame.ensures.bytes)))
+    (c.in_ok-add_fault-in-Fault.ensures.added ∙ ap (λ (z : List ℕ). z ++ fault_frame c.in-Fault.told) c.reserve_frame.ensures.bytes))

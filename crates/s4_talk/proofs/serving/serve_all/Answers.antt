@@ -2,7 +2,7 @@ use Rattle.std.proofs.Common.{rules, ◌≡◌, ◌∙◌, ap, sym, true, false,
 use Rattle.std.specs.Iterator.{Yields}
 use Rattle.std.specs.Vec.Iter.{into_iter_items, into_iter_steps}
 use Rattle.std.specs.declared.vec.IntoIter.{IntoIter}
-use Rattle.s4_session.specs.declared.event.Event.{Event}
+use Rattle.s4_stream.specs.declared.event.Event.{Event}
 use Rattle.s4_talk.proofs.Laws.{Serves-none, Serves-then, Serves-cut}
 use Rattle.s4_talk.proofs.serving.serve_all.Goals as goal
 

@@ -38,24 +38,22 @@ returns-clause-budgets c p =
     (budget-same old (opened q old) (opened-same q old) p)
     ∙ ap (λ (b : Books). budget_of p b.budgets) c.self.view_is
 
-pub returns-clause-accounts : goal.returns-clause-accounts
-returns-clause-accounts c p has =
+pub returns-clause-opens : goal.returns-clause-opens
+returns-clause-opens c =
     let q : Purse = c.args.purse.now in
     let old : List (Purse × Account) = c.self.inside.accounts in
-    let had : has_budget p (budgets_of old) ≡ true = subst (λ (b : Books). has_budget p b.budgets ≡ true) (sym c.self.view_is) has in
-    by_result (λ es. has_budget p (budgets_of es) ≡ true) c.open.result old (opened q old) c.open.new.self c.open.ensures.ok c.open.ensures.err had (opened-still q old p had)
-
-pub returns-clause-others : goal.returns-clause-others
-returns-clause-others c p other =
-    let q : Purse = c.args.purse.now in
-    let old : List (Purse × Account) = c.self.inside.accounts in
-    by_result (λ es. has_budget p (budgets_of es) ≡ has_budget p (budgets_of old)) c.open.result old (opened q old) c.open.new.self c.open.ensures.ok c.open.ensures.err refl
-    (opened-others q old p other)
-    ∙ ap (λ (b : Books). has_budget p b.budgets) c.self.view_is
-
-pub returns-clause-places : goal.returns-clause-places
-returns-clause-places c p has =
-    let q : Purse = c.args.purse.now in
-    let old : List (Purse × Account) = c.self.inside.accounts in
-    let had : HasAccount p (budgets_of old) = subst (λ (b : Books). HasAccount p b.budgets) (sym c.self.view_is) has in
-    by_result (λ es. HasAccount p (budgets_of es)) c.open.result old (opened q old) c.open.new.self c.open.ensures.ok c.open.ensures.err had (opened-places q old p.purse p.place had)
+    record {
+      accounts = λ p has.
+          let had : has_budget p (budgets_of old) ≡ true = subst (λ (b : Books). has_budget p b.budgets ≡ true) (sym c.self.view_is) has in
+          by_result (λ es. has_budget p (budgets_of es) ≡ true) c.open.result old (opened q old) c.open.new.self c.open.ensures.ok c.open.ensures.err had (opened-still q old p had);
+      others = λ p other.
+          by_result (λ es. has_budget p (budgets_of es) ≡ has_budget p (budgets_of old)) c.open.result old (opened q old) c.open.new.self c.open.ensures.ok c.open.ensures.err refl
+          (opened-others q old p other)
+          ∙ ap (λ (b : Books). has_budget p b.budgets) c.self.view_is;
+      places = λ p has.
+          let had : HasAccount p (budgets_of old) = subst (λ (b : Books). HasAccount p b.budgets) (sym c.self.view_is) has in
+          by_result (λ es. HasAccount p (budgets_of es)) c.open.result old (opened q old) c.open.new.self c.open.ensures.ok c.open.ensures.err had (opened-places q old p.purse p.place had);
+      horizon = ap (λ (b : Books). b.horizon) c.self.view_is;
+      charges = ap (λ (b : Books). b.charges) c.self.view_is;
+      room = ap (λ (b : Books). b.room) c.self.view_is;
+    }

@@ -55,29 +55,32 @@ returns-clause-ok c p =
     c.set_budget.ensures.set p ∙ ap (λ x. cond (same_purse x p) c.args.budget (budget_of p (budgets_of mid))) c.in_ok-payer.ensures.payer
     ∙ ap (cond (same_purse q p) c.args.budget) (kept q old mid c.in_ok-payer.ensures.ok p ∙ ap (λ (b : Books). budget_of p b.budgets) c.self.view_is)
 
-pub returns-clause-accounts : goal.returns-clause-accounts
-returns-clause-accounts c p has =
-    let q : Purse = c.args.purse.now in
-    let old : List (Purse × Account) = c.self.inside.accounts in
-    let mid : List (Purse × Account) = c.open.new.self in
-    let new : List (Purse × Account) = c.set_budget.new.self in
-    as_before mid new c.set_budget.ensures.places p ∙ ap (λ es. has_budget p (budgets_of es)) c.in_ok-payer.ensures.ok
-    ∙ opened-still q old p (subst (λ (b : Books). has_budget p b.budgets ≡ true) (sym c.self.view_is) has)
+pub returns-in_err-payer-clause-opens : goal.returns-in_err-payer-clause-opens
+returns-in_err-payer-clause-opens c =
+    let same : budgets_of c.open.new.self ≡ c.args.self.now.budgets = ap budgets_of c.in_err-payer.ensures.err ∙ ap (λ (b : Books). b.budgets) c.self.view_is in
+    record {
+      accounts = λ p has. ap (has_budget p) same ∙ has;
+      others = λ p other. ap (has_budget p) same;
+      places = λ p has. ap (place_of p.purse) same ∙ has;
+      horizon = ap (λ (b : Books). b.horizon) c.self.view_is;
+      charges = ap (λ (b : Books). b.charges) c.self.view_is;
+      room = ap (λ (b : Books). b.room) c.self.view_is;
+    }
 
-pub returns-clause-others : goal.returns-clause-others
-returns-clause-others c p other =
+pub returns-clause-opens : goal.returns-clause-opens
+returns-clause-opens c =
     let q : Purse = c.args.purse.now in
     let old : List (Purse × Account) = c.self.inside.accounts in
     let mid : List (Purse × Account) = c.open.new.self in
     let new : List (Purse × Account) = c.set_budget.new.self in
-    as_before mid new c.set_budget.ensures.places p ∙ ap (λ es. has_budget p (budgets_of es)) c.in_ok-payer.ensures.ok
-    ∙ opened-others q old p other ∙ ap (λ (b : Books). has_budget p b.budgets) c.self.view_is
-
-pub returns-clause-places : goal.returns-clause-places
-returns-clause-places c p has =
-    let q : Purse = c.args.purse.now in
-    let old : List (Purse × Account) = c.self.inside.accounts in
-    let mid : List (Purse × Account) = c.open.new.self in
-    let new : List (Purse × Account) = c.set_budget.new.self in
-    c.set_budget.ensures.places p.purse ∙ ap (λ es. place_of p.purse (budgets_of es)) c.in_ok-payer.ensures.ok
-    ∙ opened-places q old p.purse p.place (subst (λ (b : Books). HasAccount p b.budgets) (sym c.self.view_is) has)
+    record {
+      accounts = λ p has. as_before mid new c.set_budget.ensures.places p ∙ ap (λ es. has_budget p (budgets_of es)) c.in_ok-payer.ensures.ok
+          ∙ opened-still q old p (subst (λ (b : Books). has_budget p b.budgets ≡ true) (sym c.self.view_is) has);
+      others = λ p other. as_before mid new c.set_budget.ensures.places p ∙ ap (λ es. has_budget p (budgets_of es)) c.in_ok-payer.ensures.ok
+          ∙ opened-others q old p other ∙ ap (λ (b : Books). has_budget p b.budgets) c.self.view_is;
+      places = λ p has. c.set_budget.ensures.places p.purse ∙ ap (λ es. place_of p.purse (budgets_of es)) c.in_ok-payer.ensures.ok
+          ∙ opened-places q old p.purse p.place (subst (λ (b : Books). HasAccount p b.budgets) (sym c.self.view_is) has);
+      horizon = ap (λ (b : Books). b.horizon) c.self.view_is;
+      charges = ap (λ (b : Books). b.charges) c.self.view_is;
+      room = ap (λ (b : Books). b.room) c.self.view_is;
+    }

@@ -51,7 +51,7 @@ loop-freed-preserved g c =
       holds = c.free.ensures.holds;
       waits = waits-drained c.args.horizon (g.S.Store.chains c.free.new.store) c.free.new.self c.loop-freed.invariant.waits c.in-Some.ended is c.in-Some.ensures.gone c.free.ensures.bindings c.free.ensures.bound (ap (λ (q : Queue). q.awaited) c.free.ensures.ends ∙ c.in-Some.ensures.awaited);
       sweeps = sweeps-more c.args.horizon (g.S.Store.chains c.free.new.store) c.free.new.self c.loop-freed.invariant.waits c.in-Some.ended is c.in-Some.ensures.gone c.free.ensures.bindings
-          (g.S.Store.chains c.args.store.now) c.args.self.now c.loop-freed.freed s c.free.ensures.names c.free.ensures.own (record { still = c.free.ensures.others.still; items = c.free.ensures.others.items }) c.free.ensures.leaves c.free.ensures.used;
+          (g.S.Store.chains c.args.store.now) c.args.self.now c.loop-freed.freed s c.free.ensures.names c.free.ensures.own c.free.ensures.given_up (record { still = c.free.ensures.others.still; items = c.free.ensures.others.items }) c.free.ensures.leaves c.free.ensures.used;
       keeps = keeps-through c.loop-freed.invariant.keeps (record { names = c.free.ensures.keeps_room.names; ends = omega (arith, c.in-Some.ensures.spare, c.free.ensures.keeps_room.ends) });
       gone = one_more gone c.loop-freed.freed old c.loop-freed.invariant.gone go;
       room = omega (arith, c.loop-freed.invariant.room, c.free.ensures.room);

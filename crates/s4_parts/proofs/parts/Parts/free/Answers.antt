@@ -8,7 +8,7 @@ use Rattle.s4_parts.specs.declared.shelf.Shelf.{Shelf}
 use Rattle.s4_parts.specs.Table.{shelf_of, serials_spare}
 use Rattle.s4_parts.specs.Waiting.{bound_on}
 use Rattle.s4_parts.proofs.Totals.{bound-set}
-use Rattle.s4_parts.proofs.Freeing.{freed-holds, freed-bindings, freed-names, freed-own, freed-others, freed-leaves}
+use Rattle.s4_parts.proofs.Freeing.{freed-holds, freed-bindings, freed-names, freed-own, freed-empty, freed-others, freed-leaves}
 use Rattle.s4_parts.proofs.Rooming.{room-replaced}
 use Rattle.s4_parts.proofs.parts.Parts.free.Goals as goal
 
@@ -34,6 +34,12 @@ pub returns-clause-own : goal.returns-clause-own
 returns-clause-own g c =
     let found : shelf_of c.args.self.now c.args.purse.now ≡ Some c.unwrap-shelf.result.now = sym c.get_mut.ensures.value ∙ ap option_copied_mut c.unwrap-shelf.ensures in
     freed-own (g.S.Store.chains c.args.store.now) (g.S.Store.chains c.free.new.store) c.args.self.now (record { alloc = c.args.self.now.alloc; shelves = c.get_mut.follows.lender c.free.new.self; ends = c.args.self.now.ends }) c.requires.holds
+    c.args.purse.now c.args.name.now c.unwrap-shelf.result.now c.free.new.self found ((c.get_mut.follows.holds c.free.new.self).3 (ap is_some found)).0 c.free.ensures.frees c.requires.ended
+
+pub returns-clause-given_up : goal.returns-clause-given_up
+returns-clause-given_up g c =
+    let found : shelf_of c.args.self.now c.args.purse.now ≡ Some c.unwrap-shelf.result.now = sym c.get_mut.ensures.value ∙ ap option_copied_mut c.unwrap-shelf.ensures in
+    freed-empty (g.S.Store.chains c.args.store.now) (g.S.Store.chains c.free.new.store) c.args.self.now (record { alloc = c.args.self.now.alloc; shelves = c.get_mut.follows.lender c.free.new.self; ends = c.args.self.now.ends }) c.requires.holds
     c.args.purse.now c.args.name.now c.unwrap-shelf.result.now c.free.new.self found ((c.get_mut.follows.holds c.free.new.self).3 (ap is_some found)).0 c.free.ensures.frees c.requires.ended
 
 pub returns-clause-others : goal.returns-clause-others

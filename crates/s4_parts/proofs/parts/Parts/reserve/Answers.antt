@@ -1,9 +1,9 @@
 use Rattle.std.proofs.Common.{subst, ◌<◌, ◌≤◌, ◌≡◌, Some, sym, ◌∙◌, ap, length, arith}
-use Rattle.std.specs.Prelude.{is_some, OnOk, Result, Ok, Err}
+use Rattle.std.specs.Prelude.{is_some, OnOk, OnErr, Result, Ok, Err}
 use Rattle.std.specs.Option.{option_copied_mut}
 use Rattle.s4_parts.specs.declared.parts.Parts.{Parts}
 use Rattle.s4_parts.specs.Table.{shelf_of, chain_at, chain_on, names_on, serials_on, serials_spare}
-use Rattle.s4_parts.proofs.Reserving.{reserved-holds, reserved-names, reserved-bindings, reserved-items, reserved-still, reserved-own, reserved-room, reserved-used, reserved-leaves, reserved-asked, reserved-chain}
+use Rattle.s4_parts.proofs.Reserving.{reserved-holds, reserved-names, reserved-bindings, reserved-items, reserved-still, reserved-own, reserved-room, reserved-used, reserved-leaves, reserved-asked, reserved-chain, reserved-none}
 use Rattle.std.specs.BTreeMap.{is_at}
 use Rattle.std.specs.Map.{set_value}
 use Rattle.s4_types.specs.Names.{purse_cmp}
@@ -15,6 +15,10 @@ use Rattle.s4_parts.proofs.Awaiting.{waits-kept}
 use Rattle.s4_parts.proofs.Rebinding.{moved}
 use Rattle.s4_parts.proofs.Rooming.{names-of, room-kept, room-replaced}
 use Rattle.s4_parts.proofs.parts.Parts.reserve.Goals as goal
+
+on-err : {A E P Q : Type 0} (r : Result A E) → (P → Q) → OnErr r P → OnErr r Q
+on-err (Ok x) f p = _
+on-err (Err e) f p = f p
 
 both-ok : {A E P Q R : Type 0} (r : Result A E) → (P → Q → R) → OnOk r P → OnOk r Q → OnOk r R
 both-ok (Ok x) f p q = f p q
@@ -122,6 +126,13 @@ returns-clause-asked g c =
     reserved-asked (g.S.Store.chains c.args.store.now) (g.S.Store.chains c.reserve.new.store) c.args.self.now c.shelve.new.self (record { alloc = c.shelve.new.self.alloc; shelves = c.get_mut.follows.lender c.reserve.new.self; ends = c.shelve.new.self.ends }) c.requires.holds
     c.in_ok-shelve.ensures.chains c.in_ok-shelve.ensures.names c.in_ok-shelve.ensures.serials c.args.purse.now c.args.name.now c.unwrap-shelf.result.now c.reserve.new.self
     found ((c.get_mut.follows.holds c.reserve.new.self).3 (ap is_some found)).0 c.reserve.ensures.grows
+
+pub returns-clause-refused : goal.returns-clause-refused
+returns-clause-refused g c =
+    let found : shelf_of c.shelve.new.self c.args.purse.now ≡ Some c.unwrap-shelf.result.now = sym c.get_mut.ensures.value ∙ ap option_copied_mut c.unwrap-shelf.ensures in
+    on-err c.reserve.result (reserved-none (g.S.Store.chains c.args.store.now) (g.S.Store.chains c.reserve.new.store) c.args.self.now c.shelve.new.self (record { alloc = c.shelve.new.self.alloc; shelves = c.get_mut.follows.lender c.reserve.new.self; ends = c.shelve.new.self.ends }) c.requires.holds
+    c.in_ok-shelve.ensures.chains c.in_ok-shelve.ensures.names c.in_ok-shelve.ensures.serials c.args.purse.now c.args.name.now c.unwrap-shelf.result.now c.reserve.new.self
+    found ((c.get_mut.follows.holds c.reserve.new.self).3 (ap is_some found)).0 c.reserve.ensures.grows) c.reserve.ensures.refused
 
 pub returns-clause-leaves : goal.returns-clause-leaves
 returns-clause-leaves g c =

@@ -55,6 +55,10 @@ returns-in-Ok-clause-grows g c =
       serials = c.reserve.ensures.items;
     }
 
+pub returns-in-Err-clause-refused : goal.returns-in-Err-clause-refused
+returns-in-Err-clause-refused g c n =
+    ap (λ es. option_map (λ t. t.chain) (Rattle.std.specs.Map.lookup (Rattle.std.specs.BTreeMap.is_at (name_cmp n)) es)) c.in-Err.ensures.err
+
 pub returns-in-Err-clause-grows : goal.returns-in-Err-clause-grows
 returns-in-Err-clause-grows g c =
     let before : Shelf = c.args.self.now in

@@ -1,6 +1,6 @@
 use Rattle.std.proofs.Common.{List, ap, refl, subst, sym}
 use Rattle.s4_calls.specs.Calls.{CallList}
-use Rattle.s4_state.specs.Log.{Log}
+use Rattle.s4_types.specs.Log.{Log}
 use Rattle.s4_merge.specs.Merged.{AreWhole}
 use Rattle.s4_merge.specs.Order.{IsStray}
 use Rattle.s4_pool.specs.Fronts.{FrontState}

@@ -10,7 +10,7 @@ use Rattle.s4_session.proofs.hall.Hall.try_run.Goals.{in-Arrive+in_ok-sent-in-Ar
 
 pub loop-step-preserved : goal.loop-step-preserved
 loop-step-preserved c =
-    let window : ℕ = c.args.self.now.log.window in
+    let window : ℕ = c.args.self.now.log.opened in
     let logins = c.args.self.now.logins in
     let i : ℕ = c.loop-step.step-index in
     let all : List HallStep = c.args.steps.now in
@@ -47,7 +47,7 @@ loop-step-preserved c =
 
 pub returns-clause-leaves : goal.returns-clause-leaves
 returns-clause-leaves c =
-    let window : ℕ = c.args.self.now.log.window in
+    let window : ℕ = c.args.self.now.log.opened in
     let logins = c.args.self.now.logins in
     let i : ℕ = c.loop-step.step-index in
     let all : List HallStep = c.args.steps.now in
@@ -56,4 +56,4 @@ returns-clause-leaves c =
     on_left window logins all c.loop-step.self c.loop-step.outbox c.into_list.result c.into_list.ensures.list c.into_list.ensures.rising sends c.loop-step.invariant.whole
 
 pub returns-clause-sent : goal.returns-clause-sent
-returns-clause-sent c = on_sent c.args.self.now.log.window c.args.self.now.logins c.args.steps.now c.loop-step.self c.into_list.result (returns-clause-leaves c)
+returns-clause-sent c = on_sent c.args.self.now.log.opened c.args.self.now.logins c.args.steps.now c.loop-step.self c.into_list.result (returns-clause-leaves c)

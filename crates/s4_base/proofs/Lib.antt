@@ -1,0 +1,12 @@
+pub mod Answering
+pub mod Copies
+pub mod Cuts
+pub mod Going
+pub mod Leaving
+pub mod OfLists
+pub mod OneName
+pub mod OneObject
+pub mod Parting
+pub mod SameBase
+pub mod Shelves
+pub mod Turning

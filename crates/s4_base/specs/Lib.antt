@@ -1,0 +1,4 @@
+pub mod Answered
+pub mod Changes
+pub mod Tables
+pub mod Through

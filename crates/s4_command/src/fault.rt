@@ -1,0 +1,94 @@
+//! Why words spell no command.
+
+ghost use Rattle.std.specs.Prelude.{◌≡◌, Some};
+ghost use Rattle.s4_command.specs.Faults.{IsFaultOf, exit_status, fault_of_call, fault_of_request, fault_text};
+ghost use Rattle.s4_command.specs.declared.fault.WordsFault.TheVariants as fault;
+
+use s4_client::CallFault;
+use s4_script::ParseError;
+use std::alloc::{AllocError, AllocFailed, Global};
+use std::fmt;
+use thiserror::Error;
+
+/// Why the words of a command line spell no command.
+#[derive(Debug, PartialEq, Drop, Error)]
+pub enum WordsFault {
+    /// They are wrong; the text says how.
+    Wrong(String),
+    /// The file with this path, which one of them names, can't be read, or is no text.
+    CannotReadFile(String),
+    /// They spell no request, or one that has no spelling within a frame.
+    BadRequest,
+    /// There isn't enough memory.
+    NoMemory,
+}
+
+impl WordsFault {
+    /// The fault of words that are wrong, of which the text says how.
+    pub fn wrong(alloc: Global, text: &str) -> WordsFault
+        ensures { IsFaultOf text.now result }
+    {
+        String::from_str(alloc, text).map_or_else(WordsFault::from, WordsFault::Wrong)
+    }
+
+    /// What the program exits with.
+    pub fn status(&self) -> u8
+        ensures { result ≡ exit_status self.now }
+    {
+        match self {
+            WordsFault::Wrong(_) => 2,
+            _ => 1,
+        }
+    }
+}
+
+impl fmt::Display for WordsFault {
+    ghost output = { λ fault. Some (fault_text fault) };
+
+    fn fmt<W: fmt::Write>(&self, f: &mut fmt::Formatter<W>) -> fmt::Result {
+        match self {
+            WordsFault::Wrong(text) => write!(f, "{text}"),
+            WordsFault::CannotReadFile(path) => write!(f, "cannot read {path}"),
+            WordsFault::BadRequest => write!(f, "bad request"),
+            WordsFault::NoMemory => write!(f, "no memory"),
+        }
+    }
+}
+
+impl From<ParseError> for WordsFault {
+    ghost from_gives = { λ request why. why ≡ fault_of_request request };
+
+    fn from(fault: ParseError) -> WordsFault {
+        match fault {
+            ParseError::Bad => WordsFault::BadRequest,
+            ParseError::NoMemory => WordsFault::NoMemory,
+        }
+    }
+}
+
+impl From<CallFault> for WordsFault {
+    ghost from_gives = { λ call why. why ≡ fault_of_call call };
+
+    fn from(fault: CallFault) -> WordsFault {
+        match fault {
+            CallFault::NoMemory => WordsFault::NoMemory,
+            _ => WordsFault::BadRequest,
+        }
+    }
+}
+
+impl From<AllocError> for WordsFault {
+    ghost from_gives = { λ _ why. why ≡ fault.NoMemory };
+
+    fn from(_: AllocError) -> WordsFault {
+        WordsFault::NoMemory
+    }
+}
+
+impl<T: Drop> From<AllocFailed<T>> for WordsFault {
+    ghost from_gives = { λ _ why. why ≡ fault.NoMemory };
+
+    fn from(_: AllocFailed<T>) -> WordsFault {
+        WordsFault::NoMemory
+    }
+}

@@ -1,0 +1,19 @@
+//! What a served drive is.
+
+use crate::settings::Settings;
+
+/// A served drive: where it listens, the file of who may log in, and how it is set up.
+#[derive(Debug, PartialEq, Drop)]
+pub struct Service {
+    pub address: String,
+    pub logins: String,
+    /// The path of the file that ends it, where there is one.
+    pub until: Option<String>,
+    /// After how many milliseconds it is looked again whether the file of logins has changed; 0 for never.
+    pub reload: u64,
+    /// The path of the file with what is carried out first, where there is one.
+    pub setup: Option<String>,
+    /// The path of the file in which the server tells of itself, where there is one.
+    pub status: Option<String>,
+    pub settings: Settings,
+}

@@ -1,0 +1,53 @@
+//! How a server is set up.
+
+ghost use Rattle.std.specs.Prelude.{◌<◌, ◌≤◌};
+
+/// For how long a server has patience with a peer, in milliseconds; 0 for ever.
+#[derive(Clone, Copy, Debug, PartialEq, Eq)]
+pub struct Patience {
+    /// With one that sends no whole frame, and takes nothing of what it is sent.
+    pub idle: u64,
+    /// With one that isn't welcomed, from its begin on.
+    pub hello: u64,
+}
+
+/// What a server is told at its start (docs/OPERATIONS.md, "Flags").
+#[derive(Clone, Copy, Debug, PartialEq, Eq)]
+pub struct Settings {
+    /// The window at the opening, in milliseconds.
+    pub window: u64,
+    /// How many cells there are, from 1 to 16.
+    pub cells: usize,
+    /// How many workers there are, from 1 to 8.
+    pub workers: u64,
+    /// After how many connections the server ends; 0 for never.
+    pub connections: u32,
+    pub patience: Patience,
+    /// How many connections may be open; one more is closed at once.
+    pub open: u32,
+    /// The moment at the start.
+    pub first: u64,
+    ghost some_cells: { 0 < cells },
+    ghost few_cells: { cells ≤ 16 },
+    ghost some_workers: { 0 < workers },
+    ghost few_workers: { workers ≤ 8 },
+}
+
+impl Settings {
+    /// A window of a day, four cells, four workers, no end, a minute of silence, ten seconds up to the
+    /// Welcome, 1024 connections, and a clock that begins at 0.
+    pub fn standard() -> Settings {
+        Settings {
+            window: 86400000,
+            cells: 4,
+            workers: 4,
+            connections: 0,
+            patience: Patience {
+                idle: 60000,
+                hello: 10000,
+            },
+            open: 1024,
+            first: 0,
+        }
+    }
+}

@@ -1,0 +1,102 @@
+//! What is carried out before a server listens (docs/OPERATIONS.md, "Flags").
+
+use crate::fault::Fault;
+use s4_script::{NumberedLines, ReplyText, parse_principal, parse_request, read_file};
+use s4_server::{Server, Ticks};
+use s4_types::{Caller, Reply, Request};
+use std::alloc::Global;
+use std::str;
+use std::sync::Wait;
+
+/// The most bytes of the file.
+const FILE_LIMIT: u32 = 268435456;
+
+/// The client that is recorded.
+const CLIENT: u32 = 0;
+
+/// A line: who asks, and for what.
+#[derive(Drop)]
+struct Line {
+    caller: Caller,
+    request: Request,
+}
+
+/// Has the server carry out the lines of the file with this path, where one is named.
+pub fn set_up<R: Wait, C: Ticks>(
+    rt: &R,
+    files: &HostRuntime,
+    server: &mut Server,
+    clock: &C,
+    path: Option<&str>,
+) -> Result<(), Fault> {
+    match path {
+        Some(path) => carry_out(
+            rt,
+            files.alloc(),
+            server,
+            clock,
+            read(files, path)?.as_str(),
+        ),
+        None => Ok(()),
+    }
+}
+
+/// What the file with this path has, or the fault that names it.
+fn read(files: &HostRuntime, path: &str) -> Result<String, Fault> {
+    match text_of(files, path) {
+        Some(text) => Ok(text),
+        None => Err(Fault::CannotReadFile(String::from_str(files.alloc(), path)?)),
+    }
+}
+
+/// The text of the file with this path, where it is one.
+fn text_of(files: &HostRuntime, path: &str) -> Option<String> {
+    let bytes = read_file(files, path, FILE_LIMIT).ok()?;
+    String::from_str(files.alloc(), str::from_utf8(&bytes).ok()?).ok()
+}
+
+/// Has the server carry out the lines of a text in turn. The first one that is none, or is refused, ends
+/// that.
+fn carry_out<R: Wait, C: Ticks>(
+    rt: &R,
+    alloc: Global,
+    server: &mut Server,
+    clock: &C,
+    text: &str,
+) -> Result<(), Fault> {
+    for (number, line) in NumberedLines::of(text.as_bytes()) {
+        let Some(line) = line_in(alloc, line)? else {
+            return Err(Fault::SetupLine(number));
+        };
+        if let Reply::Refused(refusal) = server.ask(rt, clock, line.caller, &line.request) {
+            let reply = Reply::Refused(refusal);
+            let told = ReplyText(&reply).to_string(alloc)?;
+            return Err(Fault::SetupRefused(number, told));
+        }
+    }
+    Ok(())
+}
+
+/// The request that a line spells: a principal, and the words of a request.
+fn line_in(alloc: Global, line: &[u8]) -> Result<Option<Line>, Fault> {
+    let Ok(line) = str::from_utf8(line) else {
+        return Ok(None);
+    };
+    let mut words = Vec::new(alloc);
+    for word in line.split(' ') {
+        words.push(word)?;
+    }
+    let [who, verb, words @ ..] = words.as_slice() else {
+        return Ok(None);
+    };
+    let Ok(who) = parse_principal(who) else {
+        return Ok(None);
+    };
+    let client = CLIENT;
+    Ok(
+        parse_request(alloc, verb, words).ok().map(|request| Line {
+            caller: Caller { who, client },
+            request,
+        }),
+    )
+}

@@ -1,5 +1,0 @@
-use Rattle.s4_merge.proofs.SameReplies.{tells}
-use Rattle.s4_merge.proofs.same.is_same_reply.Goals as goal
-
-pub returns : goal.returns
-returns c = rw c.eq.ensures (tells c.args.a.now c.args.b.now)

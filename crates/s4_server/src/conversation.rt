@@ -1,0 +1,108 @@
+//! A talk that goes by one login table.
+
+ghost use Rattle.std.specs.Prelude.{◌≡◌, false, IsTrue};
+ghost use Rattle.std_alloc.specs.Arc.{arc_value};
+ghost use Rattle.s4_talk.specs.Turning.{Turns, TurnsSo, is_whole, fresh_talk, scene};
+ghost use Rattle.s4_server.specs.Desks.{calls_told};
+
+use crate::clock::Ticks;
+use crate::desk::Desk;
+use crate::tables::Table;
+use s4_pool::OpenGate;
+use s4_stream::{Logins, SessionFault};
+use s4_talk::{Talking, TurnEnd};
+use std::alloc::Global;
+use std::io::{Read, Write};
+use std::sync::{Arc, Wait};
+
+/// A talk with a peer, and the login table that it goes by from its begin to its end.
+#[derive(Drop)]
+pub struct Conversation {
+    alloc: Global,
+    talking: Talking,
+    logins: Arc<Logins>,
+    /// The edition of the newest table that it has met.
+    edition: u64,
+}
+
+impl Conversation {
+    /// A conversation in which nothing was said. Takes no memory.
+    pub fn open(alloc: Global, table: Table) -> Conversation
+        ensures talk { result.talking ≡ fresh_talk }
+        ensures table { result.logins ≡ table.logins }
+    {
+        let Table { logins, edition } = table;
+        Conversation {
+            alloc,
+            talking: Talking::open(alloc),
+            logins,
+            edition,
+        }
+    }
+
+    /// Takes a turn, and answers the peer's requests at this desk.
+    pub fn turn<R: Wait, C: Ticks, I: Read, O: Write>(
+        &mut self,
+        desk: &mut Desk<'_, R, C, OpenGate>,
+        reader: &mut I,
+        writer: &mut O,
+    ) -> TurnEnd
+        // The calls that the pass gains are those that the bytes which were read ask for, each once and in order.
+        ensures turns { Turns (is_whole result) (arc_value self.old.logins)
+            (scene (I.remaining reader.old) (O.contents writer.old) (calls_told desk.old.pass.calls) self.old.talking)
+            (scene (I.remaining reader.new) (O.contents writer.new) (calls_told desk.new.pass.calls) self.new.talking) }
+        ensures so { TurnsSo result (I.remaining reader.new) self.new.talking }
+        ensures table { self.new.logins ≡ self.old.logins }
+    {
+        let Conversation {
+            talking,
+            logins,
+            ..
+        } = self;
+        talking.turn(&**logins, reader, writer, desk)
+    }
+
+    /// How many bytes wait to be written.
+    pub fn waiting(&self) -> usize {
+        self.talking.waiting()
+    }
+
+    /// Whether the peer was neither welcomed nor told a fault.
+    pub fn is_greeting(&self) -> bool {
+        self.talking.caller().is_none() && self.talking.fault().is_none()
+    }
+
+    /// Whether the peer was welcomed, and no fault ended that.
+    pub fn is_welcomed(&self) -> bool {
+        self.talking.caller().is_some()
+    }
+
+    /// The fault that ended the talk.
+    pub fn fault(&self) -> Option<SessionFault> {
+        self.talking.fault()
+    }
+
+    /// Whether it has met the table of this edition.
+    pub fn has_met(&self, edition: u64) -> bool {
+        self.edition == edition
+    }
+
+    /// Meets a newer table. Tells whether the peer may stay: where they were welcomed their secret has to
+    /// be the same there. `is_fresh` says that nothing was heard of the peer: then it begins anew, with the
+    /// newer table. One in the middle of a Hello may not stay.
+    pub fn meets(&mut self, newer: Table, is_fresh: bool) -> bool
+        // A talk in which something was heard keeps its table.
+        ensures anew { IsTrue is_fresh → self.new.talking ≡ fresh_talk }
+        ensures one_table { is_fresh ≡ false → self.new.logins ≡ self.old.logins }
+    {
+        if is_fresh {
+            *self = Conversation::open(self.alloc, newer);
+            return true;
+        }
+        self.edition = newer.edition;
+        match self.talking.caller() {
+            Some(caller) => self.logins.keeps(&newer.logins, &caller.who),
+            None => self.talking.fault().is_some(),
+        }
+    }
+}

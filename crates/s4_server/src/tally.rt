@@ -1,0 +1,56 @@
+//! What a server counts.
+
+use s4_types::{NoMemory, Reply};
+use std::alloc::Global;
+use std::sync::atomic::{AtomicU64, Ordering};
+
+/// How many numbers there are of refusals, 0 among them, which stands for all other replies.
+pub const KINDS: usize = 17;
+
+/// What the threads of a server count together.
+#[derive(Drop)]
+pub struct Tally {
+    /// The connections that were closed at once, since as many as may be were open.
+    turned_away: AtomicU64,
+    /// The replies, by the number of their refusal.
+    replies: Vec<AtomicU64>,
+}
+
+impl Tally {
+    /// Nothing was counted.
+    pub fn new(alloc: Global) -> Result<Tally, NoMemory> {
+        let mut replies = Vec::new(alloc);
+        for _ in 0..KINDS {
+            replies.push(AtomicU64::new(0))?;
+        }
+        Ok(Tally {
+            turned_away: AtomicU64::new(0),
+            replies,
+        })
+    }
+
+    /// Counts a connection that is closed at once.
+    pub fn turn_away(&self) {
+        self.turned_away.fetch_add(1, Ordering::SeqCst);
+    }
+
+    /// Counts a reply.
+    pub fn reply(&self, reply: &Reply) {
+        if let Some(count) = self.replies.get(usize::from(reply.number())) {
+            count.fetch_add(1, Ordering::SeqCst);
+        }
+    }
+
+    /// How many connections were closed at once.
+    pub fn turned_away(&self) -> u64 {
+        self.turned_away.load(Ordering::SeqCst)
+    }
+
+    /// How many replies there were with this number of a refusal.
+    pub fn replies(&self, number: usize) -> u64 {
+        match self.replies.get(number) {
+            Some(count) => count.load(Ordering::SeqCst),
+            None => 0,
+        }
+    }
+}

@@ -1,0 +1,91 @@
+//! Where a server tells of itself.
+
+ghost use Rattle.std.specs.Prelude.{◌≡◌, ◌++◌, IfOk, codes, string_bytes};
+
+use crate::clock::Ticks;
+use crate::status::Status;
+use crate::threads::Shared;
+use crate::upkeep::Upkeep;
+use std::alloc::{AllocError, Global};
+use std::sync::Wait;
+use std::sync::atomic::Ordering;
+use std::{fs, io};
+
+/// After how many milliseconds a server tells of itself again.
+const EVERY: u64 = 1000;
+
+/// How many bytes a page of memory has.
+const PAGE: u64 = 4096;
+
+/// Who tells of the server in a file.
+#[derive(Drop)]
+pub struct Telling<'a> {
+    upkeep: &'a Upkeep<'a>,
+    /// When it was last told, in milliseconds.
+    told: Option<u64>,
+    /// The last time it couldn't be told, and that was said.
+    failed: bool,
+}
+
+impl<'a> Telling<'a> {
+    /// Nothing was told.
+    pub fn new(upkeep: &'a Upkeep<'a>) -> Telling<'a> {
+        Telling {
+            upkeep,
+            told: None,
+            failed: false,
+        }
+    }
+
+    /// Tells how the server is, where there is a file for that and it is time. Where it can't, it says so on
+    /// standard error, once until it can again.
+    pub fn tell<R: Wait + Eprint, C: Ticks>(&mut self, shared: &Shared<'_, R, C>, cells: usize) {
+        let now = shared.time.load(Ordering::SeqCst);
+        let is_told = self
+            .told
+            .is_some_and(|told| now.saturating_sub(told) < EVERY);
+        let Some(path) = self.upkeep.status else {
+            return;
+        };
+        if is_told {
+            return;
+        }
+        self.told = Some(now);
+        let written = self.write(shared, cells, path);
+        if written.is_err() && !self.failed {
+            // Where this can't be written, nobody is told.
+            let _ = eprintln!(shared.rt; "s4d: cannot write {path}");
+        }
+        self.failed = written.is_err();
+    }
+
+    /// Writes how the server is into a file beside the one that is wanted, and has it take that one's place.
+    fn write<R: Wait, C: Ticks>(
+        &self,
+        shared: &Shared<'_, R, C>,
+        cells: usize,
+        path: &str,
+    ) -> io::Result<()> {
+        let alloc = shared.alloc;
+        let files = self.upkeep.files;
+        let status = Status::now(shared, cells, resident(files))?;
+        let text = serde_json::to_string(alloc, &status).map_err(|_| AllocError)?;
+        let beside = beside(alloc, path)?;
+        fs::write(files, beside.as_str(), text.as_str())?;
+        fs::rename(files, beside.as_str(), path)
+    }
+}
+
+/// The path of the file that is written before it takes the place of the one with this path.
+pub fn beside(alloc: Global, path: &str) -> Result<String, AllocError>
+    ensures { IfOk result (λ beside. string_bytes beside ≡ path.now ++ codes ".new") }
+{
+    format!(in alloc; "{path}.new")
+}
+
+/// How many bytes of memory the process has, as far as the system tells.
+fn resident(files: &HostRuntime) -> Option<u64> {
+    let text = fs::read_to_string(files, "/proc/self/statm").ok()?;
+    let pages: u64 = text.as_str().split(' ').nth(1)?.parse().ok()?;
+    pages.checked_mul(PAGE)
+}

@@ -1,0 +1,6 @@
+pub mod Logins
+pub mod LoginText
+pub mod Hello
+pub mod Stream
+pub mod Feeding
+pub mod Talk

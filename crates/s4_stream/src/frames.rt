@@ -1,0 +1,78 @@
+//! The frames that are sent for what is heard.
+
+ghost use Rattle.std.specs.Prelude.{◌≡◌, ◌+◌, ◌<◌, ◌≤◌, ◌++◌, length, IsOk, IsTrue, OnErr, OnOk};
+ghost use Rattle.s4_types.specs.Limits.{is_within_limits};
+ghost use Rattle.s4_codec.specs.Frames.{frame_limit, framed};
+ghost use Rattle.s4_codec.specs.Replies.{has_body};
+ghost use Rattle.s4_stream.specs.Talk.{welcome, fault_frame, reply_frame};
+
+use crate::event::SessionFault;
+use crate::hello::VERSION;
+use byteorder::{BigEndian, ByteOrder};
+use bytes::BytesMut;
+use s4_codec::{FRAME_LIMIT, WriteError, write_reply};
+use s4_types::{NoMemory, Reply};
+use std::alloc::AllocError;
+
+/// The kind of the body that answers a good Hello.
+pub const WELCOME: u8 = 16;
+
+/// The kind of the body that tells a fault.
+pub const FAULT: u8 = 17;
+
+/// Makes room for the greatest frame, behind the bytes that are there.
+pub fn reserve_frame(out: &mut BytesMut) -> Result<(), NoMemory>
+    ensures bytes { out.new.items ≡ out.old.items }
+    ensures room { OnOk result (frame_limit + 4 ≤ out.new.spare) }
+{
+    out.reserve(FRAME_LIMIT + 4)
+}
+
+/// Adds the frame of a body, or nothing where there is no memory. A body has a byte at least, since
+/// no frame is empty. In room for the greatest frame it takes no memory.
+pub fn add_frame(out: &mut BytesMut, body: &[u8]) -> Result<(), NoMemory>
+    requires some { 0 < length body.now }
+    requires limit { length body.now ≤ frame_limit }
+    ensures added { OnOk result (out.new.items ≡ out.old.items ++ framed body.now) }
+    ensures none { OnErr result (out.new.items ≡ out.old.items) }
+    ensures room { frame_limit + 4 ≤ out.old.spare → IsOk result }
+{
+    out.reserve(body.len() + 4)?;
+    let mut length = [0; 4];
+    BigEndian::write_u32(&mut length, body.len() as u32);
+    out.extend_reserved(&length);
+    out.extend_reserved(body);
+    Ok(())
+}
+
+/// Adds the frame that answers a good Hello.
+pub fn add_welcome(out: &mut BytesMut) -> Result<(), NoMemory>
+    ensures added { OnOk result (out.new.items ≡ out.old.items ++ welcome) }
+    ensures none { OnErr result (out.new.items ≡ out.old.items) }
+    ensures room { frame_limit + 4 ≤ out.old.spare → IsOk result }
+{
+    add_frame(out, &[WELCOME, VERSION])
+}
+
+/// Adds the frame that tells a fault.
+pub fn add_fault(out: &mut BytesMut, fault: SessionFault) -> Result<(), NoMemory>
+    ensures added { OnOk result (out.new.items ≡ out.old.items ++ fault_frame fault) }
+    ensures none { OnErr result (out.new.items ≡ out.old.items) }
+    ensures room { frame_limit + 4 ≤ out.old.spare → IsOk result }
+{
+    add_frame(out, &[FAULT, fault.number()])
+}
+
+/// Adds the frame of a reply that is within the limits of a drive, so it is never too big for one.
+pub fn add_reply(out: &mut BytesMut, reply: &Reply) -> Result<(), NoMemory>
+    requires { IsTrue (is_within_limits reply.now) }
+    ensures added { OnOk result (out.new.items ≡ out.old.items ++ reply_frame reply.now) }
+    ensures none { OnErr result (out.new.items ≡ out.old.items) }
+    ensures body { OnOk result (IsTrue (has_body reply.now)) }
+{
+    match write_reply(*out.allocator(), reply) {
+        Ok(body) => add_frame(out, body.as_slice()),
+        Err(WriteError::NoMemory) => Err(AllocError),
+        Err(WriteError::TooBig) => unreachable!(),
+    }
+}

@@ -1,0 +1,238 @@
+//! What a connection's bytes say, however they are cut.
+
+ghost use Rattle.std.specs.Prelude.{◌≡◌, ◌≤◌, ◌↔◌, length, drop, [], IfOk, IsErrOf, OnOk, OnErr};
+ghost use Rattle.s4_stream.specs.Hello.{greeted, hello_in};
+ghost use Rattle.s4_stream.specs.Stream.{caller_at, said, state_after, hear};
+ghost use Rattle.s4_stream.specs.Feeding.{HearsOne, heard_so_far, hear_piece, left_by};
+ghost use Rattle.s4_stream.specs.declared.event.SessionState.TheVariants as states;
+ghost use Rattle.s4_stream.specs.declared.session.FeedError.TheVariants as feed_error;
+
+use crate::event::{Event, SessionFault, SessionState};
+use crate::hello::read_hello;
+use crate::logins::Logins;
+use bytes::BytesMut;
+use s4_codec::{FRAME_LIMIT, Front, ReadError, read_frame, read_request};
+use s4_types::{Caller, NoMemory};
+use std::alloc::{AllocError, Global};
+use std::marker::Model;
+
+/// Why a piece was not taken.
+#[derive(Clone, Copy, Debug, PartialEq, Eq)]
+pub enum FeedError {
+    /// A fault ended the session.
+    Closed,
+    /// A growth was refused, and the session is as it was.
+    NoMemory,
+}
+
+/// One connection: where it stands, and the bytes of the frame that isn't whole yet.
+#[derive(Drop)]
+pub struct Session {
+    alloc: Global,
+    state: SessionState,
+    pending: BytesMut,
+}
+
+impl Model for Session {
+    ghost use Rattle.s4_stream.specs.Feeding.{Listening};
+
+    ghost Value = { Listening };
+
+    ghost view = { λ s. record { state = s.state; pending = s.pending.items } };
+
+    ghost use Rattle.std.specs.Prelude.{◌≡◌, []};
+    ghost use Rattle.s4_stream.specs.declared.event.SessionState.TheVariants as states;
+
+    ghost invariant = { λ s. s.state ≡ states.Closed → s.pending.items ≡ [] };
+}
+
+impl Session {
+    /// A connection on which nothing came yet. Takes no memory.
+    pub fn open(alloc: Global) -> Session
+        ensures { result ≡ record { state = states.Greeting; pending = [] } }
+    {
+        Session {
+            alloc,
+            state: SessionState::Greeting,
+            pending: BytesMut::new(alloc),
+        }
+    }
+
+    /// Hears a piece: what is held, followed by the piece, says the events, and what is left of it
+    /// is held. The cost is in the bytes of the piece and of the frames that it makes whole.
+    pub fn feed(&mut self, logins: &Logins, piece: &[u8]) -> Result<Vec<Event>, FeedError>
+        // The events, where the connection stands then and what is held are the definition's.
+        ensures events { IfOk result (λ events. hear_piece logins.now self.old piece.now
+            ≡ heard_so_far events.items self.new.state self.new.pending) }
+        // After a fault nothing is heard.
+        ensures closed { IsErrOf result feed_error.Closed ↔ (self.old.state ≡ states.Closed) }
+        ensures err { OnErr result (self.new ≡ self.old) }
+    {
+        if matches!(&self.state, SessionState::Closed) {
+            return Err(FeedError::Closed);
+        }
+        let before = self.pending.len();
+        if self.pending.extend_from_slice(piece).is_err() {
+            return Err(FeedError::NoMemory);
+        }
+        match hear_all(self.alloc, logins, &self.state, self.pending.as_slice()) {
+            Ok(hearing) => {
+                let Hearing {
+                    events,
+                    state,
+                    count,
+                } = hearing;
+                self.state = state;
+                self.pending.advance(count);
+                Ok(events)
+            }
+            Err(_) => {
+                self.pending.truncate(before);
+                Err(FeedError::NoMemory)
+            }
+        }
+    }
+}
+
+impl Session {
+    /// Who calls on this connection, after a good Hello and up to a fault.
+    pub fn caller(&self) -> Option<Caller>
+        ensures { result ≡ caller_at self.now.state }
+    {
+        match &self.state {
+            SessionState::Open(caller) => Some(*caller),
+            SessionState::Greeting | SessionState::Closed => None,
+        }
+    }
+
+    /// The same as `feed`, but after a fault a piece says nothing.
+    pub fn hear(&mut self, logins: &Logins, piece: &[u8]) -> Result<Vec<Event>, NoMemory>
+        ensures events { IfOk result (λ events. events.items ≡ (hear_piece logins.now self.old piece.now).events) }
+        ensures session { OnOk result (self.new ≡ left_by (hear_piece logins.now self.old piece.now)) }
+    {
+        match self.feed(logins, piece) {
+            Ok(events) => Ok(events),
+            Err(FeedError::Closed) => Ok(Vec::new(self.alloc)),
+            Err(FeedError::NoMemory) => Err(AllocError),
+        }
+    }
+}
+
+/// What was heard so far of bytes, and how many of them.
+#[derive(Drop)]
+struct Hearing {
+    events: Vec<Event>,
+    state: SessionState,
+    count: usize,
+}
+
+/// Hears all whole frames.
+fn hear_all(
+    alloc: Global,
+    logins: &Logins,
+    state: &SessionState,
+    bytes: &[u8],
+) -> Result<Hearing, NoMemory>
+    requires { state.now ≡ states.Closed → ⊥ }
+    ensures within { IfOk result (λ h. h.count ≤ length bytes.now) }
+    ensures heard { IfOk result (λ h. hear logins.now state.now bytes.now ≡ heard_so_far h.events.items h.state (drop h.count bytes.now)) }
+{
+    let mut hearing = Hearing {
+        events: Vec::new(alloc),
+        state: *state,
+        count: 0,
+    };
+    for _ in 0..bytes.len() {
+        if !hear_frame(alloc, logins, bytes, &mut hearing)? {
+            return Ok(hearing);
+        }
+    }
+    Ok(hearing)
+}
+
+/// Hears the next frame, if a whole one or a wrong length stands there, and tells whether there may
+/// be more.
+fn hear_frame(
+    alloc: Global,
+    logins: &Logins,
+    bytes: &[u8],
+    hearing: &mut Hearing,
+) -> Result<bool, NoMemory>
+    requires live { hearing.old.state ≡ states.Closed → ⊥ }
+    requires within { hearing.old.count ≤ length bytes.now }
+    ensures within { IfOk result (λ more. hearing.new.count ≤ length bytes.now) }
+    ensures heard { IfOk result (λ more. HearsOne more logins.now
+        (heard_so_far hearing.old.events.items hearing.old.state (drop hearing.old.count bytes.now))
+        (heard_so_far hearing.new.events.items hearing.new.state (drop hearing.new.count bytes.now))) }
+{
+    match read_frame(FRAME_LIMIT, &bytes[hearing.count..]) {
+        Front::Whole { body, rest } => {
+            let event = said(alloc, logins, &hearing.state, body)?;
+            let state = state_after(&event);
+            let ends = matches!(&state, SessionState::Closed);
+            hearing.events.push(event)?;
+            hearing.state = state;
+            if ends {
+                hearing.count = bytes.len();
+                return Ok(false);
+            }
+            hearing.count = bytes.len() - rest.len();
+            Ok(true)
+        }
+        Front::Part => Ok(false),
+        Front::BadLength => {
+            hearing
+                .events
+                .push(Event::Fault(SessionFault::FrameLength))?;
+            hearing.state = SessionState::Closed;
+            hearing.count = bytes.len();
+            Ok(false)
+        }
+    }
+}
+
+/// What a whole body says.
+fn said(
+    alloc: Global,
+    logins: &Logins,
+    state: &SessionState,
+    body: &[u8],
+) -> Result<Event, NoMemory>
+    ensures { IfOk result (λ event. event ≡ said logins.now state.now body.now) }
+{
+    match state {
+        SessionState::Open(caller) => match read_request(alloc, body) {
+            Ok(request) => Ok(Event::Request(*caller, request)),
+            Err(ReadError::Malformed) => Ok(Event::Fault(SessionFault::Malformed)),
+            Err(ReadError::NoMemory) => Err(AllocError),
+        },
+        _ => Ok(greeted(logins, body)),
+    }
+}
+
+/// What a first body says.
+fn greeted(logins: &Logins, body: &[u8]) -> Event
+    ensures { result ≡ greeted logins.now (hello_in body.now) }
+{
+    match read_hello(body) {
+        Some(hello) => {
+            if logins.accepts(&hello.caller.who, &hello.secret) {
+                Event::Welcome(hello.caller)
+            } else {
+                Event::Fault(SessionFault::BadLogin)
+            }
+        }
+        None => Event::Fault(SessionFault::Malformed),
+    }
+}
+
+/// Where an event leaves the connection.
+fn state_after(event: &Event) -> SessionState
+    ensures { result ≡ state_after event.now }
+{
+    match event {
+        Event::Welcome(caller) => SessionState::Open(*caller),
+        Event::Request(caller, _) => SessionState::Open(*caller),
+        Event::Fault(_) => SessionState::Closed,
+    }
+}
