@@ -2,6 +2,7 @@
 use Rattle.std.proofs.Common.{◌≡◌, ℕ, Bool, true, false, Option, Some, None, List, [], ◌∷◌, ◌++◌, refl, sym, ◌∙◌, ap, fold}
 use Rattle.std.specs.Prelude.{not, ◌==◌, ◌&&◌, ◌||◌, nat_le, map, is_some, if◌then◌else◌}
 use Rattle.std.specs.List.{list_all}
+use Rattle.s4_types.specs.declared.principal.WireVersion.{WireVersion}
 use Rattle.s4_types.specs.declared.object.ObjectId.{ObjectId}
 use Rattle.s4_types.specs.declared.acl.AclEntry.{AclEntry}
 use Rattle.s4_types.specs.declared.principal.Caller.{Caller}
@@ -175,7 +176,7 @@ module _ {V : Type 0} (track : Track V) (o : ObjectId) where
             ∙ no-effect r.moment (versions base track o h)
       ])
 
-  module _ (base : Base) (h : List Record) (m client from to : ℕ) where
+  module _ (base : Base) (h : List Record) (m client : ℕ) (version : WireVersion) (from to : ℕ) where
     abbrev the_span : Span
     the_span = record { from = from; to = to }
 
@@ -184,9 +185,9 @@ module _ {V : Type 0} (track : Track V) (o : ObjectId) where
 
     -- a flush of all objects
     pub versions-flush : ((old : V) → track.effect o (Flush from to) old ≡ None)
-        → versions base track o (h ++ done_by (record { who = 0; client = client }) (Flush from to) ∷ []) ≡ flushed_by (Some the_span) track.is_flushed (versions base track o h)
+        → versions base track o (h ++ done_by (record { who = 0; client = client; version = version }) (Flush from to) ∷ []) ≡ flushed_by (Some the_span) track.is_flushed (versions base track o h)
     versions-flush none =
-        versions-snoc base track o h (done_by (record { who = 0; client = client }) (Flush from to))
+        versions-snoc base track o h (done_by (record { who = 0; client = client; version = version }) (Flush from to))
         ∙ ap (λ effect. flushed_by (Some the_span) track.is_flushed (with_effect m effect (versions base track o h))) (λ i old. none old i)
         ∙ ap (flushed_by (Some the_span) track.is_flushed) (no-effect m (versions base track o h))
 

@@ -1,6 +1,6 @@
 -- What a reply that is no refusal tells of the tests before it, and that no answer is want of memory.
 use Rattle.std.proofs.Common.{◌≡◌, ℕ, Bool, true, false, not, Option, Some, None, List, refl, sym, ◌∙◌, ap}
-use Rattle.std.specs.Prelude.{Result, Ok, Err, nat_le, nat_lt, ◌+◌, length, ◌==◌, ◌&&◌, cond, is_ok, is_some, take, drop, slice_get}
+use Rattle.std.specs.Prelude.{Result, Ok, Err, nat_le, nat_lt, ◌+◌, length, min, ◌==◌, ◌&&◌, cond, is_ok, is_some, take, drop, slice_get}
 use Rattle.s4_types.specs.declared.principal.Caller.{Caller}
 use Rattle.s4_types.specs.declared.object.Purse.{Purse}
 use Rattle.s4_types.specs.declared.object.ObjectId.{ObjectId}
@@ -19,12 +19,13 @@ use Rattle.s4_types.specs.declared.reply.Reply.TheVariants.{Done, Made, Data, At
 use Rattle.s4_types.specs.declared.record.Record.{Record}
 use Rattle.s4_types.specs.Rights.{has}
 use Rattle.s4_types.specs.Kinds.{is_refused, at_of, purse_of}
-use Rattle.s4_types.specs.Judgement.{Held, Found, judge, judge_now, judge_past, judge_by_entry, judge_past_by_entry, needs_control, entry_of, held_at, may_know}
+use Rattle.s4_types.specs.Judgement.{Held, Found, judge, judge_now, judge_past, judge_by_entry, judge_past_by_entry, needs_control, entry_of, asked_entry, held_at, may_know}
 use Rattle.s4_types.specs.Outcome.{◌>>=◌, ◌>>◌, refuse_if, reply_of}
 use Rattle.s4_types.specs.Base.{Base}
 use Rattle.s4_types.specs.Horizon.{horizon_at}
 use Rattle.s4_types.specs.Spending.{spent_at, budget_of}
 use Rattle.s4_types.specs.Acl.{names}
+use Rattle.s4_types.specs.Limits.{data_limit}
 use Rattle.s4_types.specs.Versions.{value_at, data_track, attribute_track}
 use Rattle.s4_types.specs.Answer.{answer, outcome, outcome_by_kind, affordable, charge_of, timely, moment_of, is_gone, data_of, attributes_of, acl_of, entry_by_user, entry_by_index, settable, found_bound, administered, flushed}
 use Rattle.s4_types.specs.Serials.{drawn}
@@ -81,7 +82,7 @@ plain-past held (Some found) =
 
 plain-judge_past : (caller : Caller) (o : ObjectId) (held : Option Held) → is_plain (judge_past caller o held) ≡ true
 plain-judge_past caller o None = plain-absent right.Read (may_know caller o.purse.creator)
-plain-judge_past caller o (Some held) = plain-either (caller.who == 0) (Ok grant.Admin) (judge_past_by_entry held (entry_of caller.who held.acl)) refl (plain-past held (entry_of caller.who held.acl))
+plain-judge_past caller o (Some held) = plain-either (caller.who == 0) (Ok grant.Admin) (judge_past_by_entry held (asked_entry caller.who held.acl)) refl (plain-past held (asked_entry caller.who held.acl))
 
 plain-timely : (horizon t : ℕ) (at : Option ℕ) → is_plain (timely horizon t at) ≡ true
 plain-timely horizon t None = refl
@@ -95,10 +96,10 @@ plain-timely horizon t (Some m) = of (nat_lt t m) (nat_lt m horizon)
 plain-judge_now : (caller : Caller) (o : ObjectId) (needed : Right) (held : Option Held) → is_plain (judge_now caller o needed held) ≡ true
 plain-judge_now caller o needed None = plain-absent needed (may_know caller o.purse.creator)
 plain-judge_now caller o needed (Some held) =
-    let by_entry : Result Grant Refusal = judge_by_entry held needed (entry_of caller.who held.acl) in
+    let by_entry : Result Grant Refusal = judge_by_entry held needed (asked_entry caller.who held.acl) in
     let owns : Bool = needs_control needed && (caller.who == o.purse.creator) in
     plain-either (caller.who == 0) (Ok grant.Admin) (cond owns (Ok grant.Owner) by_entry) refl
-    (plain-either owns (Ok grant.Owner) by_entry refl (plain-entry held needed (entry_of caller.who held.acl)))
+    (plain-either owns (Ok grant.Owner) by_entry refl (plain-entry held needed (asked_entry caller.who held.acl)))
 
 plain-judge : (base : Base) (h : List Record) (t : ℕ) (caller : Caller) (o : ObjectId) (needed : Right) (at : Option ℕ) → is_plain (judge base h t caller o needed at) ≡ true
 plain-judge base h t caller o needed None = plain-judge_now caller o needed (held_at base o t h)
@@ -161,18 +162,18 @@ told-by-kind base h t caller (Delete o) =
     (told-test (has_name base o t h) Named (Ok Done) refl refl)
 told-by-kind base h t caller (Read o offset length at) =
     let gone : Bool = is_gone (value_at base data_track o (moment_of t at) h) in
-    let last : Grant → Result Reply Refusal = λ g. Ok (Data g (take length (drop offset (data_of base o (moment_of t at) h)))) in
+    let last : Grant → Result Reply Refusal = λ g. Ok (Data g (take (min length (data_limit caller.version)) (drop offset (data_of base o (moment_of t at) h)))) in
     told-bind (judge base h t caller o right.Read at) (λ g. refuse_if gone Flushed >> last g) (plain-judge base h t caller o right.Read at)
     (λ g. told-test gone Flushed (last g) refl refl)
 told-by-kind base h t caller (Write o offset bytes) =
-    told-test (nat_lt 4096 (offset + length bytes)) TooLong (judge base h t caller o right.Write None >> Ok Done) refl
+    told-test (nat_lt (data_limit caller.version) (offset + length bytes)) TooLong (judge base h t caller o right.Write None >> Ok Done) refl
     (told-then (judge base h t caller o right.Write None) (Ok Done) (plain-judge base h t caller o right.Write None) refl)
 told-by-kind base h t caller (Append o bytes) =
-    told-test (nat_lt 4096 (length bytes)) TooLong (judge base h t caller o right.Write None >> (refuse_if (nat_lt 4096 (length (data_of base o t h) + length bytes)) TooLong >> Ok Done)) refl
-    (told-then (judge base h t caller o right.Write None) (refuse_if (nat_lt 4096 (length (data_of base o t h) + length bytes)) TooLong >> Ok Done) (plain-judge base h t caller o right.Write None)
-    (told-test (nat_lt 4096 (length (data_of base o t h) + length bytes)) TooLong (Ok Done) refl refl))
+    told-test (nat_lt (data_limit caller.version) (length bytes)) TooLong (judge base h t caller o right.Write None >> (refuse_if (nat_lt (data_limit caller.version) (length (data_of base o t h) + length bytes)) TooLong >> Ok Done)) refl
+    (told-then (judge base h t caller o right.Write None) (refuse_if (nat_lt (data_limit caller.version) (length (data_of base o t h) + length bytes)) TooLong >> Ok Done) (plain-judge base h t caller o right.Write None)
+    (told-test (nat_lt (data_limit caller.version) (length (data_of base o t h) + length bytes)) TooLong (Ok Done) refl refl))
 told-by-kind base h t caller (Truncate o length) =
-    told-test (nat_lt 4096 length) TooLong (judge base h t caller o right.Write None >> Ok Done) refl
+    told-test (nat_lt (data_limit caller.version) length) TooLong (judge base h t caller o right.Write None >> Ok Done) refl
     (told-then (judge base h t caller o right.Write None) (Ok Done) (plain-judge base h t caller o right.Write None) refl)
 told-by-kind base h t caller (GetAttr o at) =
     let gone : Bool = is_gone (value_at base attribute_track o (moment_of t at) h) in

@@ -1,12 +1,19 @@
--- What every reply of the drive keeps to, so that it has a spelling in a frame.
-use Rattle.std.specs.Prelude.{Bool, true, false, nat_le, nat_lt, ◌&&◌, length}
+-- How much data a request may name, and what every reply of the drive keeps to, so that it has a spelling in a frame.
+use Rattle.std.specs.Prelude.{ℕ, Bool, true, false, nat_le, nat_lt, ◌&&◌, length}
 use Rattle.std.specs.List.{list_all}
+use Rattle.s4_types.specs.declared.principal.WireVersion.{WireVersion}
+use Rattle.s4_types.specs.declared.principal.WireVersion.TheVariants.{One, Two}
 use Rattle.s4_types.specs.declared.reply.Grant.{Grant}
 use Rattle.s4_types.specs.declared.reply.Grant.TheVariants as grants
 use Rattle.s4_types.specs.declared.reply.NameLine.{NameLine}
 use Rattle.s4_types.specs.declared.audit.AuditLine.{AuditLine}
 use Rattle.s4_types.specs.declared.reply.Reply.{Reply}
 use Rattle.s4_types.specs.declared.reply.Reply.TheVariants.{Data, Attr, Entry, Mounted, Names, Audit}
+
+-- the most bytes that an object's data may have after a request of that version, and that a read of it gives
+abbrev pub data_limit : WireVersion → ℕ
+data_limit One = 4096
+data_limit Two = 65536
 
 -- the administrator's grant, or that of one of the at most 16 entries of an ACL
 abbrev pub is_shown_grant : Grant → Bool
@@ -22,12 +29,12 @@ is_page_line line = is_shown_grant line.grant
 abbrev pub is_audit_line : AuditLine → Bool
 is_audit_line line = (nat_lt 0 line.code && nat_le line.code 20) && nat_lt line.reply 16
 
--- At most 4096 bytes of data, 256 of attributes, 64 partitions and 32 lines of an audit, and an entry that gives some right.
-abbrev pub is_within_limits : Reply → Bool
-is_within_limits (Data grant bytes) = is_shown_grant grant && nat_le (length bytes) 4096
-is_within_limits (Attr grant bytes) = is_shown_grant grant && nat_le (length bytes) 256
-is_within_limits (Entry grant index user rights) = is_shown_grant grant && (nat_lt index 16 && nat_lt 0 rights)
-is_within_limits (Mounted grant o) = is_shown_grant grant
-is_within_limits (Names lines more) = nat_le (length lines) 64 && list_all is_page_line lines
-is_within_limits (Audit lines more) = nat_le (length lines) 32 && list_all is_audit_line lines
-is_within_limits _ = true
+-- At most so much data as the version has, 256 bytes of attributes, 64 partitions and 32 lines of an audit, and an entry that gives some right.
+abbrev pub is_within_limits : WireVersion → Reply → Bool
+is_within_limits version (Data grant bytes) = is_shown_grant grant && nat_le (length bytes) (data_limit version)
+is_within_limits version (Attr grant bytes) = is_shown_grant grant && nat_le (length bytes) 256
+is_within_limits version (Entry grant index user rights) = is_shown_grant grant && (nat_lt index 16 && nat_lt 0 rights)
+is_within_limits version (Mounted grant o) = is_shown_grant grant
+is_within_limits version (Names lines more) = nat_le (length lines) 64 && list_all is_page_line lines
+is_within_limits version (Audit lines more) = nat_le (length lines) 32 && list_all is_audit_line lines
+is_within_limits version _ = true
