@@ -23,7 +23,7 @@ pub fn wide(cells: &mut [Cell], moment: Moment, caller: Caller, request: &Reques
     ensures adds { is_no_memory result ≡ false
         → AllAdd (record { moment = moment; caller = caller; request = request.now; reply = result }) cells.old cells.new }
     ensures refused { is_no_memory result ≡ true → AllStay cells.old cells.new }
-    ensures limits { IsTrue (is_within_limits result) }
+    ensures limits { IsTrue (is_within_limits caller.version result) }
 {
     match wide_with_copy(cells, moment, caller, request) {
         Ok(told) => told.reply,
@@ -47,7 +47,7 @@ pub fn wide_with_copy(
     ensures adds { IfOk result (λ told.
         AllAdd (record { moment = moment; caller = caller; request = request.now; reply = told.reply }) cells.old cells.new) }
     ensures refused { OnErr result (AllStay cells.old cells.new) }
-    ensures limits { IfOk result (λ told. IsTrue (is_within_limits told.reply)) }
+    ensures limits { IfOk result (λ told. IsTrue (is_within_limits caller.version told.reply)) }
 {
     make_ready(cells, request)?;
     Ok(step_all(cells, moment, caller, request))
@@ -73,7 +73,7 @@ fn step_all(cells: &mut [Cell], moment: Moment, caller: Caller, request: &Reques
     ensures reply { result.reply ≡ (wide_record moment caller request.now).reply }
     ensures copy { result.copy ≡ result.reply }
     ensures adds { AllAdd (wide_record moment caller request.now) cells.old cells.new }
-    ensures limits { IsTrue (is_within_limits result.reply) }
+    ensures limits { IsTrue (is_within_limits caller.version result.reply) }
 {
     let mut told = Answered {
         reply: Reply::Done,

@@ -2,13 +2,18 @@
 
 use s4_types::{
     Bytes, Caller, Grant, Moment, ObjectId, Principal, Purse, PurseNo, Reply, Request, Serial,
+    WireVersion,
 };
 use std::alloc::Global;
 use std::test::Fail;
 
 pub fn caller(who: u32) -> Result<Caller, Fail> {
     let who = Principal::new(who).ok_or("a principal")?;
-    Ok(Caller { who, client: 3 })
+    Ok(Caller {
+        who,
+        client: 3,
+        version: WireVersion::One,
+    })
 }
 
 // The first object of principal 7's purse 0.

@@ -8,4 +8,3 @@ pub mod Following
 pub mod Carried
 pub mod Isolated
 pub mod CutLimits
-pub mod Ready

@@ -9,7 +9,7 @@ ghost use Rattle.s4_state.specs.Told.{IsTold};
 use s4_acl::{by_index, entry_of, set};
 use s4_state::State;
 use s4_store::Store;
-use s4_types::{Caller, Moment, ObjectId, Principal, Refusal, Reply, Right, Rights, Version};
+use s4_types::{Caller, Moment, ObjectId, Refusal, Reply, Right, Rights, User, Version};
 
 /// The outcome of a GetAclByUser.
 pub fn by_user_outcome<S: Store<Version>>(
@@ -17,7 +17,7 @@ pub fn by_user_outcome<S: Store<Version>>(
     moment: Moment,
     caller: Caller,
     object: &ObjectId,
-    user: Principal,
+    user: User,
     at: &Option<Moment>,
 ) -> Result<Reply, Refusal>
     requires later { last_of state.now.history ≤ moment }
@@ -67,7 +67,7 @@ pub fn set_outcome<S: Store<Version>>(
     moment: Moment,
     caller: Caller,
     object: &ObjectId,
-    user: Principal,
+    user: User,
     rights: Rights,
 ) -> Result<Reply, Refusal>
     requires later { last_of state.now.history ≤ moment }

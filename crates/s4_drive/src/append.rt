@@ -7,7 +7,7 @@ ghost use Rattle.s4_types.specs.Log.{base_of};
 
 use s4_state::State;
 use s4_store::Store;
-use s4_types::{Bytes, Caller, Moment, ObjectId, Refusal, Reply, Request, Right, Version};
+use s4_types::{Bytes, Caller, Moment, ObjectId, Refusal, Reply, Right, Version};
 
 /// The outcome of an Append.
 pub fn outcome<S: Store<Version>>(
@@ -20,7 +20,7 @@ pub fn outcome<S: Store<Version>>(
     requires later { last_of state.now.history ≤ moment }
     ensures { result ≡ data_appended (base_of state.now) state.now.history moment caller object.now bytes.now }
 {
-    let limit = Request::DATA_LIMIT as usize;
+    let limit = caller.version.data_limit() as usize;
     let more = bytes.len();
     if more > limit {
         return Err(Refusal::TooLong);

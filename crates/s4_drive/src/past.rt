@@ -31,7 +31,7 @@ impl Past {
     pub fn of<S: Store<Version>>(state: &State<S>, request: &Request) -> Past
         ensures value { (t : ℕ) → last_of state.now.history ≤ t
             → costs_of result ≡ made_past (base_of state.now) state.now.history t request.now }
-        ensures small { sum (costs_of result) ≤ 4800 }
+        ensures small { sum (costs_of result) ≤ 66240 }
         ensures positive { ArePositive (costs_of result) }
     {
         match request {
@@ -63,7 +63,7 @@ impl Past {
 
     /// The sum of the costs: the request's charge, in bytes.
     pub fn charge(self) -> u32
-        requires { sum (costs_of self) ≤ 4800 }
+        requires { sum (costs_of self) ≤ 66240 }
         ensures { result ≡ sum (costs_of self) }
     {
         match self {

@@ -29,7 +29,7 @@ pub struct Range {
     pub at: Option<Moment>,
 }
 
-/// The outcome of a Read.
+/// The outcome of a Read, which gives no more than the caller's version has.
 pub fn outcome<S: Store<Version>>(
     alloc: Global,
     state: &State<S>,
@@ -43,9 +43,10 @@ pub fn outcome<S: Store<Version>>(
     ensures { IsOutcome result (data_read (base_of state.now) state.now.history moment caller object.now
         range.offset range.length range.at) }
 {
+    let length = range.length.min(caller.version.data_limit());
     let grant = state.judge(caller, object, Right::Read, range.at)?;
     let data = state.data(object, range.at).ok_or(Refusal::Flushed)?;
-    let bytes = copied(alloc, bytes_in_range(data, range.offset, range.length))?;
+    let bytes = copied(alloc, bytes_in_range(data, range.offset, length))?;
     Ok(Reply::Data { grant, bytes })
 }
 

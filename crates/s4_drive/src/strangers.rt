@@ -7,7 +7,7 @@ ghost use Rattle.s4_types.specs.Kinds.{is_that, is_wide, purse_of};
 ghost use Rattle.s4_types.specs.Strike.{names_in, is_near, is_elsewhere, is_strangers, stays, strike as struck};
 ghost use Rattle.s4_drive.specs.Near.{IsNearIn, has};
 
-use s4_types::{Caller, NoMemory, Principal, Purse, Request, Step};
+use s4_types::{Caller, NoMemory, Principal, Purse, Request, Step, User};
 use std::alloc::Global;
 use std::collections::BTreeSet;
 
@@ -29,7 +29,7 @@ pub fn strike(alloc: Global, who: Principal, steps: &[Step]) -> Result<Vec<Step>
 }
 
 /// A principal and the purses that are near it in the steps seen so far: its own, and those where
-/// others asked to change its entry in an ACL.
+/// others asked to change its entry in an ACL, or that for everyone.
 #[derive(Drop)]
 pub struct Near {
     who: Principal,
@@ -106,12 +106,12 @@ impl Near {
     fn has(&self, purse: &Purse) -> bool
         ensures { result ≡ has self.now purse.now }
     {
-        purse.creator == self.who || self.named.contains(purse)
+        User::of(purse.creator).reaches(self.who) || self.named.contains(purse)
     }
 }
 
-/// The purse in which the step asks to change the principal's entry in an object's ACL, where another
-/// asks that.
+/// The purse in which the step asks to change an entry that can serve the principal in an object's
+/// ACL, where another asks that.
 fn purse_naming(who: Principal, step: &Step) -> Option<Purse>
     ensures { (purse : Purse) → is_that purse result ≡ names_in who purse step.now }
 {
@@ -126,7 +126,7 @@ fn purse_naming(who: Principal, step: &Step) -> Option<Purse>
     let Request::SetAcl { object, user, .. } = request else {
         return None;
     };
-    if caller.who != who && *user == who {
+    if caller.who != who && user.reaches(who) {
         Some(object.purse)
     } else {
         None

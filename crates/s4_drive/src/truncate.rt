@@ -7,7 +7,7 @@ ghost use Rattle.s4_types.specs.Log.{base_of};
 
 use s4_state::State;
 use s4_store::Store;
-use s4_types::{Caller, Moment, ObjectId, Refusal, Reply, Request, Right, Version};
+use s4_types::{Caller, Moment, ObjectId, Refusal, Reply, Right, Version};
 
 /// The outcome of a Truncate.
 pub fn outcome<S: Store<Version>>(
@@ -20,7 +20,7 @@ pub fn outcome<S: Store<Version>>(
     requires later { last_of state.now.history ≤ moment }
     ensures { result ≡ data_truncated (base_of state.now) state.now.history moment caller object.now length }
 {
-    if length > Request::DATA_LIMIT {
+    if length > caller.version.data_limit() {
         return Err(Refusal::TooLong);
     }
     state.judge(caller, object, Right::Write, None)?;

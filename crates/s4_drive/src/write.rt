@@ -7,7 +7,7 @@ ghost use Rattle.s4_types.specs.Log.{base_of};
 
 use s4_state::State;
 use s4_store::Store;
-use s4_types::{Bytes, Caller, Moment, ObjectId, Refusal, Reply, Request, Right, Version};
+use s4_types::{Bytes, Caller, Moment, ObjectId, Refusal, Reply, Right, Version};
 
 /// The outcome of a Write.
 pub fn outcome<S: Store<Version>>(
@@ -21,7 +21,7 @@ pub fn outcome<S: Store<Version>>(
     requires later { last_of state.now.history ≤ moment }
     ensures { result ≡ data_written (base_of state.now) state.now.history moment caller object.now offset bytes.now }
 {
-    let limit = Request::DATA_LIMIT as usize;
+    let limit = caller.version.data_limit() as usize;
     if bytes.len() > limit.saturating_sub(offset as usize) || offset as usize > limit {
         return Err(Refusal::TooLong);
     }

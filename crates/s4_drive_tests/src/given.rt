@@ -1,12 +1,16 @@
 //! What many tests begin with.
 
-use s4_types::{Bytes, Caller, ObjectId, Principal, Purse, PurseNo, Serial};
+use s4_types::{Bytes, Caller, ObjectId, Principal, Purse, PurseNo, Serial, WireVersion};
 use std::alloc::Global;
 use std::test::Fail;
 
 pub fn caller(who: u32) -> Result<Caller, Fail> {
     let who = Principal::new(who).ok_or("a principal")?;
-    Ok(Caller { who, client: 3 })
+    Ok(Caller {
+        who,
+        client: 3,
+        version: WireVersion::One,
+    })
 }
 
 pub fn object(creator: u32, number: u8, serial: u16) -> Result<ObjectId, Fail> {

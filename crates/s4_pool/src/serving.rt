@@ -25,7 +25,7 @@ pub fn serve_one(
 ) -> Result<Reply, NoMemory>
     requires ordinary { is_wide caller request.now ≡ false }
     ensures told { IfOk result (λ reply. is_no_memory reply ≡ false) }
-    ensures limits { IfOk result (λ reply. IsTrue (is_within_limits reply)) }
+    ensures limits { IfOk result (λ reply. IsTrue (is_within_limits caller.version reply)) }
     ensures pass { IfOk result (λ reply. Serves pass.old pass.new caller clock request.now reply) }
     ensures cell { IfOk result (λ reply. Adds number cell.old.history cell.new.history pass.old pass.new) }
     ensures idle { OnErr result (IsIdle pass.old pass.new) }
@@ -64,7 +64,7 @@ pub fn serve_all(
     requires some { 0 < length cells.old }
     requires wide { is_wide caller request.now ≡ true }
     ensures told { IfOk result (λ reply. is_no_memory reply ≡ false) }
-    ensures limits { IfOk result (λ reply. IsTrue (is_within_limits reply)) }
+    ensures limits { IfOk result (λ reply. IsTrue (is_within_limits caller.version reply)) }
     ensures pass { IfOk result (λ reply. Serves pass.old pass.new caller clock request.now reply) }
     ensures idle { OnErr result (IsIdle pass.old pass.new) }
     ensures cells { OnOk result (AddsToAll cells.old cells.new pass.old pass.new) }

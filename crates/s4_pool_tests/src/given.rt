@@ -4,7 +4,7 @@ ghost use Rattle.std.specs.Prelude.{◌<◌, ◌≤◌};
 
 use s4_pool::{Closed, Front, Gate, OpenGate, Pass};
 use s4_types::{
-    Bytes, Caller, Moment, ObjectId, Principal, Purse, PurseNo, Reply, Request, Serial,
+    Bytes, Caller, Moment, ObjectId, Principal, Purse, PurseNo, Reply, Request, Serial, WireVersion,
 };
 use std::alloc::Global;
 use std::sync::Wait;
@@ -50,7 +50,11 @@ impl Ask {
     pub fn new(who: u32, tick: u64, request: Request) -> Result<Ask, Fail> {
         let who = Principal::new(who).ok_or("a principal")?;
         Ok(Ask {
-            caller: Caller { who, client: 0 },
+            caller: Caller {
+                who,
+                client: 0,
+                version: WireVersion::One,
+            },
             clock: Moment::new(tick),
             request,
         })

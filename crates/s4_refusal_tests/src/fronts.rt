@@ -6,6 +6,7 @@ use crate::steps::is_no_memory;
 use s4_pool::{Cell, CloseFault, Closed, Front, Left, OpenGate, Pass, Why};
 use s4_types::{
     Caller, Moment, ObjectId, Principal, Purse, PurseNo, Record, Reply, Request, Serial,
+    WireVersion,
 };
 use std::io;
 use std::io::ErrorKind;
@@ -67,7 +68,11 @@ fn serve_all<R: Wait>(
 /// What is asked, and what is replied.
 fn asked(call: &Call) -> Option<(Caller, Request, Reply)> {
     let who = Principal::new(call.1)?;
-    let caller = Caller { who, client: 0 };
+    let caller = Caller {
+        who,
+        client: 0,
+        version: WireVersion::One,
+    };
     let number = PurseNo::new(0)?;
     Some(match call.3 {
         None => (caller, Request::SetWindow { ticks: 10 }, Reply::Done),

@@ -6,6 +6,7 @@ use crate::steps::is_no_memory;
 use s4_pool::{Front, OpenGate, Pass};
 use s4_types::{
     Caller, Moment, ObjectId, Principal, Purse, PurseNo, Refusal, Reply, Request, Serial,
+    WireVersion,
 };
 use std::io;
 use std::io::ErrorKind;
@@ -46,7 +47,12 @@ fn asked() -> Option<(Caller, Request)> {
         length: 1,
         at: None,
     };
-    Some((Caller { who, client: 0 }, read))
+    let caller = Caller {
+        who,
+        client: 0,
+        version: WireVersion::One,
+    };
+    Some((caller, read))
 }
 
 /// Makes all calls, at a moment more each.

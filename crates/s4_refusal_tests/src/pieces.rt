@@ -3,7 +3,9 @@
 
 use crate::case::Case;
 use s4_session::{Event, FeedError, Hall, LoginFault, Logins, Session};
-use s4_types::{Bytes, Caller, Moment, ObjectId, Principal, Purse, PurseNo, Request, Serial};
+use s4_types::{
+    Bytes, Caller, Moment, ObjectId, Principal, Purse, PurseNo, Request, Serial, WireVersion,
+};
 use std::alloc::{AllocError, Global};
 use std::io;
 use std::io::ErrorKind;
@@ -128,7 +130,11 @@ fn events(alloc: Global) -> io::Result<Vec<Event>> {
         creator: who,
         number,
     };
-    let caller = Caller { who, client: 1 };
+    let caller = Caller {
+        who,
+        client: 1,
+        version: WireVersion::One,
+    };
     let object = ObjectId { purse, serial };
     let bytes = Bytes::new(Vec::from_slice(alloc, b"hello")?);
     let mut events = Vec::new(alloc);

@@ -4,7 +4,9 @@
 use crate::case::Case;
 use crate::steps::is_no_memory;
 use s4_pool::{Front, OpenGate, Pass};
-use s4_types::{Caller, Moment, ObjectId, Principal, Purse, PurseNo, Reply, Request, Serial};
+use s4_types::{
+    Caller, Moment, ObjectId, Principal, Purse, PurseNo, Reply, Request, Serial, WireVersion,
+};
 use std::io;
 use std::io::ErrorKind;
 use std::sync::Wait;
@@ -41,7 +43,11 @@ fn invalid() -> io::Error {
 }
 
 fn caller(who: u32) -> Option<Caller> {
-    Principal::new(who).map(|who| Caller { who, client: 0 })
+    Principal::new(who).map(|who| Caller {
+        who,
+        client: 0,
+        version: WireVersion::One,
+    })
 }
 
 /// Leaves the records of a creator.

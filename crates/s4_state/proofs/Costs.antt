@@ -47,7 +47,7 @@ module _ {base : Base} {h : List Record} (s : IsSound base h) (o : ObjectId) (t 
       none None f = refl
       none (Some v) f = cc
 
-  pub data-short : length (data_of base o t h) ≤ 4096
+  pub data-short : length (data_of base o t h) ≤ 65536
   data-short = by_test (lives_at base t o h)
       (λ e. let live = live-track base o h later (s.tracks o which.Acl) data_track e in
       subst DataFits (data-in-force s o t later e live.newest live.past live.whole) (live-fits DataFits live (s.values o which.Data)))

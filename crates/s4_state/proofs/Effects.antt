@@ -1,5 +1,5 @@
 -- What an accepted request puts, ends and makes.
-use Rattle.std.proofs.Common.{◌≡◌, ℕ, ◌+◌, Bool, true, false, cond, Option, Some, None, List, [], ◌∷◌, ◌++◌, refl, sym, ◌∙◌, ap, subst}
+use Rattle.std.proofs.Common.{◌≡◌, ℕ, ◌+◌, ◌≤◌, Bool, true, false, cond, Option, Some, None, List, [], ◌∷◌, ◌++◌, length, refl, sym, ◌∙◌, ap, subst}
 use Rattle.std.specs.Prelude.{◌&&◌, ◌==◌, nat_le, is_ok, Ok, if◌then◌else◌}
 use Rattle.s4_types.specs.declared.principal.Caller.{Caller}
 use Rattle.s4_types.specs.declared.object.Purse.{Purse}
@@ -38,7 +38,7 @@ use Rattle.s4_objects.specs.Chains.{same_which}
 use Rattle.s4_state.specs.Laid.{item_of, version_of, laid, versions_on}
 use Rattle.s4_state.specs.Sound.{IsSound, IsNext, DataFits}
 use Rattle.s4_state.specs.Stands.{MakesNone, RebindsNone, Counts, PutsOn, EndsAll}
-use Rattle.s4_state.proofs.Granting.{told, told-asked, accepted-asked, changed_by, changed-lives, changed-done, data-fit}
+use Rattle.s4_state.proofs.Granting.{told, told-asked, accepted-asked, changed_by, changed-lives, changed-done, write-low, data-fit}
 use Rattle.s4_state.proofs.Living.{IsLive, live-track, live-fits}
 use Rattle.s4_state.proofs.Reading.{data-in-force, attributes-in-force, acl-in-force}
 use Rattle.s4_state.proofs.Standing.{MakesOnly}
@@ -242,6 +242,10 @@ module _ {base : Base} {h : List Record} {r : Record} (s : IsSound base h) (n : 
       (subst (λ p. PutsOn base h p o which.Data (item.Data (written offset bytes live.newest.value))) (sym (is-plain s n granted o (Write o offset bytes) asked refl))
       (puts-data base h r.moment r.caller o (Write o offset bytes) (written offset bytes) live (λ p. refl) refl (λ q. refl) (λ q. refl) (λ q old. refl) (λ q old. refl) (λ q old. refl)
       (rebinds-none (done base h r.moment r.caller o (Write o offset bytes)) (λ p n m old. refl) (λ p old. refl)) (record { made = refl; values = refl; bindings = refl })))
+
+  -- it ends by the limit
+  pub write_low : (offset : ℕ) (bytes : List ℕ) → r.request ≡ Write o offset bytes → offset + length bytes ≤ 65536
+  write_low offset bytes asked = write-low base h r.moment r.caller o offset bytes (accepted-asked n granted (Write o offset bytes) asked)
 
   -- and what it leaves fits
   pub write_fits : (offset : ℕ) (bytes : List ℕ) → r.request ≡ Write o offset bytes → DataFits (written offset bytes (data_of base o r.moment h))

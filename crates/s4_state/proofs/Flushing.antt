@@ -5,6 +5,8 @@ use Rattle.std.proofs.lemmas.Bool.{eqb-true}
 use Rattle.s4_types.specs.declared.object.Purse.{Purse}
 use Rattle.s4_types.specs.declared.object.ObjectId.{ObjectId}
 use Rattle.s4_types.specs.declared.principal.Caller.{Caller}
+use Rattle.s4_types.specs.declared.principal.WireVersion.{WireVersion}
+use Rattle.s4_types.specs.declared.principal.WireVersion.TheVariants.{One}
 use Rattle.s4_types.specs.declared.request.Request.{Request}
 use Rattle.s4_types.specs.declared.request.Request.TheVariants.{Flush, FlushO}
 use Rattle.s4_types.specs.declared.reply.Reply.TheVariants.{Done}
@@ -127,35 +129,35 @@ module _ (t : ℕ) (caller : Caller) where
   flush_one-rebinds o from to = record { bindings = λ p n old. unmoved (concerns p (flush_of (FlushO o from to))) old; names = λ p old. unmoved (concerns p (flush_of (FlushO o from to))) old }
 
 -- the versions that the flush of all objects leaves
-flush-tracks : (base : Base) (h : List Record) (t client from to : ℕ) (o : ObjectId) (w : Which) → versions_on base w o (h ++ flush_of t (record { who = 0; client = client }) (Flush from to) ∷ []) ≡ flushed_on from to w (versions_on base w o h)
-flush-tracks base h t client from to o which.Data = ap (laid data_track item.Data) (versions-flush data_track o base h t client from to (λ old. refl)) ∙ flushed-if data_track item.Data from to true (versions base data_track o h)
-flush-tracks base h t client from to o which.Attributes = ap (laid attribute_track item.Attr) (versions-flush attribute_track o base h t client from to (λ old. refl)) ∙ flushed-if attribute_track item.Attr from to true (versions base attribute_track o h)
-flush-tracks base h t client from to o which.Acl = ap (laid acl_track item.Acl) (versions-flush acl_track o base h t client from to (λ old. refl))
+flush-tracks : (base : Base) (h : List Record) (t client : ℕ) (version : WireVersion) (from to : ℕ) (o : ObjectId) (w : Which) → versions_on base w o (h ++ flush_of t (record { who = 0; client = client; version = version }) (Flush from to) ∷ []) ≡ flushed_on from to w (versions_on base w o h)
+flush-tracks base h t client version from to o which.Data = ap (laid data_track item.Data) (versions-flush data_track o base h t client version from to (λ old. refl)) ∙ flushed-if data_track item.Data from to true (versions base data_track o h)
+flush-tracks base h t client version from to o which.Attributes = ap (laid attribute_track item.Attr) (versions-flush attribute_track o base h t client version from to (λ old. refl)) ∙ flushed-if attribute_track item.Attr from to true (versions base attribute_track o h)
+flush-tracks base h t client version from to o which.Acl = ap (laid acl_track item.Acl) (versions-flush acl_track o base h t client version from to (λ old. refl))
 
 -- and that of one object
 flush_one-tracks : (base : Base) (h : List Record) (t : ℕ) (caller : Caller) (p : ObjectId) (from to : ℕ) (o : ObjectId) (w : Which) → versions_on base w o (h ++ flush_of t caller (FlushO p from to) ∷ []) ≡ (if same_object p o then flushed_on from to w (versions_on base w o h) else versions_on base w o h)
-flush_one-tracks base h t caller p from to o which.Data = ap (laid data_track item.Data) (versions-flush-one data_track o base h t 0 from to caller p (λ old. refl)) ∙ flushed-if data_track item.Data from to (same_object p o) (versions base data_track o h)
-flush_one-tracks base h t caller p from to o which.Attributes = ap (laid attribute_track item.Attr) (versions-flush-one attribute_track o base h t 0 from to caller p (λ old. refl)) ∙ flushed-if attribute_track item.Attr from to (same_object p o) (versions base attribute_track o h)
-flush_one-tracks base h t caller p from to o which.Acl = ap (laid acl_track item.Acl) (versions-flush-one acl_track o base h t 0 from to caller p (λ old. refl)) ∙ kept-if acl_track item.Acl from to (same_object p o) (versions base acl_track o h)
+flush_one-tracks base h t caller p from to o which.Data = ap (laid data_track item.Data) (versions-flush-one data_track o base h t 0 One from to caller p (λ old. refl)) ∙ flushed-if data_track item.Data from to (same_object p o) (versions base data_track o h)
+flush_one-tracks base h t caller p from to o which.Attributes = ap (laid attribute_track item.Attr) (versions-flush-one attribute_track o base h t 0 One from to caller p (λ old. refl)) ∙ flushed-if attribute_track item.Attr from to (same_object p o) (versions base attribute_track o h)
+flush_one-tracks base h t caller p from to o which.Acl = ap (laid acl_track item.Acl) (versions-flush-one acl_track o base h t 0 One from to caller p (λ old. refl)) ∙ kept-if acl_track item.Acl from to (same_object p o) (versions base acl_track o h)
 
 module _ {base : Base} {size : ℕ} {chains : Chains Version} {kept : Objects} {serials : Purse → ℕ} {table : Table} {h : List Record} (s : StandsFor base size chains kept serials table h) {r : Record} (n : IsNext base h r) (granted : is_refused r.reply ≡ false) {new : Chains Version} {from to : ℕ} {refunds : List Refund} where
   -- a flush of all objects
   module _ (asked : r.request ≡ Flush from to) (f : Flushes chains new (found_in kept) (λ o. true) from to refunds) where
-    flush-is : r ≡ flush_of r.moment (record { who = 0; client = r.caller.client }) (Flush from to)
+    flush-is : r ≡ flush_of r.moment (record { who = 0; client = r.caller.client; version = r.caller.version }) (Flush from to)
     flush-is =
         let accepted : is_refused (told base h r.moment r.caller (Flush from to)) ≡ false = accepted-asked n granted (Flush from to) asked in
         let told' : r.reply ≡ Done = told-asked n granted (Flush from to) asked ∙ flush-done base h r.moment r.caller from to accepted in
         let asker : r.caller.who ≡ 0 = eqb-true r.caller.who 0 (flush-asker base h r.moment r.caller from to accepted) in
-        λ i. record { moment = r.moment; caller = record { who = asker i; client = r.caller.client }; request = asked i; reply = told' i }
+        λ i. record { moment = r.moment; caller = record { who = asker i; client = r.caller.client; version = r.caller.version }; request = asked i; reply = told' i }
 
     pub flush_left : (o : ObjectId) (w : Which) → AgreesWith (horizon_now base h) (held_in new kept o w) (versions_on base w o (h ++ r ∷ []))
     flush_left o w = subst (λ x. AgreesWith (horizon_now base h) (held_in new kept o w) (versions_on base w o (h ++ x ∷ []))) (sym flush-is)
-        (tracks-left s f (flush_of r.moment (record { who = 0; client = r.caller.client }) (Flush from to)) (flush-tracks base h r.moment r.caller.client from to) o w)
+        (tracks-left s f (flush_of r.moment (record { who = 0; client = r.caller.client; version = r.caller.version }) (Flush from to)) (flush-tracks base h r.moment r.caller.client r.caller.version from to) o w)
 
     pub stands_flush : Holds new kept → LeavesNoChain chains new kept kept → IsSound base (h ++ r ∷ []) → StandsFor base (size + counted made_by r) new kept serials table (h ++ r ∷ [])
     stands_flush holds leaves sound = subst (λ x. StandsFor base (size + counted made_by x) new kept serials table (h ++ x ∷ [])) (sym flush-is)
-        (stands_flushed s f (flush_of r.moment (record { who = 0; client = r.caller.client }) (Flush from to)) (flush-tracks base h r.moment r.caller.client from to) holds leaves (subst (λ x. IsSound base (h ++ x ∷ [])) flush-is sound)
-        (flush-makes r.moment (record { who = 0; client = r.caller.client }) from to) (flush-rebinds r.moment (record { who = 0; client = r.caller.client }) from to) (record { made = refl; values = refl; bindings = refl }))
+        (stands_flushed s f (flush_of r.moment (record { who = 0; client = r.caller.client; version = r.caller.version }) (Flush from to)) (flush-tracks base h r.moment r.caller.client r.caller.version from to) holds leaves (subst (λ x. IsSound base (h ++ x ∷ [])) flush-is sound)
+        (flush-makes r.moment (record { who = 0; client = r.caller.client; version = r.caller.version }) from to) (flush-rebinds r.moment (record { who = 0; client = r.caller.client; version = r.caller.version }) from to) (record { made = refl; values = refl; bindings = refl }))
 
   -- a flush of one object
   module _ (o : ObjectId) (asked : r.request ≡ FlushO o from to) (f : Flushes chains new (found_in kept) (same_object o) from to refunds) where

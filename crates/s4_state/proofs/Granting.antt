@@ -1,9 +1,11 @@
 -- What an accepted request tells of the object that it is about.
 use Rattle.std.proofs.Common.{◌≡◌, ℕ, ◌+◌, ◌≤◌, ◌<◌, Bool, true, false, not, cond, Option, Some, None, List, [], ◌∷◌, ◌++◌, refl, sym, ◌∙◌, ap, subst, arith, length, take, drop, length-append, length-drop}
-use Rattle.std.specs.Prelude.{◌==◌, nat_le, nat_lt, is_ok, is_some, Result, Ok, Err, slice_get}
+use Rattle.std.specs.Prelude.{◌==◌, nat_le, nat_lt, min, is_ok, is_some, Result, Ok, Err, slice_get}
 use Rattle.std.specs.Option.{option_map}
 use Rattle.std.proofs.lemmas.List.{length-take, length-replicate}
 use Rattle.s4_types.specs.declared.principal.Caller.{Caller}
+use Rattle.s4_types.specs.declared.principal.WireVersion.{WireVersion}
+use Rattle.s4_types.specs.declared.principal.WireVersion.TheVariants.{One, Two}
 use Rattle.s4_types.specs.declared.object.Purse.{Purse}
 use Rattle.s4_types.specs.declared.object.ObjectId.{ObjectId}
 use Rattle.s4_types.specs.declared.acl.AclEntry.{AclEntry}
@@ -21,6 +23,7 @@ use Rattle.s4_types.specs.Names.{same_object, object_in}
 use Rattle.s4_types.specs.Kinds.{is_refused, is_create}
 use Rattle.s4_types.specs.Versions.{Value, value_at, is_made, is_deleted, lives_at, of_length, written, when, data_track, attribute_track, acl_track, data_effect, attribute_effect, acl_effect}
 use Rattle.s4_types.specs.Acl.{names, without_entry, replaced, acl_with}
+use Rattle.s4_types.specs.Limits.{data_limit}
 use Rattle.s4_types.specs.Judgement.{Found, entry_of, judge, judge_now, held_of}
 use Rattle.s4_types.specs.Outcome.{◌>>=◌, ◌>>◌, refuse_if, reply_of}
 use Rattle.s4_types.specs.Answer.{outcome_by_kind, administered, flushed, moment_of, is_gone, data_of, attributes_of, acl_of, entry_by_user, entry_by_index, settable, found_bound}
@@ -80,15 +83,15 @@ pub makes_nothing-outcome : (base : Base) (h : List Record) (t : ℕ) (caller : 
 makes_nothing-outcome base h t caller (Create number) e = cc
 makes_nothing-outcome base h t caller (Delete p) e = nothing-then (judge base h t caller p right.Delete None) _ (nothing-then (refuse_if (has_name base p t h) Named) (Ok Done) refl)
 makes_nothing-outcome base h t caller (Read p offset length at) e =
-    nothing-bind (judge base h t caller p right.Read at) (λ g. refuse_if (is_gone (value_at base data_track p (moment_of t at) h)) Flushed >> Ok (Data g (take length (drop offset (data_of base p (moment_of t at) h)))))
-    (λ g. nothing-then (refuse_if (is_gone (value_at base data_track p (moment_of t at) h)) Flushed) (Ok (Data g (take length (drop offset (data_of base p (moment_of t at) h))))) refl)
+    nothing-bind (judge base h t caller p right.Read at) (λ g. refuse_if (is_gone (value_at base data_track p (moment_of t at) h)) Flushed >> Ok (Data g (take (min length (data_limit caller.version)) (drop offset (data_of base p (moment_of t at) h)))))
+    (λ g. nothing-then (refuse_if (is_gone (value_at base data_track p (moment_of t at) h)) Flushed) (Ok (Data g (take (min length (data_limit caller.version)) (drop offset (data_of base p (moment_of t at) h))))) refl)
 makes_nothing-outcome base h t caller (Write p offset bytes) e =
-    nothing-then (refuse_if (nat_lt 4096 (offset + length bytes)) TooLong) _ (nothing-then (judge base h t caller p right.Write None) (Ok Done) refl)
+    nothing-then (refuse_if (nat_lt (data_limit caller.version) (offset + length bytes)) TooLong) _ (nothing-then (judge base h t caller p right.Write None) (Ok Done) refl)
 makes_nothing-outcome base h t caller (Append p bytes) e =
-    nothing-then (refuse_if (nat_lt 4096 (length bytes)) TooLong) _ (nothing-then (judge base h t caller p right.Write None) _
-    (nothing-then (refuse_if (nat_lt 4096 (length (data_of base p t h) + length bytes)) TooLong) (Ok Done) refl))
+    nothing-then (refuse_if (nat_lt (data_limit caller.version) (length bytes)) TooLong) _ (nothing-then (judge base h t caller p right.Write None) _
+    (nothing-then (refuse_if (nat_lt (data_limit caller.version) (length (data_of base p t h) + length bytes)) TooLong) (Ok Done) refl))
 makes_nothing-outcome base h t caller (Truncate p length) e =
-    nothing-then (refuse_if (nat_lt 4096 length) TooLong) _ (nothing-then (judge base h t caller p right.Write None) (Ok Done) refl)
+    nothing-then (refuse_if (nat_lt (data_limit caller.version) length) TooLong) _ (nothing-then (judge base h t caller p right.Write None) (Ok Done) refl)
 makes_nothing-outcome base h t caller (GetAttr p at) e =
     nothing-bind (judge base h t caller p right.Read at) (λ g. refuse_if (is_gone (value_at base attribute_track p (moment_of t at) h)) Flushed >> Ok (Attr g (attributes_of base p (moment_of t at) h)))
     (λ g. nothing-then (refuse_if (is_gone (value_at base attribute_track p (moment_of t at) h)) Flushed) (Ok (Attr g (attributes_of base p (moment_of t at) h))) refl)
@@ -177,16 +180,16 @@ changed-lives base h t caller (Delete p) o e f =
 changed-lives base h t caller (Write p offset bytes) o e f =
     let is : p ≡ o = cc in
     subst (λ q. lives_at base t q h ≡ true) is (granted-lives p t base h caller right.Write (passes_judgement (judge base h t caller p right.Write None) (Ok Done)
-    (passes_test (nat_lt 4096 (offset + length bytes)) TooLong (judge base h t caller p right.Write None >> Ok Done) e).1).0)
+    (passes_test (nat_lt (data_limit caller.version) (offset + length bytes)) TooLong (judge base h t caller p right.Write None >> Ok Done) e).1).0)
 changed-lives base h t caller (Append p bytes) o e f =
     let is : p ≡ o = cc in
-    let rest : Result Reply Refusal = refuse_if (nat_lt 4096 (length (data_of base p t h) + length bytes)) TooLong >> Ok Done in
+    let rest : Result Reply Refusal = refuse_if (nat_lt (data_limit caller.version) (length (data_of base p t h) + length bytes)) TooLong >> Ok Done in
     subst (λ q. lives_at base t q h ≡ true) is (granted-lives p t base h caller right.Write (passes_judgement (judge base h t caller p right.Write None) rest
-    (passes_test (nat_lt 4096 (length bytes)) TooLong (judge base h t caller p right.Write None >> rest) e).1).0)
+    (passes_test (nat_lt (data_limit caller.version) (length bytes)) TooLong (judge base h t caller p right.Write None >> rest) e).1).0)
 changed-lives base h t caller (Truncate p length) o e f =
     let is : p ≡ o = cc in
     subst (λ q. lives_at base t q h ≡ true) is (granted-lives p t base h caller right.Write (passes_judgement (judge base h t caller p right.Write None) (Ok Done)
-    (passes_test (nat_lt 4096 length) TooLong (judge base h t caller p right.Write None >> Ok Done) e).1).0)
+    (passes_test (nat_lt (data_limit caller.version) length) TooLong (judge base h t caller p right.Write None >> Ok Done) e).1).0)
 changed-lives base h t caller (SetAttr p bytes) o e f =
     let is : p ≡ o = cc in
     subst (λ q. lives_at base t q h ≡ true) is (granted-lives p t base h caller right.Write (passes_judgement (judge base h t caller p right.Write None) (Ok Done)
@@ -226,29 +229,40 @@ acl-changed _ o old new e = cc
 pub length-of_length : (n : ℕ) (bytes : List ℕ) → length (of_length n bytes) ≡ n
 length-of_length n bytes = simp (length-append, length-take, length-replicate) (omega arith)
 
-pub length-written : (offset : ℕ) (bytes old : List ℕ) → offset + length bytes ≤ 4096 → length old ≤ 4096 → length (written offset bytes old) ≤ 4096
+pub length-written : (offset : ℕ) (bytes old : List ℕ) → offset + length bytes ≤ 65536 → length old ≤ 65536 → length (written offset bytes old) ≤ 65536
 length-written offset bytes old l m =
     simp (length-append, length-take, length-replicate, length-drop) (omega arith)
+
+-- no version lets data be longer
+limit-most : (version : WireVersion) → data_limit version ≤ 65536
+limit-most One = omega arith
+limit-most Two = omega arith
+
+pub write-low : (base : Base) (h : List Record) (t : ℕ) (caller : Caller) (o : ObjectId) (offset : ℕ) (bytes : List ℕ) → is_refused (told base h t caller (Write o offset bytes)) ≡ false → offset + length bytes ≤ 65536
+write-low base h t caller o offset bytes e =
+    let short : nat_lt (data_limit caller.version) (offset + length bytes) ≡ false = (passes_test (nat_lt (data_limit caller.version) (offset + length bytes)) TooLong (judge base h t caller o right.Write None >> Ok Done) e).0 in
+    let most : data_limit caller.version ≤ 65536 = limit-most caller.version in
+    grind arith
 
 -- the data that a request leaves fit, where they are those in force
 pub data-fit : (base : Base) (h : List Record) (t : ℕ) (caller : Caller) (request : Request) (o : ObjectId) → is_refused (told base h t caller request) ≡ false
     → (old new : List ℕ) → data_effect o request old ≡ Some new → old ≡ data_of base o t h → DataFits old → DataFits new
 data-fit base h t caller (Write p offset bytes) o e old new f is fits =
-    let short : nat_lt 4096 (offset + length bytes) ≡ false = (passes_test (nat_lt 4096 (offset + length bytes)) TooLong (judge base h t caller p right.Write None >> Ok Done) e).0 in
-    let low : offset + length bytes ≤ 4096 = grind arith in
-    subst DataFits (some-when (same_object p o) (written offset bytes old) new f).1 (length-written offset bytes old low fits)
+    subst DataFits (some-when (same_object p o) (written offset bytes old) new f).1 (length-written offset bytes old (write-low base h t caller p offset bytes e) fits)
 data-fit base h t caller (Append p bytes) o e old new f is fits =
-    let rest : Result Reply Refusal = refuse_if (nat_lt 4096 (length (data_of base p t h) + length bytes)) TooLong >> Ok Done in
-    let short : nat_lt 4096 (length (data_of base p t h) + length bytes) ≡ false
-    = (passes_test (nat_lt 4096 (length (data_of base p t h) + length bytes)) TooLong (Ok Done)
-    (passes_judgement (judge base h t caller p right.Write None) rest (passes_test (nat_lt 4096 (length bytes)) TooLong (judge base h t caller p right.Write None >> rest) e).1).1).0 in
+    let rest : Result Reply Refusal = refuse_if (nat_lt (data_limit caller.version) (length (data_of base p t h) + length bytes)) TooLong >> Ok Done in
+    let short : nat_lt (data_limit caller.version) (length (data_of base p t h) + length bytes) ≡ false
+    = (passes_test (nat_lt (data_limit caller.version) (length (data_of base p t h) + length bytes)) TooLong (Ok Done)
+    (passes_judgement (judge base h t caller p right.Write None) rest (passes_test (nat_lt (data_limit caller.version) (length bytes)) TooLong (judge base h t caller p right.Write None >> rest) e).1).1).0 in
     let both' = some-when (same_object p o) (old ++ bytes) new f in
     let same : length old ≡ length (data_of base p t h) = ap length is ∙ ap (λ q. length (data_of base q t h)) (sym (object_is p o both'.0)) in
-    let low : length (data_of base p t h) + length bytes ≤ 4096 = grind arith in
+    let most : data_limit caller.version ≤ 65536 = limit-most caller.version in
+    let low : length (data_of base p t h) + length bytes ≤ 65536 = grind arith in
     subst DataFits both'.1 (simp length-append (omega arith))
 data-fit base h t caller (Truncate p n) o e old new f is fits =
-    let short : nat_lt 4096 n ≡ false = (passes_test (nat_lt 4096 n) TooLong (judge base h t caller p right.Write None >> Ok Done) e).0 in
-    let low : n ≤ 4096 = grind arith in
+    let short : nat_lt (data_limit caller.version) n ≡ false = (passes_test (nat_lt (data_limit caller.version) n) TooLong (judge base h t caller p right.Write None >> Ok Done) e).0 in
+    let most : data_limit caller.version ≤ 65536 = limit-most caller.version in
+    let low : n ≤ 65536 = grind arith in
     subst DataFits (some-when (same_object p o) (of_length n old) new f).1 (rw (length-of_length n old) low)
 data-fit base h t caller _ o e old new f is fits = cc
 
@@ -317,12 +331,12 @@ told-done (Err r) e f = cc
 only_done-outcome : (base : Base) (h : List Record) (t : ℕ) (caller : Caller) (request : Request) (o : ObjectId) → changed_by request ≡ Some o → only_done (outcome_by_kind base h t caller request) ≡ true
 only_done-outcome base h t caller (Delete p) o e = done-then (judge base h t caller p right.Delete None) _ (done-then (refuse_if (has_name base p t h) Named) (Ok Done) refl)
 only_done-outcome base h t caller (Write p offset bytes) o e =
-    done-then (refuse_if (nat_lt 4096 (offset + length bytes)) TooLong) _ (done-then (judge base h t caller p right.Write None) (Ok Done) refl)
+    done-then (refuse_if (nat_lt (data_limit caller.version) (offset + length bytes)) TooLong) _ (done-then (judge base h t caller p right.Write None) (Ok Done) refl)
 only_done-outcome base h t caller (Append p bytes) o e =
-    done-then (refuse_if (nat_lt 4096 (length bytes)) TooLong) _ (done-then (judge base h t caller p right.Write None) _
-    (done-then (refuse_if (nat_lt 4096 (length (data_of base p t h) + length bytes)) TooLong) (Ok Done) refl))
+    done-then (refuse_if (nat_lt (data_limit caller.version) (length bytes)) TooLong) _ (done-then (judge base h t caller p right.Write None) _
+    (done-then (refuse_if (nat_lt (data_limit caller.version) (length (data_of base p t h) + length bytes)) TooLong) (Ok Done) refl))
 only_done-outcome base h t caller (Truncate p length) o e =
-    done-then (refuse_if (nat_lt 4096 length) TooLong) _ (done-then (judge base h t caller p right.Write None) (Ok Done) refl)
+    done-then (refuse_if (nat_lt (data_limit caller.version) length) TooLong) _ (done-then (judge base h t caller p right.Write None) (Ok Done) refl)
 only_done-outcome base h t caller (SetAttr p bytes) o e =
     done-then (refuse_if (nat_lt 256 (length bytes)) TooLong) _ (done-then (judge base h t caller p right.Write None) (Ok Done) refl)
 only_done-outcome base h t caller (SetAcl p user rights) o e =

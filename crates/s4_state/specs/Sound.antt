@@ -28,7 +28,7 @@ use Rattle.s4_state.specs.Laid.{versions_on}
 
 -- which values a track may have
 abbrev pub DataFits : List ℕ → Type 0
-DataFits bytes = length bytes ≤ 4096
+DataFits bytes = length bytes ≤ 65536
 
 abbrev pub AttributesFit : List ℕ → Type 0
 AttributesFit bytes = length bytes ≤ 256

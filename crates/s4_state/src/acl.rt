@@ -11,14 +11,14 @@ use crate::parts::Parts;
 use s4_acl::set;
 use s4_objects::Which;
 use s4_store::Store;
-use s4_types::{Item, NoMemory, ObjectId, Principal, Record, Rights, Version};
+use s4_types::{Item, NoMemory, ObjectId, Record, Rights, User, Version};
 
 /// Carries out the SetAcl that the record tells of.
 pub fn apply<S: Store<Version>>(
     parts: &mut Parts<S>,
     added: &Record,
     object: &ObjectId,
-    user: Principal,
+    user: User,
     rights: Rights,
 ) -> Result<(), NoMemory>
     requires kept { IsKept S.chains parts.old }

@@ -16,7 +16,7 @@ use std::alloc::Global;
 
 /// The bytes that a write leaves: a gap before them is zeros.
 pub fn written(alloc: Global, old: &[u8], offset: usize, bytes: &[u8]) -> Result<Vec<u8>, NoMemory>
-    requires { offset + length bytes.now ≤ 4096 }
+    requires { offset + length bytes.now ≤ 65536 }
     ensures { IfOk result (λ new. new.items ≡ written_of offset bytes.now old.now) }
 {
     let mut new = Vec::new(alloc);

@@ -11,5 +11,5 @@ invariant-loop-place l =
       adds : FirstAdd r l.place l.initial.cells l.cells;
       told : 0 < l.place → l.told.reply ≡ r.reply;
       copy : l.told.copy ≡ l.told.reply;
-      limits : IsTrue (is_within_limits l.told.reply);
+      limits : IsTrue (is_within_limits l.caller.version l.told.reply);
     }

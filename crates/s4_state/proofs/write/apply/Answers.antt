@@ -14,7 +14,7 @@ pub put-requires-clause-small : goal.put-requires-clause-small
 put-requires-clause-small g c =
     let old = c.current_data-old.ensures c.args.added.now.moment c.requires.next.later in
     let is = c.new.ensures ∙ c.in_ok-new.ensures ∙ ap (λ bytes. written c.args.offset bytes c.current_data-old.result.now) c.as_slice.ensures ∙ ap (written c.args.offset c.args.bytes.now) old in
-    let fits : length (written c.args.offset c.args.bytes.now (data_of (base_in c.args.parts.now) c.args.object.now c.args.added.now.moment c.args.parts.now.history.records)) ≤ 4096
+    let fits : length (written c.args.offset c.args.bytes.now (data_of (base_in c.args.parts.now) c.args.object.now c.args.added.now.moment c.args.parts.now.history.records)) ≤ 65536
     = write_fits c.requires.kept.sound c.requires.next c.requires.granted c.args.object.now c.args.offset c.args.bytes.now c.requires.asked in
     let len : length c.new.result ≡ length (written c.args.offset c.args.bytes.now (data_of (base_in c.args.parts.now) c.args.object.now c.args.added.now.moment c.args.parts.now.history.records)) = ap length is in
     record { small = omega arith }
