@@ -5,11 +5,16 @@ use std::alloc::Global;
 use std::test::Fail;
 
 pub fn caller(who: u32) -> Result<Caller, Fail> {
+    caller_by(WireVersion::One, who)
+}
+
+/// A caller that speaks this version.
+pub fn caller_by(version: WireVersion, who: u32) -> Result<Caller, Fail> {
     let who = Principal::new(who).ok_or("a principal")?;
     Ok(Caller {
         who,
         client: 3,
-        version: WireVersion::One,
+        version,
     })
 }
 

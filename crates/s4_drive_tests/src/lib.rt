@@ -10,3 +10,5 @@ mod drive;
 mod given;
 #[cfg(test)]
 mod state;
+#[cfg(test)]
+mod versions;
