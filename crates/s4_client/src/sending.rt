@@ -12,7 +12,7 @@ use crate::fault::CallFault;
 use byteorder::{BigEndian, ByteOrder};
 use bytes::BytesMut;
 use s4_codec::{WriteError, write_request};
-use s4_stream::{Hello, VERSION, add_frame};
+use s4_stream::{Hello, add_frame, version_number};
 use s4_types::{NoMemory, Request};
 use std::alloc::Global;
 
@@ -52,7 +52,7 @@ fn write_hello(alloc: Global, hello: &Hello) -> Result<Vec<u8>, NoMemory>
     ensures length { IfOk result (λ body. length body.items ≡ 26) }
 {
     let mut body = Vec::new(alloc);
-    body.extend_from_slice(&[HELLO, VERSION])?;
+    body.extend_from_slice(&[HELLO, version_number(hello.caller.version)])?;
     write_u32(&mut body, hello.caller.who.number())?;
     write_u32(&mut body, hello.caller.client)?;
     body.extend_from_slice(&hello.secret)?;

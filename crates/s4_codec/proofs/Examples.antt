@@ -1,11 +1,12 @@
 -- Worked examples of spellings, each computed.
 use Rattle.std.proofs.Common.{◌≡◌, ℕ, true, false, Some, None, List, [], ◌∷◌, ◌++◌, refl}
 use Rattle.std.specs.Prelude.{replicate}
+use Rattle.s4_types.specs.declared.principal.WireVersion.TheVariants.{One, Two}
 use Rattle.s4_types.specs.declared.object.ObjectId.{ObjectId}
-use Rattle.s4_types.specs.declared.request.Request.TheVariants.{Create, Read, Write}
+use Rattle.s4_types.specs.declared.request.Request.TheVariants.{Create, Read, Write, GetAclByUser, SetAcl}
 use Rattle.s4_types.specs.declared.reply.Grant.TheVariants as grant
 use Rattle.s4_types.specs.declared.reply.Refusal.TheVariants.{TooLong, NoMemory}
-use Rattle.s4_types.specs.declared.reply.Reply.TheVariants.{Done, Made, Data, Attr, Names, Audit, Refused}
+use Rattle.s4_types.specs.declared.reply.Reply.TheVariants.{Done, Made, Data, Attr, Entry, Names, Audit, Refused}
 use Rattle.s4_types.specs.Limits.{is_within_limits}
 use Rattle.s4_codec.specs.Format.{number_at}
 use Rattle.s4_codec.specs.Frames.{frame_limit, framed, front_of, Whole, Part, BadLength}
@@ -54,6 +55,30 @@ pub a_byte_left_over_is_no_spelling : request_in (read_with 0 0 ++ 0 ∷ []) ≡
 unfolding number_at
 a_byte_left_over_is_no_spelling = refl
 
+-- ---- everyone, of whom each byte is 255
+
+abbrev all_ones : List ℕ
+all_ones = 255 ∷ 255 ∷ 255 ∷ 255 ∷ []
+
+pub an_entry_for_everyone_is_framed : framed (request.spell (SetAcl object 4294967295 17)) ≡ 0 ∷ 0 ∷ 0 ∷ 14 ∷ 11 ∷ object_with 0 ++ all_ones ++ 17 ∷ []
+an_entry_for_everyone_is_framed = refl
+
+pub an_entry_for_everyone_is_read : request_in (11 ∷ object_with 0 ++ all_ones ++ 17 ∷ []) ≡ Some (SetAcl object 4294967295 17)
+unfolding number_at
+an_entry_for_everyone_is_read = refl
+
+pub everyones_entry_is_asked_for : request_in (9 ∷ object_with 0 ++ all_ones ++ 0 ∷ []) ≡ Some (GetAclByUser object 4294967295 None)
+unfolding number_at
+everyones_entry_is_asked_for = refl
+
+pub everyones_entry_is_told :
+    reply.spell (Entry (grant.Entry 1 4) 1 4294967295 17) ≡ 4 ∷ 1 ∷ 1 ∷ 0 ∷ 0 ∷ 0 ∷ 0 ∷ 0 ∷ 0 ∷ 0 ∷ 4 ∷ 1 ∷ all_ones ++ 17 ∷ []
+everyones_entry_is_told = refl
+
+pub everyone_is_no_range : request_in (20 ∷ all_ones ++ 0 ∷ 0 ∷ 0 ∷ 0 ∷ []) ≡ None
+unfolding number_at
+everyone_is_no_range = refl
+
 -- ---- replies
 
 pub replies_are_framed :
@@ -82,23 +107,29 @@ what_is_served_to_an_owner_has_no_body = refl
 
 -- ---- limits
 
-pub what_the_last_entry_reads_is_within_limits : is_within_limits (Data (grant.Entry 15 6) hello) ≡ true
+pub what_the_last_entry_reads_is_within_limits : is_within_limits One (Data (grant.Entry 15 6) hello) ≡ true
 what_the_last_entry_reads_is_within_limits = refl
 
-pub what_a_seventeenth_entry_reads_is_not : is_within_limits (Data (grant.Entry 16 6) hello) ≡ false
+pub what_a_seventeenth_entry_reads_is_not : is_within_limits One (Data (grant.Entry 16 6) hello) ≡ false
 what_a_seventeenth_entry_reads_is_not = refl
 
-pub what_is_served_to_an_owner_is_not : is_within_limits (Data grant.Owner hello) ≡ false
+pub what_is_served_to_an_owner_is_not : is_within_limits One (Data grant.Owner hello) ≡ false
 what_is_served_to_an_owner_is_not = refl
 
-pub attributes_of_256_bytes_are : is_within_limits (Attr grant.Admin (replicate 256 0)) ≡ true
+pub data_of_4097_bytes_is_not : is_within_limits One (Data grant.Admin (replicate 4097 0)) ≡ false
+data_of_4097_bytes_is_not = refl
+
+pub by_version_2_it_is : is_within_limits Two (Data grant.Admin (replicate 4097 0)) ≡ true
+by_version_2_it_is = refl
+
+pub attributes_of_256_bytes_are : is_within_limits One (Attr grant.Admin (replicate 256 0)) ≡ true
 attributes_of_256_bytes_are = refl
 
-pub attributes_of_257_bytes_are_not : is_within_limits (Attr grant.Admin (replicate 257 0)) ≡ false
+pub attributes_of_257_bytes_are_not : is_within_limits One (Attr grant.Admin (replicate 257 0)) ≡ false
 attributes_of_257_bytes_are_not = refl
 
 pub a_line_of_want_of_memory_is_not :
-    is_within_limits (Audit (record { moment = 8; who = 7; client = 0; code = 20; is_wide = false; reply = 16 } ∷ []) false) ≡ false
+    is_within_limits One (Audit (record { moment = 8; who = 7; client = 0; code = 20; is_wide = false; reply = 16 } ∷ []) false) ≡ false
 a_line_of_want_of_memory_is_not = refl
 
 -- ---- frames

@@ -8,7 +8,7 @@ use Rattle.s4_types.specs.declared.reply.Grant.TheVariants as grants
 use Rattle.s4_types.specs.Rights.{number_of}
 use Rattle.s4_types.specs.Name.{is_name}
 use Rattle.s4_codec.specs.Format.{◌&◌, byte, number, counted, only, optional}
-use Rattle.s4_codec.specs.Parts.{moment, principal, purse_number, index, serial, pad, purse, object, name, byte_string, rights, rights_given, optional_moment, after, optional_after, grant, grant_of, part_of_grant, flag, flag_of, number_of_flag, right_needed, right_of, is_right}
+use Rattle.s4_codec.specs.Parts.{moment, principal, user, purse_number, index, serial, pad, purse, object, name, byte_string, rights, rights_given, optional_moment, after, optional_after, grant, grant_of, part_of_grant, flag, flag_of, number_of_flag, right_needed, right_of, is_right}
 use Rattle.s4_codec.proofs.Lawful.{IsFormat, some_is, both_true, byte_is, number_is, wide2, wide4, wide8, pair_is, only_is, made_is, optional_is, counted_is}
 use Rattle.std.proofs.lemmas.Bool.{eqb-true, ltb-true}
 
@@ -20,6 +20,9 @@ word_is = number_is 4 wide4
 
 pub principal_is : IsFormat principal
 principal_is = only_is _ (number 4) word_is
+
+pub user_is : IsFormat user
+user_is = word_is
 
 pub purse_number_is : IsFormat purse_number
 purse_number_is = only_is _ byte byte_is

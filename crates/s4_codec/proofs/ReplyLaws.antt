@@ -14,7 +14,7 @@ use Rattle.s4_codec.specs.Format.{◌&◌, byte, number}
 use Rattle.s4_codec.specs.Parts.{moment, principal, object, name, grant, flag}
 use Rattle.s4_codec.specs.Replies.{name_line, code, reply_code, audit_line, is_same, refusals, refusal, kind_of, bodies, reply, part_of_denied, part_of_too_old, part_of_over_budget, part_of_done, part_of_made, part_of_data, part_of_attr, part_of_entry, part_of_mounted, part_of_names, part_of_audit, part_of_refused}
 use Rattle.s4_codec.proofs.Lawful.{IsFormat, AreCases, some_is, nothing_is, byte_is, pair_is, only_is, made_is, list_is, cases_are, made_case, no_case, ◌and◌}
-use Rattle.s4_codec.proofs.PartLaws.{moment_is, word_is, principal_is, index_is, object_is, name_is, bytes_are, rights_given_is, grant_is, flag_is, right_is}
+use Rattle.s4_codec.proofs.PartLaws.{moment_is, word_is, principal_is, user_is, index_is, object_is, name_is, bytes_are, rights_given_is, grant_is, flag_is, right_is}
 
 back_NoObject : (y : Refusal) (x : Unit {0}) → is_same NoObject y ≡ Some x → NoObject ≡ y
 back_NoObject NoObject x e = refl
@@ -163,7 +163,7 @@ cases_of =
     and made_case object_is (λ x. refl) back_made (λ x. refl)
     and made_case (pair_is grant_is bytes_are) (λ x. refl) back_data (λ x. refl)
     and made_case (pair_is grant_is bytes_are) (λ x. refl) back_attr (λ x. refl)
-    and made_case (pair_is grant_is (pair_is index_is (pair_is principal_is rights_given_is))) (λ x. refl) back_entry (λ x. refl)
+    and made_case (pair_is grant_is (pair_is index_is (pair_is user_is rights_given_is))) (λ x. refl) back_entry (λ x. refl)
     and made_case (pair_is grant_is object_is) (λ x. refl) back_mounted (λ x. refl)
     and made_case (pair_is (list_is 64 name_line (omega arith) name_line_is) flag_is) (λ x. refl) back_names (λ x. refl)
     and made_case (pair_is (list_is 32 audit_line (omega arith) audit_line_is) flag_is) (λ x. refl) back_audit (λ x. refl)

@@ -9,7 +9,7 @@ use Rattle.s4_types.specs.Audit.{code_of}
 use Rattle.s4_codec.specs.Parts.{purse, name, rights}
 use Rattle.s4_codec.specs.Requests.{request, bodies, part_of_create, part_of_delete, part_of_read, part_of_write, part_of_append, part_of_truncate, part_of_get_attr, part_of_set_attr, part_of_get_acl_by_user, part_of_get_acl_by_index, part_of_set_acl, part_of_pcreate, part_of_pdelete, part_of_plist, part_of_pmount, part_of_flush, part_of_flush_object, part_of_set_window, part_of_set_budget, part_of_read_audit}
 use Rattle.s4_codec.proofs.Lawful.{AreCases, IsFormat, some_is, byte_is, pair_is, cases_are, made_case, no_case, ◌and◌}
-use Rattle.s4_codec.proofs.PartLaws.{moment_is, word_is, principal_is, purse_number_is, purse_is, object_is, name_is, rights_are, bytes_are, optional_moment_is, optional_after_is}
+use Rattle.s4_codec.proofs.PartLaws.{moment_is, word_is, principal_is, user_is, purse_number_is, purse_is, object_is, name_is, rights_are, bytes_are, optional_moment_is, optional_after_is}
 
 back_create : (r : Request) (x : ℕ) → part_of_create r ≡ Some x → Create x ≡ r
 back_create (Create n) x e = rw (sym (some_is n x e)) refl
@@ -102,9 +102,9 @@ cases_of =
     and made_case (pair_is object_is word_is) (λ x. refl) back_truncate (λ x. refl)
     and made_case (pair_is object_is optional_moment_is) (λ x. refl) back_get_attr (λ x. refl)
     and made_case (pair_is object_is bytes_are) (λ x. refl) back_set_attr (λ x. refl)
-    and made_case (pair_is object_is (pair_is principal_is optional_moment_is)) (λ x. refl) back_get_acl_by_user (λ x. refl)
+    and made_case (pair_is object_is (pair_is user_is optional_moment_is)) (λ x. refl) back_get_acl_by_user (λ x. refl)
     and made_case (pair_is object_is (pair_is byte_is optional_moment_is)) (λ x. refl) back_get_acl_by_index (λ x. refl)
-    and made_case (pair_is object_is (pair_is principal_is rights_are)) (λ x. refl) back_set_acl (λ x. refl)
+    and made_case (pair_is object_is (pair_is user_is rights_are)) (λ x. refl) back_set_acl (λ x. refl)
     and made_case (pair_is name_is object_is) (λ x. refl) back_pcreate (λ x. refl)
     and made_case (pair_is purse_is name_is) (λ x. refl) back_pdelete (λ x. refl)
     and made_case (pair_is principal_is (pair_is optional_after_is optional_moment_is)) (λ x. refl) back_plist (λ x. refl)

@@ -1,10 +1,11 @@
--- How long spellings are at most, and that a reply within the drive's limits has one within a frame.
+-- How long spellings are at most, and that a reply within the limits of version 1 has one within a frame.
 use Rattle.std.proofs.Common.{◌≡◌, ℕ, ◌+◌, ◌*◌, ◌≤◌, ◌<◌, Bool, true, false, ◌&&◌, Option, Some, None, List, [], ◌∷◌, ◌++◌, length, refl, arith}
 use Rattle.std.specs.Prelude.{◌==◌, nat_le, nat_lt}
 use Rattle.std.specs.List.{flat_map, list_all}
 use Rattle.std.proofs.lemmas.Bool.{leb-true, le-leb}
 use Rattle.std.proofs.lemmas.List.{length-append}
 use Rattle.byteorder.specs.Endian.{big_bytes}
+use Rattle.s4_types.specs.declared.principal.WireVersion.TheVariants.{One}
 use Rattle.s4_types.specs.declared.reply.Grant.{Grant}
 use Rattle.s4_types.specs.declared.reply.Refusal.{Refusal}
 use Rattle.s4_types.specs.declared.reply.Refusal.TheVariants.{Denied, NoObject, NoPartition, Future, TooOld, Flushed, TooLong, AclFull, NoEntry, Exists, PartsFull, Named, NamesSpent, OverBudget, BadRange, NoMemory}
@@ -14,7 +15,7 @@ use Rattle.s4_types.specs.Rights.{number_of}
 use Rattle.s4_types.specs.Name.{is_name, is_name_byte}
 use Rattle.s4_types.specs.Limits.{is_shown_grant, is_within_limits}
 use Rattle.s4_codec.specs.Format.{Format, nothing, ◌&◌, byte, number, only, made, fits_part, spell_part, optional, list_up_to}
-use Rattle.s4_codec.specs.Parts.{moment, principal, purse_number, index, serial, pad, object, name, byte_string, rights_given, grant, flag, flag_of, number_of_flag, right_needed, right_of, is_right}
+use Rattle.s4_codec.specs.Parts.{moment, principal, user, purse_number, index, serial, pad, object, name, byte_string, rights_given, grant, flag, flag_of, number_of_flag, right_needed, right_of, is_right}
 use Rattle.s4_codec.specs.Frames.{frame_limit, framed, front_of, Whole}
 use Rattle.s4_codec.specs.Replies.{name_line, code, reply_code, audit_line, refusal, reply, reply_in, has_body}
 use Rattle.s4_codec.proofs.Lawful.{IsWide, wide2, wide4, wide8, both_true, spelled_is_read}
@@ -74,6 +75,9 @@ moment_short = number_short 8 wide8
 
 principal_short : IsShort 4 principal
 principal_short = only_short 4 _ (number 4) (number_short 4 wide4)
+
+user_short : IsShort 4 user
+user_short = number_short 4 wide4
 
 pad_short : IsShort 1 pad
 pad_short = only_short 1 (λ n. n == 0) byte byte_short
@@ -154,9 +158,9 @@ refusal_short NoMemory e = omega arith
 
 -- BODIES
 
-entry_short : IsShort 16 (grant & (index & (principal & rights_given)))
-entry_short = pair_short 10 6 grant (index & (principal & rights_given)) grant_short
-    (pair_short 1 5 index (principal & rights_given) (only_short 1 _ byte byte_short) (pair_short 4 1 principal rights_given principal_short (only_short 1 _ byte byte_short)))
+entry_short : IsShort 16 (grant & (index & (user & rights_given)))
+entry_short = pair_short 10 6 grant (index & (user & rights_given)) grant_short
+    (pair_short 1 5 index (user & rights_given) (only_short 1 _ byte byte_short) (pair_short 4 1 user rights_given user_short (only_short 1 _ byte byte_short)))
 
 mounted_short : IsShort 18 (grant & object)
 mounted_short = pair_short 10 8 grant object grant_short object_short
@@ -182,30 +186,30 @@ few_bytes a n most e = leb-true n most (both_true a (nat_le n most) e).1
 with_kind : (kind most : ℕ) (fields : List ℕ) → length fields ≤ most → most ≤ 8191 → length (kind ∷ fields) ≤ 8192
 with_kind kind most fields few small = omega (arith, few, small)
 
-pub spelled_short : (r : Reply) → reply.fits r ≡ true → is_within_limits r ≡ true → length (reply.spell r) ≤ 8192
+pub spelled_short : (r : Reply) → reply.fits r ≡ true → is_within_limits One r ≡ true → length (reply.spell r) ≤ 8192
 spelled_short Done e w = with_kind 0 0 [] (omega arith) (omega arith)
 spelled_short (Made o) e w = with_kind 1 8 (object.spell o) (object_short.most o e) (omega arith)
 spelled_short (Data g bytes) e w = with_kind 2 4108 ((grant & byte_string).spell (g, bytes)) (read_short g bytes e (few_bytes (is_shown_grant g) (length bytes) 4096 w)) (omega arith)
 spelled_short (Attr g bytes) e w =
     let few : length bytes ≤ 256 = few_bytes (is_shown_grant g) (length bytes) 256 w in
     with_kind 3 4108 ((grant & byte_string).spell (g, bytes)) (read_short g bytes e (omega (arith, few))) (omega arith)
-spelled_short (Entry g i user rights) e w = with_kind 4 16 ((grant & (index & (principal & rights_given))).spell (g, (i, (user, rights)))) (entry_short.most (g, (i, (user, rights))) e) (omega arith)
+spelled_short (Entry g i user rights) e w = with_kind 4 16 ((grant & (index & (user & rights_given))).spell (g, (i, (user, rights)))) (entry_short.most (g, (i, (user, rights))) e) (omega arith)
 spelled_short (Mounted g o) e w = with_kind 5 18 ((grant & object).spell (g, o)) (mounted_short.most (g, o) e) (omega arith)
 spelled_short (Names lines more) e w = with_kind 6 3266 ((list_up_to 64 name_line & flag).spell (lines, more)) (names_short.most (lines, more) e) (omega arith)
 spelled_short (Audit lines more) e w = with_kind 7 610 ((list_up_to 32 audit_line & flag).spell (lines, more)) (audit_short.most (lines, more) e) (omega arith)
 spelled_short (Refused r) e w = with_kind 8 13 (refusal.spell r) (refusal_short r e) (omega arith)
 
 -- a reply whose spelling is longer than a frame isn't within the limits
-pub longer_exceeds : (r : Reply) → reply.fits r ≡ true → 8192 < length (reply.spell r) → is_within_limits r ≡ false
-longer_exceeds r e long = of (is_within_limits r) refl
+pub longer_exceeds : (r : Reply) → reply.fits r ≡ true → 8192 < length (reply.spell r) → is_within_limits One r ≡ false
+longer_exceeds r e long = of (is_within_limits One r) refl
   where
-    of : (b : Bool) → is_within_limits r ≡ b → b ≡ false
+    of : (b : Bool) → is_within_limits One r ≡ b → b ≡ false
     of true w = let short = spelled_short r e w in absurd (omega (arith, long, short))
     of false w = refl
 
 -- BODIES OF REPLIES
 
-pub within_has_body : (r : Reply) → reply.fits r ≡ true → is_within_limits r ≡ true → has_body r ≡ true
+pub within_has_body : (r : Reply) → reply.fits r ≡ true → is_within_limits One r ≡ true → has_body r ≡ true
 within_has_body r e w = rw (e, le-leb (length (reply.spell r)) 8192 (spelled_short r e w)) refl
 
 pub body_read : (r : Reply) → has_body r ≡ true → reply_in (reply.spell r) ≡ Some r

@@ -19,6 +19,10 @@ moment = number 8
 abbrev pub principal : Format ℕ
 principal = only (λ n. nat_lt n 4294967295) (number 4)
 
+-- whom an entry of an ACL is for: the number of a principal, or 4294967295, which is everyone
+abbrev pub user : Format ℕ
+user = number 4
+
 -- the number of one of the sixteen purses of a principal
 abbrev pub purse_number : Format ℕ
 purse_number = only (λ n. nat_lt n 16) byte

@@ -11,7 +11,7 @@ use Rattle.s4_types.specs.declared.reply.Reply.{Reply}
 use Rattle.s4_types.specs.declared.reply.Reply.TheVariants.{Done, Made, Data, Attr, Entry, Mounted, Names, Audit, Refused}
 use Rattle.s4_types.specs.Audit.{number_of_refusal}
 use Rattle.s4_codec.specs.Format.{Format, nothing, ◌&◌, byte, number, only, made, list_up_to, cases, no_format, value_in, fits_in, Spells}
-use Rattle.s4_codec.specs.Parts.{moment, principal, index, object, name, byte_string, rights_given, grant, flag, right_needed}
+use Rattle.s4_codec.specs.Parts.{moment, principal, user, index, object, name, byte_string, rights_given, grant, flag, right_needed}
 use Rattle.s4_codec.specs.Frames.{frame_limit}
 
 -- LINES
@@ -159,7 +159,7 @@ abbrev pub attr_read : Format Reply
 attr_read = made (grant & byte_string) (λ x. Attr x.0 x.1) part_of_attr
 
 abbrev pub entry : Format Reply
-entry = made (grant & (index & (principal & rights_given))) (λ x. Entry x.0 x.1.0 x.1.1.0 x.1.1.1) part_of_entry
+entry = made (grant & (index & (user & rights_given))) (λ x. Entry x.0 x.1.0 x.1.1.0 x.1.1.1) part_of_entry
 
 abbrev pub mounted : Format Reply
 mounted = made (grant & object) (λ x. Mounted x.0 x.1) part_of_mounted

@@ -7,7 +7,7 @@ use Rattle.s4_types.specs.declared.request.Request.{Request}
 use Rattle.s4_types.specs.declared.request.Request.TheVariants.{Create, Delete, Read, Write, Append, Truncate, GetAttr, SetAttr, GetAclByUser, GetAclByIndex, SetAcl, PCreate, PDelete, PList, PMount, Flush, FlushO, SetWindow, SetBudget, ReadAudit}
 use Rattle.s4_types.specs.Audit.{code_of}
 use Rattle.s4_codec.specs.Format.{Format, ◌&◌, byte, number, made, cases, no_format, value_in, Spells}
-use Rattle.s4_codec.specs.Parts.{moment, principal, purse_number, purse, object, rights, name, byte_string, optional_moment, optional_after}
+use Rattle.s4_codec.specs.Parts.{moment, principal, user, purse_number, purse, object, rights, name, byte_string, optional_moment, optional_after}
 use Rattle.s4_codec.specs.Frames.{frame_limit}
 
 -- FIELDS
@@ -75,7 +75,7 @@ part_of_get_acl_by_user (GetAclByUser o user at) = Some (o, (user, at))
 part_of_get_acl_by_user _ = None
 
 abbrev pub get_acl_by_user : Format Request
-get_acl_by_user = made (object & (principal & optional_moment)) (λ x. GetAclByUser x.0 x.1.0 x.1.1) part_of_get_acl_by_user
+get_acl_by_user = made (object & (user & optional_moment)) (λ x. GetAclByUser x.0 x.1.0 x.1.1) part_of_get_acl_by_user
 
 abbrev pub part_of_get_acl_by_index : Request → Option (ObjectId × (ℕ × Option ℕ))
 part_of_get_acl_by_index (GetAclByIndex o index at) = Some (o, (index, at))
@@ -89,7 +89,7 @@ part_of_set_acl (SetAcl o user rights) = Some (o, (user, rights))
 part_of_set_acl _ = None
 
 abbrev pub set_acl : Format Request
-set_acl = made (object & (principal & rights)) (λ x. SetAcl x.0 x.1.0 x.1.1) part_of_set_acl
+set_acl = made (object & (user & rights)) (λ x. SetAcl x.0 x.1.0 x.1.1) part_of_set_acl
 
 abbrev pub part_of_pcreate : Request → Option (List ℕ × ObjectId)
 part_of_pcreate (PCreate name o) = Some (name, o)

@@ -2,6 +2,7 @@
 
 ghost use Rattle.std.specs.Prelude.{◌≡◌, ◌<◌, ◌≤◌, ◌^◌, ◌++◌, ℕ, List, length, Some, IsTrue};
 ghost use Rattle.s4_types.specs.Limits.{is_within_limits};
+ghost use Rattle.s4_types.specs.declared.principal.WireVersion.TheVariants.{One};
 ghost use Rattle.s4_types.specs.declared.reply.Reply as told;
 ghost use Rattle.s4_codec.specs.Format.{AreBytes, IsPrefixFree, IsReadBack, IsSpelledAsRead};
 ghost use Rattle.s4_codec.specs.Frames.{frame_limit, framed, front_of, Whole};
@@ -14,6 +15,7 @@ ghost use Rattle.s4_codec.specs.Requests.{request};
 pub fn no_spelling_begins_another()
     ensures moment { IsPrefixFree parts.moment }
     ensures principal { IsPrefixFree parts.principal }
+    ensures user { IsPrefixFree parts.user }
     ensures purse { IsPrefixFree parts.purse }
     ensures object { IsPrefixFree parts.object }
     ensures name { IsPrefixFree parts.name }
@@ -32,6 +34,7 @@ pub fn no_spelling_begins_another()
 pub fn spelled_values_are_read_back()
     ensures moment { IsReadBack parts.moment }
     ensures principal { IsReadBack parts.principal }
+    ensures user { IsReadBack parts.user }
     ensures purse { IsReadBack parts.purse }
     ensures object { IsReadBack parts.object }
     ensures name { IsReadBack parts.name }
@@ -50,6 +53,7 @@ pub fn spelled_values_are_read_back()
 pub fn read_values_are_spelled()
     ensures moment { IsSpelledAsRead parts.moment }
     ensures principal { IsSpelledAsRead parts.principal }
+    ensures user { IsSpelledAsRead parts.user }
     ensures purse { IsSpelledAsRead parts.purse }
     ensures object { IsSpelledAsRead parts.object }
     ensures name { IsSpelledAsRead parts.name }
@@ -73,10 +77,10 @@ pub fn framed_bodies_are_read_back()
         → bytes ≡ framed body ++ rest }
 {}
 
-/// A reply of which each part has a spelling, and that keeps to the drive's limits, has a spelling
-/// within a frame. What has one is read back from that spelling, and the spelling from its frame.
+/// A reply of which each part has a spelling, and that keeps to the limits of version 1, has a
+/// spelling within a frame. What has one is read back from that spelling, and the spelling from its frame.
 pub fn replies_within_limits_have_spellings()
-    ensures spelled { (r : told.Reply) → IsTrue (reply.fits r) → IsTrue (is_within_limits r) → IsTrue (has_body r) }
+    ensures spelled { (r : told.Reply) → IsTrue (reply.fits r) → IsTrue (is_within_limits One r) → IsTrue (has_body r) }
     ensures read { (r : told.Reply) → IsTrue (has_body r) → reply_in (reply.spell r) ≡ Some r }
     ensures framed { (r : told.Reply) (rest : List ℕ) → IsTrue (has_body r)
         → front_of frame_limit (framed (reply.spell r) ++ rest) ≡ Whole (reply.spell r) rest }

@@ -14,7 +14,7 @@ use crate::input::Input;
 use crate::read_parts::{
     read_byte, read_bytes, read_moment, read_name, read_object, read_optional_after,
     read_optional_moment, read_principal, read_purse, read_purse_number, read_rights, read_u32,
-    read_u64,
+    read_u64, read_user,
 };
 use s4_types::Request;
 use std::alloc::Global;
@@ -170,7 +170,7 @@ fn read_get_acl_by_user(input: &mut Input) -> Option<Request>
     ensures { Reads result input.new.left.now (format.get_acl_by_user.at input.old.left.now) }
 {
     let object = read_object(input)?;
-    let user = read_principal(input)?;
+    let user = read_user(input)?;
     let at = read_optional_moment(input)?;
     Some(Request::GetAclByUser { object, user, at })
 }
@@ -188,7 +188,7 @@ fn read_set_acl(input: &mut Input) -> Option<Request>
     ensures { Reads result input.new.left.now (format.set_acl.at input.old.left.now) }
 {
     let object = read_object(input)?;
-    let user = read_principal(input)?;
+    let user = read_user(input)?;
     let rights = read_rights(input)?;
     Some(Request::SetAcl {
         object,

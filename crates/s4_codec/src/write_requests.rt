@@ -14,9 +14,11 @@ use crate::frames::FRAME_LIMIT;
 use crate::write_parts::{
     write_byte, write_bytes, write_moment, write_name, write_object, write_optional_after,
     write_optional_moment, write_principal, write_purse, write_purse_number, write_rights,
-    write_u32, write_u64,
+    write_u32, write_u64, write_user,
 };
-use s4_types::{After, Bytes, Moment, Name, ObjectId, Principal, Purse, PurseNo, Request, Rights};
+use s4_types::{
+    After, Bytes, Moment, Name, ObjectId, Principal, Purse, PurseNo, Request, Rights, User,
+};
 use std::alloc::Global;
 
 /// The request's spelling (docs/PROTOCOL.md, "Requests").
@@ -163,13 +165,13 @@ fn write_set_attr(out: &mut Vec<u8>, object: &ObjectId, bytes: &Bytes) -> Result
 fn write_get_acl_by_user(
     out: &mut Vec<u8>,
     object: &ObjectId,
-    user: &Principal,
+    user: &User,
     at: &Option<Moment>,
 ) -> Result<(), WriteError>
     ensures { Puts format.get_acl_by_user (requests.GetAclByUser object.now user.now at.now) out.old.items out.new.items result }
 {
     write_object(out, object)?;
-    write_principal(out, user)?;
+    write_user(out, user)?;
     write_optional_moment(out, at)?;
     Ok(())
 }
@@ -191,13 +193,13 @@ fn write_get_acl_by_index(
 fn write_set_acl(
     out: &mut Vec<u8>,
     object: &ObjectId,
-    user: &Principal,
+    user: &User,
     rights: &Rights,
 ) -> Result<(), WriteError>
     ensures { Puts format.set_acl (requests.SetAcl object.now user.now rights.now) out.old.items out.new.items result }
 {
     write_object(out, object)?;
-    write_principal(out, user)?;
+    write_user(out, user)?;
     write_rights(out, rights)?;
     Ok(())
 }

@@ -20,7 +20,7 @@ use clap::{ArgMatches, Error};
 use s4_command::{Call, Command, Patience, Service, Settings, WordsFault};
 use s4_script::{parse_number, parse_principal, parse_request};
 use s4_stream::{Hello, principal_in};
-use s4_types::{Caller, Principal, Request};
+use s4_types::{Caller, Principal, Request, WireVersion};
 use std::alloc::Global;
 use std::rt::{Env, Files};
 use std::{env, io};
@@ -193,7 +193,11 @@ fn hello<R: Files + AllocGlobal>(rt: &R, words: &ArgMatches) -> Result<Hello, Wo
     let Some(secret) = secret_of(rt, word(words, SECRET))? else {
         return Err(misfit(alloc, SECRET, "32 hexadecimal digits"));
     };
-    let caller = Caller { who, client };
+    let caller = Caller {
+        who,
+        client,
+        version: WireVersion::One,
+    };
     Ok(Hello { caller, secret })
 }
 

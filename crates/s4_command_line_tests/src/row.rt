@@ -3,7 +3,9 @@
 use s4_command::{Call, Command, Patience, Service, Settings, WordsFault};
 use s4_command_line::given;
 use s4_stream::Hello;
-use s4_types::{Bytes, Caller, Moment, ObjectId, Principal, Purse, PurseNo, Request, Serial};
+use s4_types::{
+    Bytes, Caller, Moment, ObjectId, Principal, Purse, PurseNo, Request, Serial, WireVersion,
+};
 use std::alloc::Global;
 use std::env::FillError;
 use std::process::Abort;
@@ -225,7 +227,11 @@ fn is_fault(alloc: Global, fault: &WordsFault, wanted: &Wanted) -> Result<bool, 
 /// The call of that principal and client for what is asked.
 fn call_of(alloc: Global, who: u32, client: u32, asked: &Asked) -> Result<Call, Fail> {
     let who = Principal::new(who).ok_or("a principal")?;
-    let caller = Caller { who, client };
+    let caller = Caller {
+        who,
+        client,
+        version: WireVersion::One,
+    };
     let secret = [0, 1, 2, 3, 4, 5, 6, 7, 8, 9, 10, 11, 12, 13, 14, 15];
     let request = request_of(alloc, asked)?;
     Ok(Call::new(alloc, "nowhere", Hello { caller, secret }, request)?)

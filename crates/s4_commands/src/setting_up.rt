@@ -3,7 +3,7 @@
 use crate::fault::Fault;
 use s4_script::{NumberedLines, ReplyText, parse_principal, parse_request, read_file};
 use s4_server::{Server, Ticks};
-use s4_types::{Caller, Reply, Request};
+use s4_types::{Caller, Reply, Request, WireVersion};
 use std::alloc::Global;
 use std::str;
 use std::sync::Wait;
@@ -92,11 +92,11 @@ fn line_in(alloc: Global, line: &[u8]) -> Result<Option<Line>, Fault> {
     let Ok(who) = parse_principal(who) else {
         return Ok(None);
     };
-    let client = CLIENT;
-    Ok(
-        parse_request(alloc, verb, words).ok().map(|request| Line {
-            caller: Caller { who, client },
-            request,
-        }),
-    )
+    let caller = Caller {
+        who,
+        client: CLIENT,
+        version: WireVersion::One,
+    };
+    let request = parse_request(alloc, verb, words).ok();
+    Ok(request.map(|request| Line { caller, request }))
 }

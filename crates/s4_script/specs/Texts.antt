@@ -1,5 +1,5 @@
 -- What the line of a reply or of a connection says, and the text of a line that isn't taken.
-use Rattle.std.specs.Prelude.{ℕ, Bool, true, false, List, [], ◌∷◌, ◌++◌, length, flat_map, codes, decimal}
+use Rattle.std.specs.Prelude.{ℕ, Bool, true, false, List, [], ◌∷◌, ◌++◌, length, ◌==◌, flat_map, codes, decimal, if◌then◌else◌}
 use Rattle.hex.specs.Hex.{encode_lower}
 use Rattle.s4_types.specs.declared.audit.AuditLine.{AuditLine}
 use Rattle.s4_types.specs.declared.object.ObjectId.{ObjectId}
@@ -12,12 +12,17 @@ use Rattle.s4_types.specs.declared.reply.Reply.{Reply}
 use Rattle.s4_types.specs.declared.reply.Reply.TheVariants as reply
 use Rattle.s4_types.specs.declared.rights.Right.{Right}
 use Rattle.s4_types.specs.declared.rights.Right.TheVariants as right
+use Rattle.s4_types.specs.Judgement.{everyone}
 use Rattle.s4_script.specs.declared.error.ParseError.{ParseError}
 use Rattle.s4_script.specs.declared.error.ParseError.TheVariants as parse_error
 
 -- an object by its creator, the number of its purse and its serial, as `7.0.1`
 abbrev pub object_text : ObjectId → List ℕ
 object_text object = decimal object.purse.creator ++ codes "." ++ decimal object.purse.number ++ codes "." ++ decimal object.serial
+
+-- whom an entry of an ACL is for: a principal by its number, or everyone by that word
+abbrev pub user_text : ℕ → List ℕ
+user_text user = if user == everyone then codes "everyone" else decimal user
 
 -- bytes as two hexadecimal digits each, in lower case, or the word `empty` where there are none
 abbrev pub bytes_text : List ℕ → List ℕ
@@ -108,7 +113,7 @@ reply_text reply.Done = codes "done"
 reply_text (reply.Made object) = codes "made " ++ object_text object
 reply_text (reply.Data granted bytes) = codes "data " ++ bytes_text bytes ++ codes " " ++ grant_text granted
 reply_text (reply.Attr granted bytes) = codes "attr " ++ bytes_text bytes ++ codes " " ++ grant_text granted
-reply_text (reply.Entry granted index user rights) = codes "entry " ++ decimal index ++ codes " " ++ decimal user ++ codes " "
+reply_text (reply.Entry granted index user rights) = codes "entry " ++ decimal index ++ codes " " ++ user_text user ++ codes " "
     ++ decimal rights ++ codes " " ++ grant_text granted
 reply_text (reply.Mounted granted object) = codes "mounted " ++ object_text object ++ codes " " ++ grant_text granted
 reply_text (reply.Names lines more) = names_text lines more

@@ -2,7 +2,7 @@
 
 use crate::error::ParseError;
 use crate::{requests, words};
-use s4_types::{Caller, Principal, Step};
+use s4_types::{Caller, Principal, Step, WireVersion};
 use std::alloc::Global;
 
 /// A line after the first.
@@ -63,6 +63,7 @@ fn request(
         caller: Caller {
             who: words::principal(who)?,
             client: 0,
+            version: WireVersion::One,
         },
         request: requests::parse_request(alloc, verb, words)?,
     }))

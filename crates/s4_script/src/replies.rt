@@ -3,10 +3,10 @@
 ghost use Rattle.std.specs.Prelude.{◌≡◌, Some};
 ghost use Rattle.std.specs.Fmt.{DisplaysOnOk};
 ghost use Rattle.hex.specs.Hex.{encode_lower};
-ghost use Rattle.s4_script.specs.Texts.{bytes_text, grant_text, line_text, lines_text, names_text, object_text, refusal_text, reply_text, right_text, used_text};
+ghost use Rattle.s4_script.specs.Texts.{bytes_text, grant_text, line_text, lines_text, names_text, object_text, refusal_text, reply_text, right_text, used_text, user_text};
 
 use crate::records::AuditText;
-use s4_types::{Grant, Name, NameLine, ObjectId, Refusal, Reply, Right};
+use s4_types::{Grant, Name, NameLine, ObjectId, Refusal, Reply, Right, User};
 use std::fmt;
 
 /// A reply as its line, or as its lines where it is a page of partitions or of records.
@@ -42,7 +42,7 @@ impl fmt::Display for ReplyText<'_> {
                 user,
                 rights,
             } => {
-                let user = user.number();
+                let user = UserText(*user);
                 let rights = rights.number();
                 write!(f, "entry {index} {user} {rights} {}", GrantText(*grant))
             }
@@ -81,6 +81,22 @@ impl fmt::Display for ObjectText {
         let number = purse.number.number();
         let serial = serial.number();
         write!(f, "{creator}.{number}.{serial}")
+    }
+}
+
+/// Whom an entry of an ACL is for: a principal's number, or the word `everyone`.
+#[derive(Clone, Copy)]
+struct UserText(User);
+
+impl fmt::Display for UserText {
+    ghost output = { λ t. Some (user_text t.0) };
+
+    fn fmt<W: fmt::Write>(&self, f: &mut fmt::Formatter<W>) -> fmt::Result {
+        if self.0 == User::everyone() {
+            return write!(f, "everyone");
+        }
+        let number = self.0.number();
+        write!(f, "{number}")
     }
 }
 

@@ -119,7 +119,7 @@ fn get_acl_by_user(words: &[&str]) -> Result<Request, ParseError> {
     };
     Ok(Request::GetAclByUser {
         object: words::object(object)?,
-        user: words::principal(user)?,
+        user: words::user(user)?,
         at: words::at(at)?,
     })
 }
@@ -141,7 +141,7 @@ fn set_acl(words: &[&str]) -> Result<Request, ParseError> {
     };
     Ok(Request::SetAcl {
         object: words::object(object)?,
-        user: words::principal(user)?,
+        user: words::user(user)?,
         rights: words::rights(rights)?,
     })
 }

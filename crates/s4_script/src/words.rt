@@ -1,8 +1,13 @@
 //! The words of a line, by what they spell.
 
+ghost use Rattle.std.specs.Prelude.{◌≡◌, ◌<◌, ◌↔◌, IfOk, codes};
+ghost use Rattle.s4_types.specs.Judgement.{everyone};
+
 use crate::error::ParseError;
 use hex::FromHexError;
-use s4_types::{After, Bytes, Moment, Name, ObjectId, Principal, Purse, PurseNo, Rights, Serial};
+use s4_types::{
+    After, Bytes, Moment, Name, ObjectId, Principal, Purse, PurseNo, Rights, Serial, User,
+};
 use std::alloc::Global;
 
 /// The most words that a line has.
@@ -45,8 +50,20 @@ pub fn at(words: &[&str]) -> Result<Option<Moment>, ParseError> {
     }
 }
 
-pub fn principal(word: &str) -> Result<Principal, ParseError> {
+pub fn principal(word: &str) -> Result<Principal, ParseError>
+    ensures { IfOk result (λ who. who < 4294967295) }
+{
     Principal::new(number(word)?).ok_or(ParseError::Bad)
+}
+
+/// Whom an entry of an ACL is for: a principal, or everyone by that word alone.
+pub fn user(word: &str) -> Result<User, ParseError>
+    ensures { IfOk result (λ user. (user ≡ everyone) ↔ (word.now ≡ codes "everyone")) }
+{
+    match word {
+        "everyone" => Ok(User::everyone()),
+        _ => Ok(User::of(principal(word)?)),
+    }
 }
 
 pub fn purse_number(word: &str) -> Result<PurseNo, ParseError> {

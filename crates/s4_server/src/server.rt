@@ -116,7 +116,7 @@ impl Server {
         request: &Request,
     ) -> Reply
         ensures settings { self.new ≡ self.old }
-        ensures limits { IsTrue (is_within_limits result) }
+        ensures limits { IsTrue (is_within_limits caller.version result) }
     {
         match self.passes.get_mut(0) {
             Some(pass) => self.front.serve(rt, pass, caller, clock.moment(), request),

@@ -4,7 +4,7 @@ use s4_client::CallFault;
 use s4_command::Call;
 use s4_script::parse_request;
 use s4_stream::Hello;
-use s4_types::{Caller, Principal};
+use s4_types::{Caller, Principal, WireVersion};
 use std::alloc::Global;
 
 /// The secret of principal 7, and another one.
@@ -29,6 +29,10 @@ pub fn call_for(
     };
     let request = parse_request(alloc, verb, words).map_err(|_| CallFault::BadRequest)?;
     let who = Principal::new(7).ok_or(CallFault::BadRequest)?;
-    let caller = Caller { who, client: 1 };
+    let caller = Caller {
+        who,
+        client: 1,
+        version: WireVersion::One,
+    };
     Call::new(alloc, address, Hello { caller, secret }, request)
 }

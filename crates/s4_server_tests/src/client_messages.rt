@@ -4,7 +4,7 @@ use crate::asking::SECRET;
 use crate::frames::CALL;
 use s4_client::{CallFault, message};
 use s4_stream::Hello;
-use s4_types::{Bytes, Caller, ObjectId, Principal, Purse, PurseNo, Request, Serial};
+use s4_types::{Bytes, Caller, ObjectId, Principal, Purse, PurseNo, Request, Serial, WireVersion};
 use std::alloc::Global;
 use std::test::Fail;
 
@@ -13,6 +13,7 @@ fn hello() -> Result<Hello, Fail> {
     let caller = Caller {
         who: Principal::new(7).ok_or("a principal")?,
         client: 1,
+        version: WireVersion::One,
     };
     let secret = SECRET;
     Ok(Hello { caller, secret })

@@ -1,7 +1,8 @@
 //! What is sent for what a connection's bytes say.
 
-ghost use Rattle.std.specs.Prelude.{◌≤◌, ◌∷◌, [], IfOk, OnOk};
+ghost use Rattle.std.specs.Prelude.{All, ◌≤◌, ◌∷◌, [], IfOk, OnOk};
 ghost use Rattle.s4_types.specs.Play.{last_of};
+ghost use Rattle.s4_stream.specs.First.{NamesFirst};
 ghost use Rattle.s4_session.specs.Answered.{Answered};
 
 use bytes::BytesMut;
@@ -11,14 +12,16 @@ use s4_stream::{Event, add_fault, add_reply, add_welcome};
 use s4_types::{Moment, NoMemory, Version};
 use std::alloc::Global;
 
-/// Answers events at a moment, the requests by the drive, and gives what is sent for them.
+/// Answers events at a moment, the requests by the drive, and gives what is sent for them. Their
+/// callers speak version 1 of the wire.
 pub fn answer_all(
     alloc: Global,
     drive: &mut Drive<Arena<Version>>,
     moment: Moment,
     events: &[Event],
 ) -> Result<Vec<u8>, NoMemory>
-    requires { last_of drive.old.history ≤ moment }
+    requires later { last_of drive.old.history ≤ moment }
+    requires first { All NamesFirst events.now }
     ensures answered { IfOk result (λ sent. Answered moment events.now drive.old drive.new [] sent.items) }
     ensures last { last_of drive.new.history ≤ moment }
 {
@@ -35,7 +38,8 @@ fn answer(
     event: &Event,
     out: &mut BytesMut,
 ) -> Result<(), NoMemory>
-    requires { last_of drive.old.history ≤ moment }
+    requires later { last_of drive.old.history ≤ moment }
+    requires first { NamesFirst event.now }
     ensures answered { OnOk result (Answered moment (event.now ∷ []) drive.old drive.new out.old.items out.new.items) }
     ensures last { last_of drive.new.history ≤ moment }
 {

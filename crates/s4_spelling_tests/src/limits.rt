@@ -3,7 +3,7 @@
 use s4_codec::{FRAME_LIMIT, WriteError, read_reply, read_request, write_reply, write_request};
 use s4_types::{
     AuditLine, AuditLines, Bytes, Grant, Moment, Name, NameLine, NameLines, ObjectId, Principal,
-    Purse, PurseNo, Reply, Request, Rights, Serial,
+    Purse, PurseNo, Reply, Request, Rights, Serial, User,
 };
 use std::alloc::Global;
 use std::test::Fail;
@@ -120,7 +120,7 @@ fn largest_replies(rt: HostRuntime) -> Result<(), Fail> {
 
 #[test]
 fn entries_without_a_spelling(rt: HostRuntime) -> Result<(), Fail> {
-    let user = principal()?;
+    let user = User::everyone();
     let no_entry = Grant::Entry {
         index: 16,
         since: Moment::new(6),

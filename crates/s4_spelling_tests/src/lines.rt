@@ -12,7 +12,7 @@ const FIRST_LINES: [(&str, u64); 2] = [
 ];
 
 /// Lines after the first.
-const LINES: [(&str, &str); 7] = [
+const LINES: [(&str, &str); 9] = [
     ("used", "Used"),
     (
         "sweep 18446744073709551615",
@@ -21,13 +21,13 @@ const LINES: [(&str, &str); 7] = [
     (
         "5 7 create 15",
         "Step(Request { moment: Moment { tick: 5 }, \
-         caller: Caller { who: Principal { number: 7 }, client: 0 }, \
+         caller: Caller { who: Principal { number: 7 }, client: 0, version: One }, \
          request: Create { number: PurseNo { number: 15 } } })",
     ),
     (
         "0 0 setbudget 7.15 4294967295",
         "Step(Request { moment: Moment { tick: 0 }, \
-         caller: Caller { who: Principal { number: 0 }, client: 0 }, \
+         caller: Caller { who: Principal { number: 0 }, client: 0, version: One }, \
          request: SetBudget { \
          purse: Purse { creator: Principal { number: 7 }, number: PurseNo { number: 15 } }, \
          budget: 4294967295 } })",
@@ -35,21 +35,38 @@ const LINES: [(&str, &str); 7] = [
     (
         "0 7 read 7.0.1 0 5",
         "Step(Request { moment: Moment { tick: 0 }, \
-         caller: Caller { who: Principal { number: 7 }, client: 0 }, \
+         caller: Caller { who: Principal { number: 7 }, client: 0, version: One }, \
          request: Read { object: ObjectId { \
          purse: Purse { creator: Principal { number: 7 }, number: PurseNo { number: 0 } }, \
          serial: Serial { number: 1 } }, offset: 0, length: 5, at: None } })",
     ),
     (
+        "0 7 setacl 7.0.1 everyone 17",
+        "Step(Request { moment: Moment { tick: 0 }, \
+         caller: Caller { who: Principal { number: 7 }, client: 0, version: One }, \
+         request: SetAcl { object: ObjectId { \
+         purse: Purse { creator: Principal { number: 7 }, number: PurseNo { number: 0 } }, \
+         serial: Serial { number: 1 } }, user: User { number: 4294967295 }, \
+         rights: Rights { number: 17 } } })",
+    ),
+    (
+        "0 7 acl-user 7.0.1 4294967294",
+        "Step(Request { moment: Moment { tick: 0 }, \
+         caller: Caller { who: Principal { number: 7 }, client: 0, version: One }, \
+         request: GetAclByUser { object: ObjectId { \
+         purse: Purse { creator: Principal { number: 7 }, number: PurseNo { number: 0 } }, \
+         serial: Serial { number: 1 } }, user: User { number: 4294967294 }, at: None } })",
+    ),
+    (
         "0 0 flush 5 6",
         "Step(Request { moment: Moment { tick: 0 }, \
-         caller: Caller { who: Principal { number: 0 }, client: 0 }, \
+         caller: Caller { who: Principal { number: 0 }, client: 0, version: One }, \
          request: Flush { from: Moment { tick: 5 }, to: Moment { tick: 6 } } })",
     ),
     (
         "0 0 flusho 7.0.1 5 6",
         "Step(Request { moment: Moment { tick: 0 }, \
-         caller: Caller { who: Principal { number: 0 }, client: 0 }, \
+         caller: Caller { who: Principal { number: 0 }, client: 0, version: One }, \
          request: FlushO { object: ObjectId { \
          purse: Purse { creator: Principal { number: 7 }, number: PurseNo { number: 0 } }, \
          serial: Serial { number: 1 } }, \
@@ -75,7 +92,7 @@ const ARRIVALS: [(&str, &str); 3] = [
 ];
 
 /// Lines after the first that spell nothing.
-const BAD_LINES: [&str; 132] = [
+const BAD_LINES: [&str; 138] = [
     "0",
     "0 7",
     "0 7 ",
@@ -85,6 +102,7 @@ const BAD_LINES: [&str; 132] = [
     "0 7 create 0\r",
     "18446744073709551616 7 create 0",
     "0 4294967295 create 0",
+    "0 everyone create 0",
     "0 7 Create 0",
     "0 7 create",
     "0 7 create 0 0",
@@ -128,6 +146,7 @@ const BAD_LINES: [&str; 132] = [
     "0 7 setattr 7.0.1 61 at 0",
     "0 7 acl-user 7.0.1",
     "0 7 acl-user 7.0.1 4294967295",
+    "0 7 acl-user 7.0.1 Everyone",
     "0 7 acl-user 7.0.1 9 at",
     "0 7 acl-index 7.0.1",
     "0 7 acl-index 7.0.1 256",
@@ -135,6 +154,7 @@ const BAD_LINES: [&str; 132] = [
     "0 7 setacl 7.0.1 9",
     "0 7 setacl 7.0.1 9 32",
     "0 7 setacl 7.0.1 4294967295 1",
+    "0 7 setacl everyone.0.1 9 1",
     "0 7 setacl 7.0.1 9 1 at 0",
     "0 7 pcreate home",
     "0 7 pcreate home 7.0",
@@ -152,6 +172,7 @@ const BAD_LINES: [&str; 132] = [
     "0 7 pdelete 7.0 home at 0",
     "0 7 plist",
     "0 7 plist 4294967295",
+    "0 7 plist everyone",
     "0 7 plist 9 1 b",
     "0 7 plist 9 after 1",
     "0 7 plist 9 after b 1",
@@ -188,6 +209,7 @@ const BAD_LINES: [&str; 132] = [
     "0 0 setbudget 7.0.1 1",
     "0 0 setbudget 7.16 1",
     "0 0 setbudget 4294967295.0 1",
+    "0 0 setbudget everyone.0 1",
     "0 0 setbudget 7.0 -1",
     "0 0 setbudget 7.0 4294967296",
     "0 0 setbudget 1 7.0",
@@ -195,6 +217,7 @@ const BAD_LINES: [&str; 132] = [
     "0 7 audit",
     "0 7 audit 9",
     "0 7 audit 4294967295 0",
+    "0 7 audit everyone 0",
     "0 7 audit 9.0 0",
     "0 7 audit 9 -1",
     "0 7 audit 9 4294967296",

@@ -8,7 +8,7 @@ use std::process::Abort;
 use std::test::Fail;
 
 /// Bodies in hexadecimal digits, and the text of the reply that each spells.
-const BODIES: [(&str, &str); 44] = [
+const BODIES: [(&str, &str); 45] = [
     ("00", "done"),
     ("010000000700000001", "made 7.0.1"),
     ("0100000007000fffff", "made 7.15.65535"),
@@ -33,6 +33,7 @@ const BODIES: [(&str, &str); 44] = [
         "entry 15 9 31 by 15 since 258",
     ),
     ("04000ffffffffe1f", "entry 15 4294967294 31 by admin"),
+    ("04000fffffffff11", "entry 15 everyone 17 by admin"),
     ("05000000000700000001", "mounted 7.0.1 by admin"),
     (
         "05010100000000000000030000000900000002",

@@ -8,7 +8,7 @@ use std::process::Abort;
 use std::test::Fail;
 
 /// Bodies in hexadecimal digits, and a line of a script that asks for the same.
-const BODIES: [(&str, &str); 21] = [
+const BODIES: [(&str, &str); 23] = [
     ("0100", "0 7 create 0"),
     ("020000000700000001", "0 7 delete 7.0.1"),
     ("030000000700000001000000000000000500", "0 7 read 7.0.1 0 5"),
@@ -24,8 +24,16 @@ const BODIES: [(&str, &str); 21] = [
     ),
     ("080000000700000001000161", "0 7 setattr 7.0.1 61"),
     ("0900000007000000010000000900", "0 7 acl-user 7.0.1 9"),
+    (
+        "090000000700000001ffffffff00",
+        "0 7 acl-user 7.0.1 everyone",
+    ),
     ("0a0000000700000001ff00", "0 7 acl-index 7.0.1 255"),
     ("0b0000000700000001000000091f", "0 7 setacl 7.0.1 9 31"),
+    (
+        "0b0000000700000001ffffffff11",
+        "0 7 setacl 7.0.1 everyone 17",
+    ),
     ("0c04686f6d650000000700000001", "0 7 pcreate home 7.0.1"),
     ("0d000000070f03612d30", "0 7 pdelete 7.15 a-0"),
     ("0e0000000900010000000000000102", "0 7 plist 9 at 258"),
@@ -42,7 +50,7 @@ const BODIES: [(&str, &str); 21] = [
 ];
 
 /// Bodies of no request, in hexadecimal digits.
-const BAD_BODIES: [&str; 16] = [
+const BAD_BODIES: [&str; 18] = [
     "",
     // No kind has these codes.
     "00",
@@ -55,6 +63,9 @@ const BAD_BODIES: [&str; 16] = [
     "020000000701000001",
     "02ffffffff00000001",
     "020000000700000000",
+    // Everyone is no range.
+    "0effffffff0000",
+    "14ffffffff00000002",
     // Neither no moment nor one, and a moment that isn't whole.
     "07000000070000000102",
     "0700000007000000010100000000000001",

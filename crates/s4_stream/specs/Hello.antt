@@ -1,5 +1,7 @@
 -- How a connection begins.
 use Rattle.std.specs.Prelude.{ℕ, ◌==◌, if◌then◌else◌, Option, Some, None, List, [], ◌∷◌}
+use Rattle.s4_types.specs.declared.principal.WireVersion.{WireVersion}
+use Rattle.s4_types.specs.declared.principal.WireVersion.TheVariants.{One, Two}
 use Rattle.s4_codec.specs.Format.{Format, ◌&◌, byte, number, block, only, made, cases, whole}
 use Rattle.s4_codec.specs.Parts.{principal}
 use Rattle.s4_stream.specs.Logins.{Logins, is_login}
@@ -8,15 +10,24 @@ use Rattle.s4_stream.specs.declared.event.Event.{Event}
 use Rattle.s4_stream.specs.declared.event.Event.TheVariants.{Welcome, Fault}
 use Rattle.s4_stream.specs.declared.event.SessionFault.TheVariants as fault
 
--- the version of the wire, of which there is one
-abbrev pub version : Format ℕ
-version = only (λ n. n == 1) byte
+-- the number of a version of the wire
+abbrev pub number_of_version : WireVersion → ℕ
+number_of_version One = 1
+number_of_version Two = 2
+
+-- the version of that number
+abbrev pub version_of : ℕ → WireVersion
+version_of n = if n == 1 then One else Two
+
+-- the version of the wire that a Hello names, which is 1 alone
+abbrev pub version : Format WireVersion
+version = made (only (λ n. n == 1) byte) version_of (λ v. Some (number_of_version v))
 
 -- version, principal, client and secret
 abbrev pub hello_fields : Format Hello
 hello_fields = made (version & (principal & (number 4 & block 16)))
-    (λ x. record { caller = record { who = x.1.0; client = x.1.1.0 }; secret = x.1.1.1 })
-    (λ h. Some (1, (h.caller.who, (h.caller.client, h.secret))))
+    (λ x. record { caller = record { who = x.1.0; client = x.1.1.0; version = x.0 }; secret = x.1.1.1 })
+    (λ h. Some (h.caller.version, (h.caller.who, (h.caller.client, h.secret))))
 
 -- the body of code 0
 abbrev pub hello : Format Hello

@@ -2,5 +2,6 @@ pub mod Logins
 pub mod LoginText
 pub mod Hello
 pub mod Stream
+pub mod First
 pub mod Feeding
 pub mod Talk

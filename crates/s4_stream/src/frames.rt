@@ -2,6 +2,7 @@
 
 ghost use Rattle.std.specs.Prelude.{◌≡◌, ◌+◌, ◌<◌, ◌≤◌, ◌++◌, length, IsOk, IsTrue, OnErr, OnOk};
 ghost use Rattle.s4_types.specs.Limits.{is_within_limits};
+ghost use Rattle.s4_types.specs.declared.principal.WireVersion.TheVariants.{One};
 ghost use Rattle.s4_codec.specs.Frames.{frame_limit, framed};
 ghost use Rattle.s4_codec.specs.Replies.{has_body};
 ghost use Rattle.s4_stream.specs.Talk.{welcome, fault_frame, reply_frame};
@@ -63,9 +64,9 @@ pub fn add_fault(out: &mut BytesMut, fault: SessionFault) -> Result<(), NoMemory
     add_frame(out, &[FAULT, fault.number()])
 }
 
-/// Adds the frame of a reply that is within the limits of a drive, so it is never too big for one.
+/// Adds the frame of a reply that is within the limits of version 1, so it is never too big for one.
 pub fn add_reply(out: &mut BytesMut, reply: &Reply) -> Result<(), NoMemory>
-    requires { IsTrue (is_within_limits reply.now) }
+    requires { IsTrue (is_within_limits One reply.now) }
     ensures added { OnOk result (out.new.items ≡ out.old.items ++ reply_frame reply.now) }
     ensures none { OnErr result (out.new.items ≡ out.old.items) }
     ensures body { OnOk result (IsTrue (has_body reply.now)) }

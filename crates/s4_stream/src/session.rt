@@ -1,6 +1,7 @@
 //! What a connection's bytes say, however they are cut.
 
-ghost use Rattle.std.specs.Prelude.{◌≡◌, ◌≤◌, ◌↔◌, length, drop, [], IfOk, IsErrOf, OnOk, OnErr};
+ghost use Rattle.std.specs.Prelude.{◌≡◌, ◌≤◌, ◌↔◌, All, length, drop, [], IfOk, IsErrOf, OnOk, OnErr};
+ghost use Rattle.s4_stream.specs.First.{NamesFirst};
 ghost use Rattle.s4_stream.specs.Hello.{greeted, hello_in};
 ghost use Rattle.s4_stream.specs.Stream.{caller_at, said, state_after, hear};
 ghost use Rattle.s4_stream.specs.Feeding.{HearsOne, heard_so_far, hear_piece, left_by};
@@ -25,7 +26,8 @@ pub enum FeedError {
     NoMemory,
 }
 
-/// One connection: where it stands, and the bytes of the frame that isn't whole yet.
+/// One connection: where it stands, and the bytes of the frame that isn't whole yet. Whoever calls on
+/// it speaks version 1 of the wire, as each Hello says.
 #[derive(Drop)]
 pub struct Session {
     alloc: Global,
@@ -41,9 +43,10 @@ impl Model for Session {
     ghost view = { λ s. record { state = s.state; pending = s.pending.items } };
 
     ghost use Rattle.std.specs.Prelude.{◌≡◌, []};
+    ghost use Rattle.s4_stream.specs.First.{SpeaksFirst};
     ghost use Rattle.s4_stream.specs.declared.event.SessionState.TheVariants as states;
 
-    ghost invariant = { λ s. s.state ≡ states.Closed → s.pending.items ≡ [] };
+    ghost invariant = { λ s. (s.state ≡ states.Closed → s.pending.items ≡ []) × SpeaksFirst s.state };
 }
 
 impl Session {
@@ -64,6 +67,8 @@ impl Session {
         // The events, where the connection stands then and what is held are the definition's.
         ensures events { IfOk result (λ events. hear_piece logins.now self.old piece.now
             ≡ heard_so_far events.items self.new.state self.new.pending) }
+        // Whoever is named in them speaks version 1.
+        ensures first { IfOk result (λ events. All NamesFirst events.items) }
         // After a fault nothing is heard.
         ensures closed { IsErrOf result feed_error.Closed ↔ (self.old.state ≡ states.Closed) }
         ensures err { OnErr result (self.new ≡ self.old) }
@@ -108,6 +113,7 @@ impl Session {
     /// The same as `feed`, but after a fault a piece says nothing.
     pub fn hear(&mut self, logins: &Logins, piece: &[u8]) -> Result<Vec<Event>, NoMemory>
         ensures events { IfOk result (λ events. events.items ≡ (hear_piece logins.now self.old piece.now).events) }
+        ensures first { IfOk result (λ events. All NamesFirst events.items) }
         ensures session { OnOk result (self.new ≡ left_by (hear_piece logins.now self.old piece.now)) }
     {
         match self.feed(logins, piece) {

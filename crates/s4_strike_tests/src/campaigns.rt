@@ -22,11 +22,14 @@ const FOR_7: &[u32] = &[7];
 
 const FOR_9: &[u32] = &[9];
 
+const FOR_NEITHER: &[u32] = &[];
+
 pub const CAMPAIGNS: &[Campaign] = &[
     FILLING_A_BUDGET,
     PROBING_NAMES,
     PROBING_MOMENTS,
     DELETES_AND_GRANTS,
+    ENTRY_FOR_EVERYONE,
 ];
 
 /// 9 spends the budget of a purse that was shared with it. The purse 7.1 isn't near 9.
@@ -99,6 +102,36 @@ const DELETES_AND_GRANTS: Campaign = Campaign {
         Asked("5 7 read 7.0.1 0 1 at 2", "data empty by 0 since 2", FOR_7),
         Asked("5 9 read 7.0.1 0 1 at 3", "data empty by 0 since 3", FOR_9),
         Asked("5 9 read 7.0.1 0 1", "denied read", FOR_9),
+    ],
+};
+
+/// 9 may what everyone may, until it has an entry of its own, and once that is gone.
+const ENTRY_FOR_EVERYONE: Campaign = Campaign {
+    window: "window 100",
+    lines: &[
+        Asked("1 7 create 0", "made 7.0.1", BOTH),
+        Asked("1 7 create 1", "made 7.1.1", FOR_7),
+        Asked("2 7 setacl 7.0.1 everyone 17", "done", BOTH),
+        Asked("3 9 read 7.0.1 0 1 at 2", "data empty by 1 since 2", FOR_9),
+        Asked("4 7 setacl 7.0.1 9 2", "done", BOTH),
+        Asked("5 9 read 7.0.1 0 1", "denied read", FOR_9),
+        Asked("5 8 read 7.0.1 0 1", "data empty by 1 since 4", FOR_NEITHER),
+        Asked(
+            "5 8 acl-user 7.0.1 everyone",
+            "entry 1 everyone 17 by 1 since 4",
+            FOR_NEITHER,
+        ),
+        Asked("5 8 acl-user 7.0.1 8", "no-entry", FOR_NEITHER),
+        Asked("5 9 write 7.0.1 0 61", "done", BOTH),
+        Asked("6 8 setacl 7.0.1 everyone 31", "denied control", BOTH),
+        Asked("6 7 setacl 7.0.1 9 0", "done", BOTH),
+        Asked("6 9 read 7.0.1 0 1", "data 61 by 1 since 6", FOR_9),
+        Asked("6 9 write 7.0.1 0 62", "denied write", BOTH),
+        Asked("7 7 setacl 7.0.1 everyone 0", "done", BOTH),
+        Asked("7 9 read 7.0.1 0 1", "denied read", FOR_9),
+        Asked("7 9 read 7.0.1 0 1 at 6", "data 61 by 1 since 6", FOR_9),
+        Asked("7 9 read 7.0.1 0 1 at 4", "denied read", FOR_9),
+        Asked("8 9 setacl 7.1.1 everyone 1", "denied control", BOTH),
     ],
 };
 

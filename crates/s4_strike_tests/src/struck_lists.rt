@@ -8,19 +8,23 @@ use std::process::Abort;
 use std::test::Fail;
 
 /// What makes a purse near 9, and what doesn't: the purse 7.0 is near from the first line on, by
-/// a request that comes late; 7.1 by one that is refused, 7.2 by one for no rights; 7.3 isn't,
-/// where 9 itself asks, and where another is named. What is told doesn't matter.
+/// a request that comes late; 7.1 by one that is refused, 7.2 by one for no rights, 7.4 by one that
+/// names everyone; 7.3 isn't, where 9 itself asks, and where another is named. What is told doesn't
+/// matter.
 const NEAR: &[Asked] = &[
     Asked("1 7 create 0", "", STAYS),
     Asked("1 7 create 1", "", STAYS),
     Asked("1 7 create 2", "", STAYS),
     Asked("1 7 create 3", "", GOES),
+    Asked("1 7 create 4", "", STAYS),
     Asked("1 8 write 7.0.1 0 61", "", STAYS),
     Asked("1 8 write 7.3.1 0 61", "", GOES),
     Asked("2 8 setacl 7.1.9 9 31", "", STAYS),
     Asked("2 7 setacl 7.2.1 9 0", "", STAYS),
     Asked("2 9 setacl 7.3.1 9 31", "", STAYS),
     Asked("2 7 setacl 7.3.1 8 31", "", GOES),
+    Asked("2 8 setacl 7.4.9 everyone 1", "", STAYS),
+    Asked("2 9 setacl 7.3.1 everyone 1", "", STAYS),
     Asked("3 9 create 0", "", STAYS),
     Asked("3 7 append 9.0.1 61", "", STAYS),
     Asked("3 7 read 9.0.1 0 1", "", GOES),

@@ -13,9 +13,9 @@ pub trait Answer {
     ghost calls: { Self → List Call };
 
     /// Answers a request, and adds its own call, or none where the reply is `NoMemory`: the request
-    /// was then not carried out. The reply is within the limits of a drive, so it has a spelling in a
-    /// frame (docs/PROTOCOL.md, "Replies").
+    /// was then not carried out. The reply is within the limits of the caller's version
+    /// (docs/MODEL.md, "Limits").
     fn answer(&mut self, caller: Caller, request: Request) -> Reply
         ensures called { calls self.new ≡ calls self.old ++ call_made caller request result }
-        ensures limits { IsTrue (is_within_limits result) };
+        ensures limits { IsTrue (is_within_limits caller.version result) };
 }

@@ -1,6 +1,7 @@
 //! What is heard is served.
 
-ghost use Rattle.std.specs.Prelude.{◌∷◌, [], is_ok};
+ghost use Rattle.std.specs.Prelude.{All, ◌∷◌, [], is_ok};
+ghost use Rattle.s4_stream.specs.First.{NamesFirst};
 ghost use Rattle.s4_talk.specs.Turning.{Serves, Takes, told};
 
 use crate::answer::Answer;
@@ -26,13 +27,14 @@ pub fn take_piece<A: Answer>(
     serve_all(fault, waiting, events, answer)
 }
 
-/// Serves events in turn, until there is no memory for one.
+/// Serves events in turn, until there is no memory for one. Their callers speak version 1 of the wire.
 fn serve_all<A: Answer>(
     fault: &mut Option<SessionFault>,
     waiting: &mut BytesMut,
     events: Vec<Event>,
     answer: &mut A,
 ) -> Result<(), NoMemory>
+    requires { All NamesFirst events.items }
     ensures { Serves (is_ok result) events.items (A.calls answer.old) (A.calls answer.new)
         fault.old fault.new waiting.old.items waiting.new.items }
 {
@@ -50,6 +52,7 @@ fn serve<A: Answer>(
     event: Event,
     answer: &mut A,
 ) -> Result<(), NoMemory>
+    requires { NamesFirst event }
     ensures { Serves (is_ok result) (event ∷ []) (A.calls answer.old) (A.calls answer.new)
         fault.old fault.new waiting.old.items waiting.new.items }
 {

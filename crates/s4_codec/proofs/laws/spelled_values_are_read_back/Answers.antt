@@ -2,7 +2,7 @@ use Rattle.s4_codec.specs.Parts as parts
 use Rattle.s4_codec.specs.Replies.{audit_line, name_line, refusal, reply}
 use Rattle.s4_codec.specs.Requests.{request}
 use Rattle.s4_codec.proofs.Lawful.{read_back}
-use Rattle.s4_codec.proofs.PartLaws.{moment_is, principal_is, purse_is, object_is, name_is, bytes_are, optional_moment_is, optional_after_is, grant_is}
+use Rattle.s4_codec.proofs.PartLaws.{moment_is, principal_is, user_is, purse_is, object_is, name_is, bytes_are, optional_moment_is, optional_after_is, grant_is}
 use Rattle.s4_codec.proofs.RequestLaws.{request_is}
 use Rattle.s4_codec.proofs.ReplyLaws.{name_line_is, audit_line_is, refusal_is, reply_is}
 use Rattle.s4_codec.proofs.laws.spelled_values_are_read_back.Goals as goal
@@ -12,6 +12,9 @@ returns-clause-moment c = read_back parts.moment moment_is
 
 pub returns-clause-principal : goal.returns-clause-principal
 returns-clause-principal c = read_back parts.principal principal_is
+
+pub returns-clause-user : goal.returns-clause-user
+returns-clause-user c = read_back parts.user user_is
 
 pub returns-clause-purse : goal.returns-clause-purse
 returns-clause-purse c = read_back parts.purse purse_is

@@ -1,4 +1,8 @@
 use Rattle.std.proofs.Common.{◌≡◌, ◌++◌, ◌∷◌, [], List, ℕ, sym, subst}
+use Rattle.s4_types.specs.declared.principal.WireVersion.{WireVersion}
+use Rattle.s4_types.specs.declared.principal.WireVersion.TheVariants.{One}
+use Rattle.s4_types.specs.Limits.{is_within_limits}
+use Rattle.s4_stream.specs.First.{NamesFirst}
 use Rattle.std.specs.Prelude.{OnOk, IsTrue, Result, Ok, Err}
 use Rattle.s4_types.specs.declared.reply.Reply.{Reply}
 use Rattle.s4_types.specs.declared.request.Request as asked
@@ -20,6 +24,11 @@ on_ok (Ok x) t event caller r old new reply p q is made sent body =
     subst (λ (e : Event). Answered t (e ∷ []) old new p q) (sym is) (answered_request t caller r old new reply p q sent body made)
 on_ok (Err x) t event caller r old new reply p q is made sent body = tt
 
+pub add_reply-requires : goal.add_reply-requires
+add_reply-requires c =
+    let first : c.in-Request.caller.version ≡ One = subst NamesFirst c.in-Request.is c.requires.first in
+    subst (λ (v : WireVersion). IsTrue (is_within_limits v c.step-reply.result)) first c.step-reply.ensures.limits
+
 pub returns-in-Request-clause-answered : goal.returns-in-Request-clause-answered
 returns-in-Request-clause-answered c =
     on_ok c.add_reply.result c.args.moment c.args.event.now c.in-Request.caller c.in-Request.request c.args.drive.now c.step-reply.new.self c.step-reply.result c.args.out.now.items c.add_reply.new.out.items
@@ -27,4 +36,4 @@ returns-in-Request-clause-answered c =
 
 pub returns-in-Request-clause-last : goal.returns-in-Request-clause-last
 returns-in-Request-clause-last c =
-    step_last c.args.moment c.in-Request.caller c.in-Request.request c.args.drive.now c.step-reply.new.self c.step-reply.result c.requires c.step-reply.ensures.steps
+    step_last c.args.moment c.in-Request.caller c.in-Request.request c.args.drive.now c.step-reply.new.self c.step-reply.result c.requires.later c.step-reply.ensures.steps

@@ -1,7 +1,17 @@
-use Rattle.std.proofs.Common.{rules, ◌≡◌, ◌∙◌, ap, false, is_ok, ◌++◌, List, ℕ}
+use Rattle.std.proofs.Common.{rules, ◌≡◌, ◌∙◌, ap, subst, false, is_ok, ◌++◌, List, ℕ}
+use Rattle.std.specs.Prelude.{IsTrue}
+use Rattle.s4_types.specs.declared.principal.WireVersion.{WireVersion}
+use Rattle.s4_types.specs.declared.principal.WireVersion.TheVariants.{One}
+use Rattle.s4_types.specs.Limits.{is_within_limits}
+use Rattle.s4_stream.specs.First.{NamesFirst}
 use Rattle.s4_stream.specs.Talk.{welcome, reply_frame, fault_frame}
 use Rattle.s4_talk.proofs.Laws.{Serves-nothing, Serves-welcome, Serves-request, Serves-lost, Serves-fault}
 use Rattle.s4_talk.proofs.serving.serve.Goals as goal
+
+pub add_reply-in-Request-requires : goal.add_reply-in-Request-requires
+add_reply-in-Request-requires g c =
+    let first : c.in-Request.caller.version ≡ One = subst NamesFirst c.in-Request.is c.requires in
+    subst (λ (v : WireVersion). IsTrue (is_within_limits v c.answer-reply.result)) first c.answer-reply.ensures.limits
 
 pub returns-in_err-reserve_frame : goal.returns-in_err-reserve_frame
 returns-in_err-reserve_frame g c =
