@@ -19,6 +19,7 @@ use Rattle.s4_types.specs.Names.{object_in}
 use Rattle.s4_types.specs.Kinds.{purse_of, at_of}
 use Rattle.s4_types.specs.Horizon.{horizon_at}
 use Rattle.s4_types.specs.Bindings.{bound_at}
+use Rattle.s4_types.specs.Limits.{data_limit}
 use Rattle.s4_types.specs.Judgement.{Held, held_at, judge, judge_now, judge_past, needs_control}
 use Rattle.s4_types.specs.Outcome.{◌>>=◌, ◌>>◌, refuse_if}
 use Rattle.s4_types.specs.Answer.{timely, moment_of, found_bound, administered, affordable, outcome_by_kind, outcome}
@@ -32,7 +33,7 @@ pub record IsFar (near : Purse → Bool) (caller : Caller) (purse : Purse) : Typ
   pub stranger : (caller.who == purse.creator) ≡ false
   pub away : IsAway caller.who near purse
 
--- nothing gives the caller an entry in a purse that isn't near
+-- no entry can serve the caller in a purse that isn't near
 abbrev pub Seen : (Purse → Bool) → Base → Caller → List Record → Type 0
 Seen near base caller h = IsUnnamed caller.who near base h
 
@@ -41,11 +42,11 @@ Seen near base caller h = IsUnnamed caller.who near base h
 now-far : (caller : Caller) (o : ObjectId) (needed : Right) (held : Option Held) → (caller.who == 0) ≡ false → (caller.who == o.purse.creator) ≡ false → HeldWithout caller.who held → judge_now caller o needed held ≡ Err (Denied needed)
 now-far caller o needed None z c s = rw (z, c) refl
 now-far caller o needed (Some held) z c s =
-    rw (z, and-false (needs_control needed) (caller.who == o.purse.creator) c, unfound caller.who 0 held.acl s) refl
+    rw (z, and-false (needs_control needed) (caller.who == o.purse.creator) c, unfound caller.who held.acl s) refl
 
 past-far : (caller : Caller) (o : ObjectId) (held : Option Held) → (caller.who == 0) ≡ false → (caller.who == o.purse.creator) ≡ false → HeldWithout caller.who held → judge_past caller o held ≡ Err (Denied right.Read)
 past-far caller o None z c s = rw (z, c) refl
-past-far caller o (Some held) z c s = rw (z, unfound caller.who 0 held.acl s) refl
+past-far caller o (Some held) z c s = rw (z, unfound caller.who held.acl s) refl
 
 pub denied : (near : Purse → Bool) (base : Base) (h : List Record) (t : ℕ) (caller : Caller) (o : ObjectId) (needed : Right) → IsFar near caller o.purse → Seen near base caller h → judge base h t caller o needed None ≡ Err (Denied needed)
 denied near base h t caller o needed f s = now-far caller o needed (held_at base o t h) f.ordinary f.stranger (held-lacks caller.who near base o t h f.away s)
@@ -57,22 +58,22 @@ denied-reading near base h t caller o (Some m) f s = past-far caller o (held_at 
 -- ONE KIND AFTER THE OTHER
 
 -- what a request about a purse that isn't near is refused for
-abbrev pub far_refusal : Request → Refusal
-far_refusal (Delete o) = Denied right.Delete
-far_refusal (Read o offset n at) = Denied right.Read
-far_refusal (Write o offset bytes) = cond (nat_lt 4096 (offset + length bytes)) TooLong (Denied right.Write)
-far_refusal (Append o bytes) = cond (nat_lt 4096 (length bytes)) TooLong (Denied right.Write)
-far_refusal (Truncate o n) = cond (nat_lt 4096 n) TooLong (Denied right.Write)
-far_refusal (GetAttr o at) = Denied right.Read
-far_refusal (SetAttr o bytes) = cond (nat_lt 256 (length bytes)) TooLong (Denied right.Write)
-far_refusal (GetAclByUser o user at) = Denied right.Read
-far_refusal (GetAclByIndex o index at) = Denied right.Read
-far_refusal (SetAcl o user rights) = Denied right.Control
-far_refusal (PCreate name o) = Denied right.Control
-far_refusal (PDelete purse name) = Denied right.Control
-far_refusal (PMount purse name at) = Denied right.Read
-far_refusal (FlushO o from to) = cond (nat_lt to from) BadRange (Denied right.Admin)
-far_refusal _ = Denied right.Admin
+abbrev pub far_refusal : Caller → Request → Refusal
+far_refusal caller (Delete o) = Denied right.Delete
+far_refusal caller (Read o offset n at) = Denied right.Read
+far_refusal caller (Write o offset bytes) = cond (nat_lt (data_limit caller.version) (offset + length bytes)) TooLong (Denied right.Write)
+far_refusal caller (Append o bytes) = cond (nat_lt (data_limit caller.version) (length bytes)) TooLong (Denied right.Write)
+far_refusal caller (Truncate o n) = cond (nat_lt (data_limit caller.version) n) TooLong (Denied right.Write)
+far_refusal caller (GetAttr o at) = Denied right.Read
+far_refusal caller (SetAttr o bytes) = cond (nat_lt 256 (length bytes)) TooLong (Denied right.Write)
+far_refusal caller (GetAclByUser o user at) = Denied right.Read
+far_refusal caller (GetAclByIndex o index at) = Denied right.Read
+far_refusal caller (SetAcl o user rights) = Denied right.Control
+far_refusal caller (PCreate name o) = Denied right.Control
+far_refusal caller (PDelete purse name) = Denied right.Control
+far_refusal caller (PMount purse name at) = Denied right.Read
+far_refusal caller (FlushO o from to) = cond (nat_lt to from) BadRange (Denied right.Admin)
+far_refusal caller _ = Denied right.Admin
 
 sized : (long : Bool) (judged : Result Grant Refusal) (refusal : Refusal) (next : Result Reply Refusal) → judged ≡ Err refusal → (refuse_if long TooLong >> (judged >> next)) ≡ Err (cond long TooLong refusal)
 sized true judged refusal next e = refl
@@ -96,13 +97,13 @@ abbrev pub FarThere : (Purse → Bool) → Caller → Option Purse → Type 0
 FarThere near caller None = ⊥
 FarThere near caller (Some purse) = IsFar near caller purse
 
-by_kind-far : (near : Purse → Bool) (base : Base) (h : List Record) (t : ℕ) (caller : Caller) (request : Request) → FarThere near caller (purse_of caller request) → Seen near base caller h → outcome_by_kind base h t caller request ≡ Err (far_refusal request)
+by_kind-far : (near : Purse → Bool) (base : Base) (h : List Record) (t : ℕ) (caller : Caller) (request : Request) → FarThere near caller (purse_of caller request) → Seen near base caller h → outcome_by_kind base h t caller request ≡ Err (far_refusal caller request)
 by_kind-far near base h t caller (Create number) f s = let own : (caller.who == caller.who) ≡ true = eq-eqb caller.who caller.who refl in let other : (caller.who == caller.who) ≡ false = f.stranger in cc
 by_kind-far near base h t caller (Delete o) f s = rw (denied near base h t caller o right.Delete f s) refl
 by_kind-far near base h t caller (Read o offset n at) f s = rw (denied-reading near base h t caller o at f s) refl
-by_kind-far near base h t caller (Write o offset bytes) f s = sized (nat_lt 4096 (offset + length bytes)) (judge base h t caller o right.Write None) (Denied right.Write) (Ok Done) (denied near base h t caller o right.Write f s)
-by_kind-far near base h t caller (Append o bytes) f s = rw (denied near base h t caller o right.Write f s) (sized (nat_lt 4096 (length bytes)) (Err (Denied right.Write)) (Denied right.Write) (Ok Done) refl)
-by_kind-far near base h t caller (Truncate o n) f s = sized (nat_lt 4096 n) (judge base h t caller o right.Write None) (Denied right.Write) (Ok Done) (denied near base h t caller o right.Write f s)
+by_kind-far near base h t caller (Write o offset bytes) f s = sized (nat_lt (data_limit caller.version) (offset + length bytes)) (judge base h t caller o right.Write None) (Denied right.Write) (Ok Done) (denied near base h t caller o right.Write f s)
+by_kind-far near base h t caller (Append o bytes) f s = rw (denied near base h t caller o right.Write f s) (sized (nat_lt (data_limit caller.version) (length bytes)) (Err (Denied right.Write)) (Denied right.Write) (Ok Done) refl)
+by_kind-far near base h t caller (Truncate o n) f s = sized (nat_lt (data_limit caller.version) n) (judge base h t caller o right.Write None) (Denied right.Write) (Ok Done) (denied near base h t caller o right.Write f s)
 by_kind-far near base h t caller (GetAttr o at) f s = rw (denied-reading near base h t caller o at f s) refl
 by_kind-far near base h t caller (SetAttr o bytes) f s = sized (nat_lt 256 (length bytes)) (judge base h t caller o right.Write None) (Denied right.Write) (Ok Done) (denied near base h t caller o right.Write f s)
 by_kind-far near base h t caller (GetAclByUser o user at) f s = rw (denied-reading near base h t caller o at f s) refl
@@ -119,6 +120,6 @@ by_kind-far near base h t caller (SetBudget purse budget) f s = rw f.ordinary re
 by_kind-far near base h t caller (ReadAudit range skip) f s = absurd f
 
 -- of the history, the horizon alone counts
-pub outcome-far : (near : Purse → Bool) (base : Base) (h : List Record) (t : ℕ) (caller : Caller) (request : Request) → FarThere near caller (purse_of caller request) → Seen near base caller h → outcome base h t caller request ≡ (timely (horizon_at base h t) t (at_of request) >> Err (far_refusal request))
+pub outcome-far : (near : Purse → Bool) (base : Base) (h : List Record) (t : ℕ) (caller : Caller) (request : Request) → FarThere near caller (purse_of caller request) → Seen near base caller h → outcome base h t caller request ≡ (timely (horizon_at base h t) t (at_of request) >> Err (far_refusal caller request))
 outcome-far near base h t caller request f s =
     ap (λ made. timely (horizon_at base h t) t (at_of request) >> (made >>= λ reply. affordable base h t request (purse_of caller request) >> Ok reply)) (by_kind-far near base h t caller request f s)

@@ -9,6 +9,7 @@ use Rattle.s4_types.specs.declared.record.Step.{Step}
 use Rattle.s4_types.specs.declared.record.Step.TheVariants as step
 use Rattle.s4_types.specs.declared.request.Request.{Request}
 use Rattle.s4_types.specs.Base.{Base, opened}
+use Rattle.s4_types.specs.Judgement.{reaches}
 use Rattle.s4_types.specs.Outcome.{reply_of}
 use Rattle.s4_types.specs.Answer.{outcome}
 use Rattle.s4_types.specs.Play.{play, play_on, record_of, NeverDown}
@@ -46,7 +47,7 @@ play-without base who steps kept z =
     sym (isolate who (is_near who steps) base
     (λ purse e. ap (λ b. b || list_any (names_in who purse) steps) e)
     z steps [] (record { kept = kept; sound = tt })
-    (covered-steps who (is_near who steps) steps (λ purse e. ap (λ b. (purse.creator == who) || b) e ∙ ||-true (purse.creator == who))))
+    (covered-steps who (is_near who steps) steps (λ purse e. ap (λ b. reaches who purse.creator || b) e ∙ ||-true (reaches who purse.creator))))
 
 -- a fresh drive keeps no ACL
 pub play-strike : (window who : ℕ) (steps : List Step) → (who == 0) ≡ false → play (opened window) (strike who steps) ≡ without_strangers who (is_near who steps) (play (opened window) steps)

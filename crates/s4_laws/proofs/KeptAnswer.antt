@@ -56,7 +56,7 @@ own-there near base t caller request h purse false e n own z s =
     let k : List Record = without_strangers caller.who near h in
     let f : FarThere near caller (purse_of caller request) = subst (FarThere near caller) (sym e) (far-of near caller purse own z n) in
     outcome-far near base h t caller request f s
-    ∙ ap (λ horizon. timely horizon t (at_of request) >> Rattle.std.specs.Prelude.Err (far_refusal request)) (horizon_at-agree base t h k (all-agree caller.who near h))
+    ∙ ap (λ horizon. timely horizon t (at_of request) >> Rattle.std.specs.Prelude.Err (far_refusal caller request)) (horizon_at-agree base t h k (all-agree caller.who near h))
     ∙ sym (outcome-far near base k t caller request f (seen-kept near base caller h s))
 
 own-same : (near : Purse → Bool) (base : Base) (t : ℕ) (caller : Caller) (request : Request) (h : List Record) (place : Option Purse) → purse_of caller request ≡ place → KnowsOwn caller.who near → (caller.who == 0) ≡ false → Seen near base caller h → outcome base h t caller request ≡ outcome base (without_strangers caller.who near h) t caller request

@@ -1,6 +1,6 @@
 -- No run makes an object twice: a Create draws the next serial of its purse, and no other request makes an object.
 use Rattle.std.proofs.Common.{◌≡◌, ℕ, ◌+◌, ◌≤◌, ◌<◌, nat_le, nat_lt, Bool, true, false, not, cond, Option, Some, None, Result, Ok, Err, List, [], ◌∷◌, ◌++◌, refl, sym, ◌∙◌, ap, subst, is_some, count_by, arith}
-use Rattle.std.specs.Prelude.{◌&&◌, ◌||◌, ◌==◌, length, take, drop, slice_get}
+use Rattle.std.specs.Prelude.{◌&&◌, ◌||◌, ◌==◌, length, min, take, drop, slice_get}
 use Rattle.std.proofs.lemmas.List.Sums.{fold-append}
 use Rattle.s4_types.specs.declared.principal.Caller.{Caller}
 use Rattle.s4_types.specs.declared.object.Purse.{Purse}
@@ -23,6 +23,7 @@ use Rattle.s4_types.specs.Base.{Base}
 use Rattle.s4_types.specs.Versions.{makes, is_made, value_at, data_track, attribute_track}
 use Rattle.s4_types.specs.Serials.{drawn, draws}
 use Rattle.s4_types.specs.Bindings.{bound_at, bound_count, has_name}
+use Rattle.s4_types.specs.Limits.{data_limit}
 use Rattle.s4_types.specs.Judgement.{Found, entry_of, judge}
 use Rattle.s4_types.specs.Outcome.{◌>>=◌, ◌>>◌, refuse_if, reply_of}
 use Rattle.s4_types.specs.Answer.{answer, outcome_by_kind, moment_of, is_gone, data_of, attributes_of, acl_of, entry_by_user, entry_by_index, settable, found_bound, administered, flushed}
@@ -73,14 +74,14 @@ none-by-kind o base h t caller (Create number) e = cc
 none-by-kind o base h t caller (Delete p) e =
     none-then o (judge base h t caller p right.Delete None) (refuse_if (has_name base p t h) Named >> Ok Done) (none-then o (refuse_if (has_name base p t h) Named) (Ok Done) refl)
 none-by-kind o base h t caller (Read p offset n at) e =
-    none-read o (judge base h t caller p right.Read at) (is_gone (value_at base data_track p (moment_of t at) h)) (λ g. Data g (take n (drop offset (data_of base p (moment_of t at) h)))) (λ g. refl)
-none-by-kind o base h t caller (Write p offset bytes) e = none-sized o (nat_lt 4096 (offset + length bytes)) (judge base h t caller p right.Write None)
+    none-read o (judge base h t caller p right.Read at) (is_gone (value_at base data_track p (moment_of t at) h)) (λ g. Data g (take (min n (data_limit caller.version)) (drop offset (data_of base p (moment_of t at) h)))) (λ g. refl)
+none-by-kind o base h t caller (Write p offset bytes) e = none-sized o (nat_lt (data_limit caller.version) (offset + length bytes)) (judge base h t caller p right.Write None)
 none-by-kind o base h t caller (Append p bytes) e =
-    let full : Bool = nat_lt 4096 (length (data_of base p t h) + length bytes) in
+    let full : Bool = nat_lt (data_limit caller.version) (length (data_of base p t h) + length bytes) in
     let judged : Result Grant Refusal = judge base h t caller p right.Write None in
-    none-then o (refuse_if (nat_lt 4096 (length bytes)) TooLong) (judged >> (refuse_if full TooLong >> Ok Done))
+    none-then o (refuse_if (nat_lt (data_limit caller.version) (length bytes)) TooLong) (judged >> (refuse_if full TooLong >> Ok Done))
     (none-then o judged (refuse_if full TooLong >> Ok Done) (none-then o (refuse_if full TooLong) (Ok Done) refl))
-none-by-kind o base h t caller (Truncate p n) e = none-sized o (nat_lt 4096 n) (judge base h t caller p right.Write None)
+none-by-kind o base h t caller (Truncate p n) e = none-sized o (nat_lt (data_limit caller.version) n) (judge base h t caller p right.Write None)
 none-by-kind o base h t caller (GetAttr p at) e =
     none-read o (judge base h t caller p right.Read at) (is_gone (value_at base attribute_track p (moment_of t at) h)) (λ g. Attr g (attributes_of base p (moment_of t at) h)) (λ g. refl)
 none-by-kind o base h t caller (SetAttr p bytes) e = none-sized o (nat_lt 256 (length bytes)) (judge base h t caller p right.Write None)

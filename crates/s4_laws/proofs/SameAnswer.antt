@@ -1,6 +1,6 @@
 -- A request about a purse is answered by the records that concern the purse, and by those that concern all purses.
 use Rattle.std.proofs.Common.{◌≡◌, ℕ, ◌+◌, nat_le, nat_lt, ◌∷◌, [], Option, Some, None, Ok, List, length, refl, ap, ◌∙◌, is_some, filter, take, drop, slice_get}
-use Rattle.std.specs.Prelude.{sum}
+use Rattle.std.specs.Prelude.{min, sum}
 use mathlib.Core.Path.{fun_ext}
 use Rattle.s4_types.specs.declared.principal.Caller.{Caller}
 use Rattle.s4_types.specs.declared.object.Purse.{Purse}
@@ -19,6 +19,7 @@ use Rattle.s4_types.specs.Horizon.{horizon_at}
 use Rattle.s4_types.specs.Versions.{value_at, data_track, attribute_track, acl_track}
 use Rattle.s4_types.specs.Bindings.{bound_at, bound_count, has_name}
 use Rattle.s4_types.specs.Spending.{spent_at, budget_of}
+use Rattle.s4_types.specs.Limits.{data_limit}
 use Rattle.s4_types.specs.Judgement.{judge, entry_of}
 use Rattle.s4_types.specs.Outcome.{◌>>=◌, ◌>>◌, refuse_if}
 use Rattle.s4_types.specs.Answer.{timely, moment_of, is_gone, data_of, attributes_of, acl_of, created, deleted, data_read, attributes_read, entry_by_user, entry_by_index, entry_read_by_user, entry_read_by_index, data_appended, settable, acl_set, name_bound, name_unbound, name_mounted, found_bound, made_past, charge_of, within, affordable, outcome_by_kind, outcome}
@@ -39,9 +40,9 @@ deleted-agree base t caller o h k e =
 
 data_read-agree : (base : Base) (t : ℕ) (caller : Caller) (o : ObjectId) (offset n : ℕ) (at : Option ℕ) (h k : List Record) → AgreeOn o.purse h k → data_read base h t caller o offset n at ≡ data_read base k t caller o offset n at
 data_read-agree base t caller o offset n at h k e =
-    ap (λ j. j >>= λ grant. refuse_if (is_gone (value_at base data_track o (moment_of t at) h)) Flushed >> Ok (Data grant (take n (drop offset (data_of base o (moment_of t at) h))))) (judge-agree base t caller o right.Read at h k e)
-    ∙ ap (λ v. judge base k t caller o right.Read at >>= λ grant. refuse_if (is_gone v) Flushed >> Ok (Data grant (take n (drop offset (data_of base o (moment_of t at) h))))) (value_at-agree base data_track o (moment_of t at) h k e)
-    ∙ ap (λ bytes. judge base k t caller o right.Read at >>= λ grant. refuse_if (is_gone (value_at base data_track o (moment_of t at) k)) Flushed >> Ok (Data grant (take n (drop offset bytes)))) (data_of-agree base o (moment_of t at) h k e)
+    ap (λ j. j >>= λ grant. refuse_if (is_gone (value_at base data_track o (moment_of t at) h)) Flushed >> Ok (Data grant (take (min n (data_limit caller.version)) (drop offset (data_of base o (moment_of t at) h))))) (judge-agree base t caller o right.Read at h k e)
+    ∙ ap (λ v. judge base k t caller o right.Read at >>= λ grant. refuse_if (is_gone v) Flushed >> Ok (Data grant (take (min n (data_limit caller.version)) (drop offset (data_of base o (moment_of t at) h))))) (value_at-agree base data_track o (moment_of t at) h k e)
+    ∙ ap (λ bytes. judge base k t caller o right.Read at >>= λ grant. refuse_if (is_gone (value_at base data_track o (moment_of t at) k)) Flushed >> Ok (Data grant (take (min n (data_limit caller.version)) (drop offset bytes)))) (data_of-agree base o (moment_of t at) h k e)
 
 attributes_read-agree : (base : Base) (t : ℕ) (caller : Caller) (o : ObjectId) (at : Option ℕ) (h k : List Record) → AgreeOn o.purse h k → attributes_read base h t caller o at ≡ attributes_read base k t caller o at
 attributes_read-agree base t caller o at h k e =
@@ -61,8 +62,8 @@ entry_read_by_index-agree base t caller o index at h k e =
 
 data_appended-agree : (base : Base) (t : ℕ) (caller : Caller) (o : ObjectId) (bytes : List ℕ) (h k : List Record) → AgreeOn o.purse h k → data_appended base h t caller o bytes ≡ data_appended base k t caller o bytes
 data_appended-agree base t caller o bytes h k e =
-    ap (λ j. refuse_if (nat_lt 4096 (length bytes)) TooLong >> (j >> (refuse_if (nat_lt 4096 (length (data_of base o t h) + length bytes)) TooLong >> Ok Done))) (judge-agree base t caller o right.Write None h k e)
-    ∙ ap (λ old. refuse_if (nat_lt 4096 (length bytes)) TooLong >> (judge base k t caller o right.Write None >> (refuse_if (nat_lt 4096 (length old + length bytes)) TooLong >> Ok Done))) (data_of-agree base o t h k e)
+    ap (λ j. refuse_if (nat_lt (data_limit caller.version) (length bytes)) TooLong >> (j >> (refuse_if (nat_lt (data_limit caller.version) (length (data_of base o t h) + length bytes)) TooLong >> Ok Done))) (judge-agree base t caller o right.Write None h k e)
+    ∙ ap (λ old. refuse_if (nat_lt (data_limit caller.version) (length bytes)) TooLong >> (judge base k t caller o right.Write None >> (refuse_if (nat_lt (data_limit caller.version) (length old + length bytes)) TooLong >> Ok Done))) (data_of-agree base o t h k e)
 
 acl_set-agree : (base : Base) (t : ℕ) (caller : Caller) (o : ObjectId) (user rights : ℕ) (h k : List Record) → AgreeOn o.purse h k → acl_set base h t caller o user rights ≡ acl_set base k t caller o user rights
 acl_set-agree base t caller o user rights h k e =
@@ -98,9 +99,9 @@ by_kind-agree : (base : Base) (t : ℕ) (caller : Caller) (request : Request) (h
 by_kind-agree base t caller (Create number) h k e = created-agree base (record { creator = caller.who; number = number }) h k e
 by_kind-agree base t caller (Delete o) h k e = deleted-agree base t caller o h k e
 by_kind-agree base t caller (Read o offset n at) h k e = data_read-agree base t caller o offset n at h k e
-by_kind-agree base t caller (Write o offset bytes) h k e = ap (λ j. refuse_if (nat_lt 4096 (offset + length bytes)) TooLong >> (j >> Ok Done)) (judge-agree base t caller o right.Write None h k e)
+by_kind-agree base t caller (Write o offset bytes) h k e = ap (λ j. refuse_if (nat_lt (data_limit caller.version) (offset + length bytes)) TooLong >> (j >> Ok Done)) (judge-agree base t caller o right.Write None h k e)
 by_kind-agree base t caller (Append o bytes) h k e = data_appended-agree base t caller o bytes h k e
-by_kind-agree base t caller (Truncate o n) h k e = ap (λ j. refuse_if (nat_lt 4096 n) TooLong >> (j >> Ok Done)) (judge-agree base t caller o right.Write None h k e)
+by_kind-agree base t caller (Truncate o n) h k e = ap (λ j. refuse_if (nat_lt (data_limit caller.version) n) TooLong >> (j >> Ok Done)) (judge-agree base t caller o right.Write None h k e)
 by_kind-agree base t caller (GetAttr o at) h k e = attributes_read-agree base t caller o at h k e
 by_kind-agree base t caller (SetAttr o bytes) h k e = ap (λ j. refuse_if (nat_lt 256 (length bytes)) TooLong >> (j >> Ok Done)) (judge-agree base t caller o right.Write None h k e)
 by_kind-agree base t caller (GetAclByUser o user at) h k e = entry_read_by_user-agree base t caller o user at h k e

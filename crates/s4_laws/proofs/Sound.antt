@@ -1,4 +1,4 @@
--- No request of a run gives a principal an entry in a purse in which nobody else named it.
+-- No request of a run makes an entry that can serve a principal in a purse in which nobody else named it or everyone.
 use Rattle.std.proofs.Common.{◌≡◌, ℕ, Bool, true, false, not, ◌&&◌, ◌||◌, ◌==◌, List, [], ◌∷◌, refl, ap, sym, ◌∙◌, subst}
 use Rattle.std.specs.List.{list_any}
 use Rattle.std.proofs.lemmas.Bool.{eqb-true}
@@ -13,6 +13,7 @@ use Rattle.s4_types.specs.declared.request.Request.TheVariants.{SetAcl}
 use Rattle.s4_types.specs.Base.{Base}
 use Rattle.s4_types.specs.Names.{same_purse}
 use Rattle.s4_types.specs.Kinds.{is_accepted, is_refused}
+use Rattle.s4_types.specs.Judgement.{reaches}
 use Rattle.s4_types.specs.Outcome.{reply_of}
 use Rattle.s4_types.specs.Play.{record_of}
 use Rattle.s4_types.specs.Strike.{names_in}
@@ -23,12 +24,12 @@ use Rattle.s4_laws.proofs.Unnamed.{is_sound, names_elsewhere, IsUnnamed}
 use Rattle.s4_laws.proofs.Far.{Seen, outcome-far}
 use Rattle.s4_laws.proofs.Pages.{KnowsOwn, far-of}
 
--- whether the step is the principal's own, or doesn't name it in a purse that isn't near
+-- whether the step is the principal's own, or names neither it nor everyone in a purse that isn't near
 abbrev pub is_covered : ℕ → (Purse → Bool) → Step → Bool
 is_covered who near (step.Sweep n) = true
 is_covered who near (step.Request t caller request) = (caller.who == who) || not (names_elsewhere who near request)
 
--- a request that doesn't name the principal elsewhere leaves a sound record
+-- a request that names neither the principal nor everyone elsewhere leaves a sound record
 sound-unnamed : (who : ℕ) (near : Purse → Bool) (base : Base) (t : ℕ) (caller : Caller) (request : Request) (h : List Record) → names_elsewhere who near request ≡ false → is_sound who near (record_of base h t caller request) ≡ true
 sound-unnamed who near base t caller request h e =
     ap not (and-false (is_accepted (record_of base h t caller request)) (names_elsewhere who near request) e)
@@ -36,7 +37,7 @@ sound-unnamed who near base t caller request h e =
 -- nor does the principal get itself an entry there: it is denied
 sound-set : (near : Purse → Bool) (base : Base) (t : ℕ) (caller : Caller) (o : ObjectId) (user rights : ℕ) (h : List Record) (b : Bool) → near o.purse ≡ b → KnowsOwn caller.who near → (caller.who == 0) ≡ false → Seen near base caller h → is_sound caller.who near (record_of base h t caller (SetAcl o user rights)) ≡ true
 sound-set near base t caller o user rights h true n own z s =
-    sound-unnamed caller.who near base t caller (SetAcl o user rights) h (and-false (user == caller.who) (not (near o.purse)) (ap not n))
+    sound-unnamed caller.who near base t caller (SetAcl o user rights) h (and-false (reaches caller.who user) (not (near o.purse)) (ap not n))
 sound-set near base t caller o user rights h false n own z s =
     ap (λ made. not ((not (is_refused (reply_of made)) && true) && names_elsewhere caller.who near (SetAcl o user rights)))
     (outcome-far near base h t caller (SetAcl o user rights) (far-of near caller o.purse own z n) s)
@@ -56,11 +57,11 @@ sound-step who near base t caller request h false e own z c s =
 
 covered-set : (who t : ℕ) (near : Purse → Bool) (caller : Caller) (o : ObjectId) (user rights : ℕ) → (names_in who o.purse (step.Request t caller (SetAcl o user rights)) ≡ true → near o.purse ≡ true) → is_covered who near (step.Request t caller (SetAcl o user rights)) ≡ true
 covered-set who t near caller o user rights named =
-    of (caller.who == who) (user == who) (near o.purse) refl
-    (λ m u. named (ap (λ b. not b && same_purse o.purse o.purse && (user == who)) m ∙ ap (λ b. b && (user == who)) (purse_self o.purse) ∙ u))
+    of (caller.who == who) (reaches who user) (near o.purse) refl
+    (λ m u. named (ap (λ b. not b && same_purse o.purse o.purse && reaches who user) m ∙ ap (λ b. b && reaches who user) (purse_self o.purse) ∙ u))
     refl refl
   where
-    of : (mine theirs n : Bool) → near o.purse ≡ n → ((caller.who == who) ≡ false → (user == who) ≡ true → near o.purse ≡ true) → (caller.who == who) ≡ mine → (user == who) ≡ theirs → (mine || not (theirs && not n)) ≡ true
+    of : (mine theirs n : Bool) → near o.purse ≡ n → ((caller.who == who) ≡ false → reaches who user ≡ true → near o.purse ≡ true) → (caller.who == who) ≡ mine → reaches who user ≡ theirs → (mine || not (theirs && not n)) ≡ true
     of true theirs n e near_it f g = refl
     of false false n e near_it f g = refl
     of false true true e near_it f g = refl
