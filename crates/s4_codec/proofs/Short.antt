@@ -193,7 +193,7 @@ spelled_short (Data g bytes) e w = with_kind 2 4108 ((grant & byte_string).spell
 spelled_short (Attr g bytes) e w =
     let few : length bytes ≤ 256 = few_bytes (is_shown_grant g) (length bytes) 256 w in
     with_kind 3 4108 ((grant & byte_string).spell (g, bytes)) (read_short g bytes e (omega (arith, few))) (omega arith)
-spelled_short (Entry g i user rights) e w = with_kind 4 16 ((grant & (index & (user & rights_given))).spell (g, (i, (user, rights)))) (entry_short.most (g, (i, (user, rights))) e) (omega arith)
+spelled_short (Entry g i who rights) e w = with_kind 4 16 ((grant & (index & (user & rights_given))).spell (g, (i, (who, rights)))) (entry_short.most (g, (i, (who, rights))) e) (omega arith)
 spelled_short (Mounted g o) e w = with_kind 5 18 ((grant & object).spell (g, o)) (mounted_short.most (g, o) e) (omega arith)
 spelled_short (Names lines more) e w = with_kind 6 3266 ((list_up_to 64 name_line & flag).spell (lines, more)) (names_short.most (lines, more) e) (omega arith)
 spelled_short (Audit lines more) e w = with_kind 7 610 ((list_up_to 32 audit_line & flag).spell (lines, more)) (audit_short.most (lines, more) e) (omega arith)
