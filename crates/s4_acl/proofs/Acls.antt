@@ -107,7 +107,7 @@ is_acl-without who xs is =
 
 -- AN ACL WITH AN ENTRY CHANGED
 
--- the entry in the place of its principal's
+-- the entry in the place of its user's
 abbrev pub in_place : AclEntry → AclEntry → AclEntry
 in_place new entry = if entry.who == new.who then new else entry
 

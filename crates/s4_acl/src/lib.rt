@@ -1,4 +1,4 @@
-//! ACLs: looking an entry up, and giving a principal rights (docs/MODEL.md, "ACLs"). No call takes
+//! ACLs: looking an entry up, and giving a user rights (docs/MODEL.md, "ACLs"). No call takes
 //! memory.
 #![tactic(auto)]
 
@@ -6,4 +6,4 @@ mod change;
 mod look;
 
 pub use change::set;
-pub use look::{by_index, entry_of};
+pub use look::{asked_entry, by_index, entry_of};

@@ -1,21 +1,32 @@
 //! Looking into an ACL.
 
 ghost use Rattle.std.specs.Prelude.{◌≡◌, slice_get};
-ghost use Rattle.s4_types.specs.Judgement.{entry_of as entry};
+ghost use Rattle.s4_types.specs.Judgement.{entry_of as entry, asked_entry as asked};
 ghost use Rattle.s4_acl.specs.Found.{shown_entry};
 
-use s4_types::{Acl, AclEntry, Principal, Rights};
+use s4_types::{Acl, AclEntry, Principal, Rights, User};
 
-/// The index of the principal's entry, and the rights that it gives.
-pub fn entry_of(acl: &Acl, who: Principal) -> Option<(u8, Rights)>
-    ensures { shown_entry result ≡ entry who acl.now }
+/// The index of the user's entry, and the rights that it gives.
+pub fn entry_of(acl: &Acl, user: User) -> Option<(u8, Rights)>
+    ensures { shown_entry result ≡ entry user acl.now }
 {
     for (index, entry) in acl.entries().iter().enumerate() {
-        if entry.who == who {
+        if entry.who == user {
             return Some((index as u8, entry.rights));
         }
     }
     None
+}
+
+/// The index and the rights of the entry that the principal is judged by: its own where there is
+/// one, with whatever rights, or else that for everyone.
+pub fn asked_entry(acl: &Acl, who: Principal) -> Option<(u8, Rights)>
+    ensures { shown_entry result ≡ asked who acl.now }
+{
+    match entry_of(acl, User::of(who)) {
+        None => entry_of(acl, User::everyone()),
+        own => own,
+    }
 }
 
 /// The entry of that index, which counts from 0.
