@@ -6,7 +6,7 @@ ghost use Rattle.s4_types.specs.declared.rights.Right.TheVariants as right_of;
 ghost use Rattle.s4_types.specs.Judgement.{judge_now as judged, judge_past as judged_past, denied_absent};
 ghost use Rattle.s4_judge.specs.Held.{shown_held};
 
-use s4_acl::entry_of;
+use s4_acl::asked_entry;
 use s4_types::{Acl, Caller, Grant, Moment, ObjectId, Refusal, Right};
 
 /// An ACL that is in force, and since when.
@@ -21,8 +21,8 @@ pub struct Held<'a> {
 ///
 /// `NoObject` is told to the object's creator and to the administrator alone, and anyone else is
 /// told `Denied` with the right. The administrator is granted all, and the creator what needs
-/// Control. Anyone else is granted what his entry has the right for, and else told `Denied` with
-/// the right.
+/// Control. Anyone else is granted what the entry asked has the right for, and else told `Denied`
+/// with the right. The entry asked is the caller's own, or where there is none that for everyone.
 pub fn judge_now(
     caller: Caller,
     object: &ObjectId,
@@ -40,7 +40,7 @@ pub fn judge_now(
     if right == Right::Control && caller.who == object.purse.creator {
         return Ok(Grant::Owner);
     }
-    match entry_of(held.acl, caller.who) {
+    match asked_entry(held.acl, caller.who) {
         Some((index, rights)) if rights.has(right) => Ok(Grant::Entry {
             index,
             since: held.since,
@@ -67,7 +67,7 @@ pub fn judge_past(
     if caller.who.is_administrator() {
         return Ok(Grant::Admin);
     }
-    let Some((index, rights)) = entry_of(held.acl, caller.who) else {
+    let Some((index, rights)) = asked_entry(held.acl, caller.who) else {
         return Err(Refusal::Denied(Right::Read));
     };
     if !rights.has(Right::Read) {
