@@ -6,6 +6,7 @@ use Rattle.std.specs.Ordering.{is_eq}
 use Rattle.std.specs.Map.{lookup, keys_of}
 use Rattle.std.specs.BTreeMap.{is_at}
 use Rattle.s4_types.specs.declared.object.Purse.{Purse}
+use Rattle.s4_types.specs.Base.{default_budget}
 use Rattle.s4_types.specs.Names.{same_purse, purse_cmp}
 use Rattle.s4_types.proofs.Booleans.{by_test}
 use Rattle.s4_types.proofs.SameNames.{at_purse, purse_is}
@@ -20,7 +21,7 @@ isnt_some None e = refl
 isnt_some (Some x) e = cc
 
 abbrev pub fresh : Account
-fresh = record { spent = 0; budget = 65536 }
+fresh = record { spent = 0; budget = default_budget }
 
 lookup-budgets : (test : Purse → Bool) (accounts : List (Purse × Account)) → lookup test (budgets_of accounts) ≡ option_map (λ a. a.budget) (lookup test accounts)
 lookup-budgets test [] = refl
@@ -30,9 +31,9 @@ lookup-budgets test (e ∷ accounts) = by_test (test e.0)
 
 -- the budget that an account says
 pub budget-account : (p : Purse) (accounts : List (Purse × Account)) → budget_of p (budgets_of accounts) ≡ (account_of p accounts).budget
-budget-account p accounts = ap (λ o. unwrap_or o 65536) (lookup-budgets (is_at (purse_cmp p)) accounts) ∙ of (lookup (is_at (purse_cmp p)) accounts)
+budget-account p accounts = ap (λ o. unwrap_or o default_budget) (lookup-budgets (is_at (purse_cmp p)) accounts) ∙ of (lookup (is_at (purse_cmp p)) accounts)
   where
-    of : (o : Option Account) → unwrap_or (option_map (λ a. a.budget) o) 65536 ≡ (unwrap_or o fresh).budget
+    of : (o : Option Account) → unwrap_or (option_map (λ a. a.budget) o) default_budget ≡ (unwrap_or o fresh).budget
     of None = refl
     of (Some a) = refl
 

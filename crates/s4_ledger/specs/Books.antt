@@ -4,6 +4,7 @@ use Rattle.std.specs.Map.{lookup, keys_of}
 use Rattle.std.specs.Option.{option_map}
 use Rattle.std.specs.BTreeMap.{is_at}
 use Rattle.s4_types.specs.declared.object.Purse.{Purse}
+use Rattle.s4_types.specs.Base.{default_budget}
 use Rattle.s4_types.specs.Names.{same_purse, purse_cmp}
 use Rattle.s4_ledger.specs.declared.accounts.Payer.{Payer}
 use Rattle.s4_ledger.specs.declared.charge.Charge.{Charge}
@@ -31,9 +32,9 @@ lasts_above horizon charge = nat_lt horizon charge.end
 abbrev pub lasting : ℕ → List Charge → List Charge
 lasting horizon charges = filter (lasts_above horizon) charges
 
--- what the purse may spend: the budget last set, and 65536 bytes where none was
+-- what the purse may spend: the budget last set, and the default where none was
 abbrev pub budget_of : Purse → List (Purse × ℕ) → ℕ
-budget_of purse budgets = unwrap_or (lookup (is_at (purse_cmp purse)) budgets) 65536
+budget_of purse budgets = unwrap_or (lookup (is_at (purse_cmp purse)) budgets) default_budget
 
 -- whether the purse has an account, which its budget is kept in
 abbrev pub has_budget : Purse → List (Purse × ℕ) → Bool

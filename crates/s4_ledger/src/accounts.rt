@@ -10,9 +10,6 @@ use std::alloc::Global;
 use std::collections::BTreeMap;
 use std::marker::Model;
 
-/// What a purse may spend until `Ledger::set_budget` tells another budget, in bytes.
-pub const DEFAULT_BUDGET: u32 = 65536;
-
 /// A purse that has an account, and the place of it among those of its ledger. It stays there.
 #[derive(Clone, Copy, Debug)]
 pub struct Payer {
@@ -30,7 +27,7 @@ pub struct Account {
 /// The account of a purse that has none.
 const FRESH: Account = Account {
     spent: 0,
-    budget: DEFAULT_BUDGET,
+    budget: Purse::DEFAULT_BUDGET,
 };
 
 /// The accounts of the purses, in the order in which they were opened. A purse that has none has

@@ -3,6 +3,7 @@
 ghost use Rattle.std.specs.Prelude.{◌≡◌, ◌+◌, ◌<◌, ◌≤◌, ◌↔◌, [], ◌∷◌, Contains, IfOk, OnOk, OnErr, IsOk, IsTrue, true, if◌then◌else◌};
 ghost use Rattle.std.specs.List.Sorted.{IsPermutation};
 ghost use Rattle.s4_types.specs.declared.object.Purse.{Purse};
+ghost use Rattle.s4_types.specs.Base.{default_budget};
 ghost use Rattle.s4_types.specs.Names.{same_purse};
 ghost use Rattle.s4_ledger.specs.declared.accounts.Payer.{Payer};
 ghost use Rattle.s4_ledger.specs.Books.{spending, lasting, budget_of, has_budget, HasAccount, OpensAccount};
@@ -51,7 +52,7 @@ impl Ledger {
         ensures horizon { result.horizon ≡ 0 }
         ensures charges { result.charges ≡ [] }
         ensures accounts { result.budgets ≡ [] }
-        ensures budgets { (p : Purse) → budget_of p result.budgets ≡ 65536 }
+        ensures budgets { (p : Purse) → budget_of p result.budgets ≡ default_budget }
     {
         Ledger {
             horizon: Moment::new(0),

@@ -6,6 +6,6 @@ mod charge;
 mod charges;
 mod ledger;
 
-pub use accounts::{DEFAULT_BUDGET, Payer};
+pub use accounts::Payer;
 pub use charge::Charge;
 pub use ledger::Ledger;
