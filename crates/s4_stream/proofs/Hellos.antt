@@ -12,7 +12,7 @@ use Rattle.s4_stream.specs.Hello.{number_of_version, version_of, version, hello_
 use Rattle.std.proofs.lemmas.Bool.{eqb-true}
 
 there_version : (n : ℕ) → (only (λ n. n == 1) byte).fits n ≡ true → number_of_version (version_of n) ≡ n
-there_version n e = rw (eqb-true n 1 (both_true _ _ e).1) refl
+there_version n e = let is : n ≡ 1 = eqb-true n 1 (both_true _ _ e).1 in ap (λ (k : ℕ). number_of_version (version_of k)) is ∙ sym is
 
 back_version : (v : WireVersion) (n : ℕ) → Some (number_of_version v) ≡ Some n → version_of n ≡ v
 back_version One n e = ap version_of (sym (some_is 1 n e))
