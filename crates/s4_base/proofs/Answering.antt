@@ -20,6 +20,7 @@ use Rattle.s4_types.specs.Outcome.{◌>>=◌, ◌>>◌, refuse_if, reply_of}
 use Rattle.s4_types.specs.Base.{Base, Standing}
 use Rattle.s4_types.specs.Serials.{drawn}
 use Rattle.s4_types.specs.Bindings.{bound_at, bound_count, has_name}
+use Rattle.s4_types.specs.Limits.{data_limit}
 use Rattle.s4_types.specs.Judgement.{judge}
 use Rattle.s4_types.specs.Versions.{Value, versions, ends_by, in_force_by, unended, standing, data_track, attribute_track, acl_track}
 use Rattle.s4_types.specs.Answer.{answer, outcome_by_kind, data_of, acl_of, value_or_empty, settable, found_bound, administered, flushed}
@@ -62,13 +63,13 @@ module _ (base : Base) (h : List Record) (t : ℕ) (caller : Caller) where
   just-by-kind (Delete o) e =
       just-then Done (judge base h t caller o right.Delete None) (refuse_if (has_name base o t h) Named >> Ok Done) (just-then Done (refuse_if (has_name base o t h) Named) (Ok Done) (just Done))
   just-by-kind (Write o offset bytes) e =
-      just-then Done (refuse_if (nat_lt 4096 (offset + length bytes)) TooLong) (judge base h t caller o right.Write None >> Ok Done) (just-then Done (judge base h t caller o right.Write None) (Ok Done) (just Done))
+      just-then Done (refuse_if (nat_lt (data_limit caller.version) (offset + length bytes)) TooLong) (judge base h t caller o right.Write None >> Ok Done) (just-then Done (judge base h t caller o right.Write None) (Ok Done) (just Done))
   just-by-kind (Append o bytes) e =
-      let last : Result Reply Refusal = refuse_if (nat_lt 4096 (length (data_of base o t h) + length bytes)) TooLong >> Ok Done in
-      just-then Done (refuse_if (nat_lt 4096 (length bytes)) TooLong) (judge base h t caller o right.Write None >> last)
-      (just-then Done (judge base h t caller o right.Write None) last (just-then Done (refuse_if (nat_lt 4096 (length (data_of base o t h) + length bytes)) TooLong) (Ok Done) (just Done)))
+      let last : Result Reply Refusal = refuse_if (nat_lt (data_limit caller.version) (length (data_of base o t h) + length bytes)) TooLong >> Ok Done in
+      just-then Done (refuse_if (nat_lt (data_limit caller.version) (length bytes)) TooLong) (judge base h t caller o right.Write None >> last)
+      (just-then Done (judge base h t caller o right.Write None) last (just-then Done (refuse_if (nat_lt (data_limit caller.version) (length (data_of base o t h) + length bytes)) TooLong) (Ok Done) (just Done)))
   just-by-kind (Truncate o length) e =
-      just-then Done (refuse_if (nat_lt 4096 length) TooLong) (judge base h t caller o right.Write None >> Ok Done) (just-then Done (judge base h t caller o right.Write None) (Ok Done) (just Done))
+      just-then Done (refuse_if (nat_lt (data_limit caller.version) length) TooLong) (judge base h t caller o right.Write None >> Ok Done) (just-then Done (judge base h t caller o right.Write None) (Ok Done) (just Done))
   just-by-kind (SetAttr o bytes) e =
       just-then Done (refuse_if (nat_lt 256 (length bytes)) TooLong) (judge base h t caller o right.Write None >> Ok Done) (just-then Done (judge base h t caller o right.Write None) (Ok Done) (just Done))
   just-by-kind (SetAcl o user rights) e =

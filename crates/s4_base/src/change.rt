@@ -12,7 +12,7 @@ use crate::kept::Bound;
 use crate::tables::Tables;
 use crate::values::{joined, of_length, written};
 use crate::{names, numbers, objects};
-use s4_types::{Bytes, Caller, Moment, Name, NoMemory, ObjectId, Principal, Purse, Reply, Rights};
+use s4_types::{Bytes, Caller, Moment, Name, NoMemory, ObjectId, Purse, Reply, Rights, User};
 use std::alloc::Global;
 
 impl Tables {
@@ -126,7 +126,7 @@ impl Tables {
     }
 
     /// Rights for a user in an object's ACL, if it lives. Takes no memory.
-    pub fn set_rights(&mut self, moment: Moment, object: &ObjectId, user: Principal, rights: Rights)
+    pub fn set_rights(&mut self, moment: Moment, object: &ObjectId, user: User, rights: Rights)
         requires { IsSettable user rights ((base_in self.old).object object.now) }
         ensures { base_in self.new
             ≡ on_object object.now (with_acl moment (acl_with user rights)) (base_in self.old) }

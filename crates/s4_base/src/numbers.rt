@@ -42,7 +42,7 @@ pub(crate) fn set_drawn(numbers: &mut BTreeMap<Purse, u16>, purse: &Purse, count
 pub(crate) fn budget(budgets: &BTreeMap<Purse, u32>, purse: &Purse) -> u32
     ensures { result ≡ budget_in budgets.now purse.now }
 {
-    budgets.get(purse).copied().unwrap_or(65536)
+    budgets.get(purse).copied().unwrap_or(Purse::DEFAULT_BUDGET)
 }
 
 /// The purse may spend so much.
