@@ -8,8 +8,8 @@ use Rattle.s4_stream.specs.Talk.{welcome, reply_frame, fault_frame}
 use Rattle.s4_talk.proofs.Laws.{Serves-nothing, Serves-welcome, Serves-request, Serves-lost, Serves-fault}
 use Rattle.s4_talk.proofs.serving.serve.Goals as goal
 
-pub add_reply-in-Request-requires : goal.add_reply-in-Request-requires
-add_reply-in-Request-requires g c =
+pub add_reply-requires : goal.add_reply-requires
+add_reply-requires g c =
     let first : c.in-Request.caller.version ≡ One = subst NamesFirst c.in-Request.is c.requires in
     subst (λ (v : WireVersion). IsTrue (is_within_limits v c.answer-reply.result)) first c.answer-reply.ensures.limits
 
