@@ -235,8 +235,8 @@ length-written offset bytes old l m =
 
 -- no version lets data be longer
 limit-most : (version : WireVersion) → data_limit version ≤ 65536
-limit-most One = omega arith
-limit-most Two = omega arith
+limit-most One = let low : 4096 ≤ 65536 = omega arith in low
+limit-most Two = let low : 65536 ≤ 65536 = omega arith in low
 
 pub write-low : (base : Base) (h : List Record) (t : ℕ) (caller : Caller) (o : ObjectId) (offset : ℕ) (bytes : List ℕ) → is_refused (told base h t caller (Write o offset bytes)) ≡ false → offset + length bytes ≤ 65536
 write-low base h t caller o offset bytes e =
