@@ -87,7 +87,7 @@ fn check_followed(rt: &impl Abort, base: &Base) -> Result<(), Fail> {
 fn a_base_follows_a_history(rt: HostRuntime) -> Result<(), Fail> {
     let alloc = rt.alloc();
     let mut base = Base::fresh(alloc, 10);
-    assert_eq!(&rt; base.budget(&purse(PURSE)?), 65536);
+    assert_eq!(&rt; base.budget(&purse(PURSE)?), 1_048_576);
     follow_all(&rt, alloc, &mut base)?;
     check_followed(&rt, &base)
 }

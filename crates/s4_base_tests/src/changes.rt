@@ -1,7 +1,9 @@
 //! Records of what is carried out in one purse, each with its reply.
 
 use crate::values::{name, object, principal, purse};
-use s4_types::{Bytes, Caller, Moment, ObjectId, Record, Refusal, Reply, Request, Right};
+use s4_types::{
+    Bytes, Caller, Moment, ObjectId, Record, Refusal, Reply, Request, Right, WireVersion,
+};
 use std::alloc::Global;
 use std::test::Fail;
 
@@ -14,6 +16,7 @@ fn record(tick: u64, who: u32, request: Request, reply: Reply) -> Result<Record,
         caller: Caller {
             who: principal(who)?,
             client: 1,
+            version: WireVersion::One,
         },
         request,
         reply,

@@ -4,6 +4,7 @@ use crate::requests::is_numbered;
 use crate::values::{object, principal};
 use s4_types::{
     AuditLine, AuditLines, AuditPage, Caller, Moment, Principal, Record, Refusal, Reply, Request,
+    WireVersion,
 };
 use std::alloc::Global;
 use std::process::Abort;
@@ -14,7 +15,11 @@ fn record(reply: Reply) -> Result<Record, Fail> {
     let (who, range) = (principal(7)?, principal(9)?);
     Ok(Record {
         moment: Moment::new(5),
-        caller: Caller { who, client: 2 },
+        caller: Caller {
+            who,
+            client: 2,
+            version: WireVersion::One,
+        },
         request: Request::PList {
             range,
             after: None,
@@ -37,6 +42,7 @@ fn administrator() -> Caller {
     Caller {
         who: Principal::administrator(),
         client: 0,
+        version: WireVersion::One,
     }
 }
 

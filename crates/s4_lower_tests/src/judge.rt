@@ -1,8 +1,9 @@
 //! What is told of object 7.0.1 by an ACL that is in force since 20.
 
 use crate::values::{object, principal};
+use s4_acl::set;
 use s4_judge::{Held, judge_now, judge_past};
-use s4_types::{Acl, AclEntry, Caller, Grant, Moment, Refusal, Right, Rights};
+use s4_types::{Acl, Caller, Grant, Moment, Refusal, Right, Rights, User, WireVersion};
 use std::test::Fail;
 
 #[derive(Clone, Copy)]
@@ -15,36 +16,68 @@ enum Asked {
 enum Told {
     Admin,
     Owner,
-    /// By the first entry.
-    Entry,
+    /// By the entry of that index.
+    Entry(u8),
     Denied(Right),
 }
 
-/// Who asks, the rights of principal 9, what is asked, and what is told.
-const ROWS: [(u32, u8, Asked, Told); 13] = [
-    (0, 1, Asked::Now(Right::Write), Told::Admin),
-    (0, 1, Asked::Now(Right::Control), Told::Admin),
-    (7, 1, Asked::Now(Right::Control), Told::Owner),
-    (9, 1, Asked::Now(Right::Read), Told::Entry),
-    (9, 1, Asked::Past, Told::Denied(Right::Recover)),
-    (0, 1, Asked::Past, Told::Admin),
-    (7, 1, Asked::Past, Told::Denied(Right::Read)),
-    (9, 16, Asked::Past, Told::Denied(Right::Read)),
-    (0, 16, Asked::Past, Told::Admin),
-    (7, 16, Asked::Past, Told::Denied(Right::Read)),
-    (9, 17, Asked::Past, Told::Entry),
-    (0, 17, Asked::Past, Told::Admin),
-    (7, 17, Asked::Past, Told::Denied(Right::Read)),
+/// Entries: whom each is for, and its rights.
+type Entries = &'static [(u32, u8)];
+
+/// Principal 9 may read.
+const READ: Entries = &[(9, 1)];
+/// Principal 9 may recover.
+const RECOVER: Entries = &[(9, 16)];
+/// Principal 9 may do both.
+const BOTH: Entries = &[(9, 17)];
+/// Everyone may do both, but principal 9 may write alone.
+const SHARED: Entries = &[(4294967295, 17), (9, 2)];
+/// Everyone may write, and change the ACL.
+const OPEN: Entries = &[(4294967295, 10)];
+
+/// Who asks, the entries, what is asked, and what is told.
+const ROWS: [(u32, Entries, Asked, Told); 23] = [
+    (0, READ, Asked::Now(Right::Write), Told::Admin),
+    (0, READ, Asked::Now(Right::Control), Told::Admin),
+    (7, READ, Asked::Now(Right::Control), Told::Owner),
+    (9, READ, Asked::Now(Right::Read), Told::Entry(0)),
+    (9, READ, Asked::Past, Told::Denied(Right::Recover)),
+    (0, READ, Asked::Past, Told::Admin),
+    (7, READ, Asked::Past, Told::Denied(Right::Read)),
+    (9, RECOVER, Asked::Past, Told::Denied(Right::Read)),
+    (0, RECOVER, Asked::Past, Told::Admin),
+    (7, RECOVER, Asked::Past, Told::Denied(Right::Read)),
+    (9, BOTH, Asked::Past, Told::Entry(0)),
+    (0, BOTH, Asked::Past, Told::Admin),
+    (7, BOTH, Asked::Past, Told::Denied(Right::Read)),
+    (8, SHARED, Asked::Now(Right::Read), Told::Entry(0)),
+    (
+        8,
+        SHARED,
+        Asked::Now(Right::Write),
+        Told::Denied(Right::Write),
+    ),
+    (8, SHARED, Asked::Past, Told::Entry(0)),
+    (
+        9,
+        SHARED,
+        Asked::Now(Right::Read),
+        Told::Denied(Right::Read),
+    ),
+    (9, SHARED, Asked::Now(Right::Write), Told::Entry(1)),
+    (9, SHARED, Asked::Past, Told::Denied(Right::Read)),
+    (7, OPEN, Asked::Now(Right::Write), Told::Entry(0)),
+    (7, OPEN, Asked::Now(Right::Control), Told::Owner),
+    (8, OPEN, Asked::Now(Right::Control), Told::Entry(0)),
+    (0, OPEN, Asked::Now(Right::Write), Told::Admin),
 ];
 
-/// One entry of principal 9.
-fn acl(rights: u8) -> Result<Acl, Fail> {
+/// An ACL of these entries.
+fn acl(entries: Entries) -> Result<Acl, Fail> {
     let mut acl = Acl::empty();
-    if rights > 0 && rights < 32 {
-        acl.push(AclEntry {
-            who: principal(9)?,
-            rights: Rights::new(rights).ok_or("rights")?,
-        });
+    for (user, rights) in entries {
+        let rights = Rights::new(*rights).ok_or("rights")?;
+        acl = set(&acl, User::new(*user), rights).map_err(|_| "an ACL")?;
     }
     Ok(acl)
 }
@@ -53,6 +86,7 @@ fn judged(who: u32, acl: &Acl, asked: Asked) -> Result<Result<Grant, Refusal>, F
     let caller = Caller {
         who: principal(who)?,
         client: 3,
+        version: WireVersion::One,
     };
     let object = object((7, 0), 1)?;
     let since = Moment::new(20);
@@ -67,8 +101,8 @@ fn wanted(told: &Told) -> Result<Grant, Refusal> {
     match told {
         Told::Admin => Ok(Grant::Admin),
         Told::Owner => Ok(Grant::Owner),
-        Told::Entry => Ok(Grant::Entry {
-            index: 0,
+        Told::Entry(index) => Ok(Grant::Entry {
+            index: *index,
             since: Moment::new(20),
         }),
         Told::Denied(right) => Err(Refusal::Denied(*right)),
@@ -77,8 +111,8 @@ fn wanted(told: &Told) -> Result<Grant, Refusal> {
 
 #[test]
 fn who_is_told_what_now_and_of_the_past(rt: HostRuntime) -> Result<(), Fail> {
-    for (index, (who, rights, asked, told)) in ROWS.iter().enumerate() {
-        let judged = judged(*who, &acl(*rights)?, *asked)?;
+    for (index, (who, entries, asked, told)) in ROWS.iter().enumerate() {
+        let judged = judged(*who, &acl(entries)?, *asked)?;
         assert_eq!(rt; judged, wanted(told), "row {index}");
     }
     Ok(())

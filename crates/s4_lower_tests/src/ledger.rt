@@ -1,7 +1,7 @@
 //! Each public call of ledgers.
 
 use crate::values::purse;
-use s4_ledger::{DEFAULT_BUDGET, Ledger};
+use s4_ledger::Ledger;
 use s4_types::{Moment, Purse};
 use std::process::Abort;
 use std::test::Fail;
@@ -72,10 +72,10 @@ const FORGIVEN: [Row; 15] = [
 /// A budget may be met, and no more.
 const BUDGETED: [Row; 15] = [
     ((7, 0), Step::Open),
-    ((7, 0), Step::Budget(65536)),
+    ((7, 0), Step::Budget(Purse::DEFAULT_BUDGET)),
     ((7, 0), Step::SetBudget(129)),
     ((7, 0), Step::Budget(129)),
-    ((7, 1), Step::Budget(65536)),
+    ((7, 1), Step::Budget(Purse::DEFAULT_BUDGET)),
     ((7, 0), Step::Room(129, true)),
     ((7, 0), Step::Room(130, false)),
     ((7, 0), Step::Charge(4, 65)),
@@ -157,7 +157,7 @@ fn take(rt: &impl Abort, ledger: &mut Ledger, what: &str, rows: &[Row]) -> Resul
 
 #[test]
 fn charges_count_against_budgets_until_they_end(rt: HostRuntime) -> Result<(), Fail> {
-    assert_eq!(rt; DEFAULT_BUDGET, 65536);
+    assert_eq!(rt; Purse::DEFAULT_BUDGET, 1_048_576);
     for (what, rows) in [
         ("counted", COUNTED.as_slice()),
         ("forgiven", FORGIVEN.as_slice()),

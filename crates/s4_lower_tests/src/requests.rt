@@ -3,6 +3,7 @@
 use crate::values::{name, object, principal, purse};
 use s4_types::{
     Bytes, Caller, Grant, Moment, NameLine, NameLines, Purse, Refusal, Reply, Request, Right,
+    WireVersion,
 };
 use std::alloc::Global;
 use std::process::Abort;
@@ -100,6 +101,7 @@ fn requests_name_moments_and_purses(rt: HostRuntime) -> Result<(), Fail> {
     let caller = Caller {
         who: principal(7)?,
         client: 1,
+        version: WireVersion::One,
     };
     for (asked, tick, named) in REQUESTS {
         let at = tick.map(Moment::new);

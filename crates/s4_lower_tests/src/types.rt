@@ -2,7 +2,8 @@
 
 use crate::values::{name, principal};
 use s4_types::{
-    Acl, AclEntry, Moment, Name, Principal, PurseNo, Refusal, Reply, Right, Rights, Serial,
+    Acl, AclEntry, Moment, Name, Principal, PurseNo, Refusal, Reply, Right, Rights, Serial, User,
+    WireVersion,
 };
 use std::cmp::Ordering;
 use std::process::Abort;
@@ -11,6 +12,7 @@ use std::test::Fail;
 /// What a number is taken as.
 enum Number {
     Principal(u32),
+    User(u32),
     PurseNo(u8),
     Serial(u16),
     Rights(u8),
@@ -19,13 +21,17 @@ enum Number {
     Right(Right),
     /// The number that a refusal has.
     Refusal(Refusal),
+    /// The number of bytes that a version's requests may name.
+    DataLimit(WireVersion),
 }
 
 /// Numbers, and what is told of them when they are taken.
-const NUMBERS: [(Number, Option<u64>); 25] = [
+const NUMBERS: [(Number, Option<u64>); 29] = [
     (Number::Principal(0), Some(0)),
     (Number::Principal(4294967294), Some(4294967294)),
     (Number::Principal(4294967295), None),
+    (Number::User(0), Some(0)),
+    (Number::User(4294967295), Some(4294967295)),
     (Number::PurseNo(0), Some(0)),
     (Number::PurseNo(15), Some(15)),
     (Number::PurseNo(16), None),
@@ -48,17 +54,21 @@ const NUMBERS: [(Number, Option<u64>); 25] = [
     (Number::Refusal(Refusal::Flushed), Some(6)),
     (Number::Refusal(Refusal::NamesSpent), Some(13)),
     (Number::Refusal(Refusal::BadRange), Some(15)),
+    (Number::DataLimit(WireVersion::One), Some(4096)),
+    (Number::DataLimit(WireVersion::Two), Some(65536)),
 ];
 
 fn told(number: &Number) -> Option<u64> {
     match *number {
         Number::Principal(number) => Some(u64::from(Principal::new(number)?.number())),
+        Number::User(number) => Some(u64::from(User::new(number).number())),
         Number::PurseNo(number) => Some(u64::from(PurseNo::new(number)?.number())),
         Number::Serial(number) => Some(u64::from(Serial::new(number)?.number())),
         Number::Rights(number) => Some(u64::from(Rights::new(number)?.number())),
         Number::Tick(tick) => Some(Moment::new(tick).tick()),
         Number::Right(right) => Some(u64::from(right.number())),
         Number::Refusal(refusal) => Some(u64::from(refusal.number())),
+        Number::DataLimit(version) => Some(u64::from(version.data_limit())),
     }
 }
 
@@ -73,10 +83,11 @@ const RIGHTS: [(Right, bool, bool); 6] = [
 ];
 
 /// Facts of single values, each with what it says: of principal 1, principal 7 and the rights 31.
-fn facts(other: Principal, who: Principal, rights: Rights) -> [(&'static str, bool); 13] {
+fn facts(other: Principal, who: Principal, rights: Rights) -> [(&'static str, bool); 17] {
     let (early, late) = (Moment::new(5), Moment::new(u64::MAX));
     let administrator = Principal::administrator();
-    let entries = [AclEntry { who, rights }];
+    let (own, everyone) = (User::of(who), User::everyone());
+    let entries = [AclEntry { who: own, rights }];
     let acl = Acl::of_creator(who);
     [
         ("5 is early", early < late),
@@ -84,6 +95,10 @@ fn facts(other: Principal, who: Principal, rights: Rights) -> [(&'static str, bo
         ("number of the administrator", administrator.number() == 0),
         ("the administrator is one", administrator.is_administrator()),
         ("another principal isn't", !other.is_administrator()),
+        ("an own entry", own.reaches(who)),
+        ("another's entry", !own.reaches(other)),
+        ("an entry for everyone", everyone.reaches(other)),
+        ("number of everyone", everyone.number() == u32::MAX),
         ("number of all rights", Rights::all().number() == 31),
         ("rights 31", !rights.is_empty()),
         ("no rights", Rights::none().is_empty()),
