@@ -2,7 +2,7 @@
 // (LD_PRELOAD). It takes no memory itself. Words of the environment say what it does:
 //   REFUSE_FROM=N     refuses the Nth allocation, counted from 1 once the program begins; 0 or nothing refuses none
 //   REFUSE_COUNT=K    and the K - 1 that come next
-//   REFUSE_THREAD=T   counts and refuses those of one thread alone: 0 is the first, the others in the order in which they're made
+//   REFUSE_THREAD=T   counts and refuses those of one thread alone: 0 is the first, and the Kth that thread T makes is 8 T + K
 //   REFUSE_SECONDS=S  ends the program by SIGALRM after so many seconds
 //   REFUSE_TELL=FILE  writes to this file at the program's end what was counted, a line 'NAME VALUE' for each
 //   REFUSE_MEASURE=1  measures bytes too
@@ -26,7 +26,9 @@ void *__libc_memalign(size_t, size_t);
 void __libc_free(void *);
 
 #define PLACES (1u << 22)
-#define THREADS 256
+// Threads that are made by different ones at once so have the same numbers in each run. One may make seven, and so may each of these, and of theirs.
+#define CHILDREN 8
+#define THREADS 512
 
 typedef unsigned long long number;
 
@@ -39,8 +41,7 @@ static number not_made;
 // Whether marks say where calls begin and end, and whether one is under way.
 static int marked, calling;
 static number begun, ended;
-static int next_thread = 1;
-static __thread int thread __attribute__((tls_model("initial-exec")));
+static __thread int thread __attribute__((tls_model("initial-exec"))), made_by_it __attribute__((tls_model("initial-exec")));
 
 // Blocks that are held, by their address: open addressing, and a block that was given back leaves its place marked.
 static struct { uintptr_t at; size_t size; } blocks[PLACES];
@@ -261,7 +262,9 @@ static void tell(void)
     to = written(to, "threads_not_made", not_made);
     to = written(to, "calls_begun", begun);
     to = written(to, "calls_ended", ended);
-    for (int it = 0; it < next_thread && it < THREADS; it++) {
+    for (int it = 0; it < THREADS; it++) {
+        if (!by_thread[it])
+            continue;
         name[7] = (char)('0' + it / 100);
         name[8] = (char)('0' + it / 10 % 10);
         name[9] = (char)('0' + it % 10);
@@ -288,7 +291,7 @@ static void end_by(int signal_number)
     raise(signal_number);
 }
 
-// Threads are numbered as they're made.
+// Threads are numbered by who made them.
 static struct { void *(*start)(void *); void *given; } starts[THREADS];
 
 static void *begin(void *number_of_it)
@@ -301,10 +304,10 @@ static void *begin(void *number_of_it)
 int pthread_create(pthread_t *made, const pthread_attr_t *with, void *(*start)(void *), void *given)
 {
     static int (*create)(pthread_t *, const pthread_attr_t *, void *(*)(void *), void *);
-    int it = __atomic_fetch_add(&next_thread, 1, __ATOMIC_RELAXED);
+    int it = thread * CHILDREN + ++made_by_it;
     if (!create)
         create = (int (*)(pthread_t *, const pthread_attr_t *, void *(*)(void *), void *))dlsym(RTLD_NEXT, "pthread_create");
-    if (it >= THREADS)
+    if (made_by_it >= CHILDREN || it >= THREADS)
         abort();
     starts[it].start = start;
     starts[it].given = given;
