@@ -14,14 +14,15 @@ use std::alloc::{AllocError, Global};
 use std::process::Abort;
 use std::test::Fail;
 
-/// The logins of the administrator, 7 and 9, all with one secret.
+/// The logins of the administrator, 7, 8 and 9, all with one secret.
 const LOGINS: &str = "\
 0 000102030405060708090a0b0c0d0e0f
 7 000102030405060708090a0b0c0d0e0f
+8 000102030405060708090a0b0c0d0e0f
 9 000102030405060708090a0b0c0d0e0f
 ";
 
-const PRINCIPALS: [u32; 3] = [0, 7, 9];
+const PRINCIPALS: [u32; 4] = [0, 7, 8, 9];
 
 const SECRET: &[u8] = b"\x00\x01\x02\x03\x04\x05\x06\x07\x08\x09\x0a\x0b\x0c\x0d\x0e\x0f";
 
@@ -78,7 +79,7 @@ fn arrival(alloc: Global, step: &Step) -> Result<HallStep, Fail> {
     })
 }
 
-/// The greetings of all three.
+/// The greetings of all four.
 fn greetings(alloc: Global) -> Result<Vec<HallStep>, Fail> {
     let mut arrivals = Vec::new(alloc);
     for who in PRINCIPALS {
@@ -95,7 +96,7 @@ fn add_arrivals(alloc: Global, arrivals: &mut Vec<HallStep>, steps: &[Step]) -> 
     Ok(())
 }
 
-/// The greetings of all three, and what a script's lines are at a hall.
+/// The greetings of all four, and what a script's lines are at a hall.
 fn arrivals(alloc: Global, script: &str) -> Result<Vec<HallStep>, Fail> {
     let steps = steps_of(alloc, script)?;
     let mut arrivals = greetings(alloc)?;
