@@ -5,6 +5,7 @@ from concurrent.futures import ThreadPoolExecutor
 from dataclasses import dataclass, field
 
 from tools.growth import faults_of_growth
+from tools.holding import READS as KINDS_OF_READS, faults_of_holding
 from tools.refusing import NONE, Program, Refusal
 
 # What the program says of a case, and of all that it carried out.
@@ -19,6 +20,8 @@ REPLIES = {"arrive": "step_arena_three_calls_at_five"}
 ALLOCATIONS = {"set_window_over_values": "set_window_over_none"}
 # Cases of many calls, of which it is measured too that in all they ask for no more memory than a small multiple of what is held.
 MEASURED = ("serve_many",)
+# Cases of so many reads of one value, of which it is measured how much they hold, and nothing is refused.
+READS = {"read_whole_values": 2_000, "read_single_bytes": 2_000}
 
 
 class Calling(Program):
@@ -51,9 +54,12 @@ class Called:
     errors: int = 0
     without: int = 0
     pairs: int = 0
+    measured: str = ""
     wrong: list = field(default_factory=list)
 
     def line(self):
+        if self.measured:
+            return f"{self.name}: {self.measured}"
         told = f"{self.replies} are told by a reply, {self.errors} by an error, {self.without} are done without"
         return f"{self.name}: {self.met} refusals in the calls, of {self.allocations} allocations of {self.calls} calls; {told}; {self.pairs} in pairs"
 
@@ -101,6 +107,15 @@ class Caller:
             self.refuse_two(called, refusal, ran)
         return called
 
+    def measure(self, name):
+        """Measures what the reads of a case hold in the end."""
+        ran, called = self.program.call(name, measures=True), Called(name)
+        held, count = ran.told.get("held_by_calls", 0), READS[name]
+        self.told(called, "with ample memory", ran)
+        called.wrong += faults_of_holding(KINDS_OF_READS[0], name, held, count)
+        called.measured = f"{held / count:.1f} bytes held for each of {count} reads"
+        return called
+
     def ran(self, name, refusal):
         return refusal, self.program.call(name, refusal)
 
@@ -137,11 +152,12 @@ def sweep_all(program, jobs):
     caller, names = Caller(program, jobs), program.names()
     if not names:
         return [Called("all cases", wrong=["all cases, with ample memory: they aren't as expected, each once"])]
-    found = {name: caller.sweep(name) for name in names}
+    found = {name: caller.measure(name) if name in READS else caller.sweep(name) for name in names}
+    missed = [it for it in READS if it not in found]
     for name, other in REPLIES.items():
         if name in found and (other not in found or found[name].replies != found[other].allocations):
             found[name].wrong.append(f"{name}: {found[name].replies} refusals are told by a reply, and not as many as {other} has allocations")
     for name, other in ALLOCATIONS.items():
         if name in found and (other not in found or found[name].allocations != found[other].allocations):
             found[name].wrong.append(f"{name}: its calls make {found[name].allocations} allocations, and not the number of those of {other}")
-    return list(found.values())
+    return [*found.values(), *(Called(it, wrong=[f"{it}: there is no such case"]) for it in missed)]

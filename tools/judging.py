@@ -1,9 +1,12 @@
 """What a run may write in which allocations were refused."""
+import re
 import struct
 import threading
 
 NO_MEMORY = b"no-memory\n"
 ENDED = b"s4d: no memory\n"
+# What is said of a cut above the horizon. A row's own cuts are none, but where the requests are refused that they stand on.
+ABOVE = re.compile(rb"s4d: line ([0-9]+): cut above horizon\n")
 # The frame that tells that a request met want of memory.
 REFUSED = bytes.fromhex("000000020810")
 
@@ -34,22 +37,22 @@ def replies_in(output):
     return replies
 
 
-def ended_well(ran):
-    """Whether the run came to its end; else it has to say that there was no memory."""
+def ended_well(ran, fault=b""):
+    """Whether the run came to its end, or to this fault; else it has to say that there was no memory."""
     if ran.status < 0:
         raise Wrong(f"it is ended by signal {-ran.status}")
     if not ran.told:
         raise Wrong("it ended so that its allocations aren't told")
     if (ran.status, ran.errors) == (1, ENDED):
         return False
-    if (ran.status, ran.errors) != (0, b""):
+    if (ran.status, ran.errors) != ((1, fault) if fault else (0, b"")):
         raise Wrong(f"status {ran.status}, and on standard error {ran.errors.decode(errors='replace')!r}")
     return True
 
 
-def compare(ran, wanted):
+def compare(ran, wanted, fault=b""):
     """What was written is all of what is wanted, or where the memory didn't suffice whole lines of its beginning."""
-    if ended_well(ran):
+    if ended_well(ran, fault):
         if ran.output != wanted:
             raise Wrong(f"it writes {shown(ran.output, wanted)}")
     elif not wanted.startswith(ran.output) or ran.output[-1:] not in (b"", b"\n"):
@@ -76,37 +79,38 @@ class Judge:
         return (*self.row.words, self.logins) if self.logins else self.row.words
 
     def wanted(self, refused):
-        """What is wanted where these requests were refused."""
+        """What is wanted where these requests were refused, and the fault that has to end the run, or none."""
         if not refused:
-            return self.row.wanted
+            return self.row.wanted, b""
         with self.turn:
             if refused not in self.known:
                 self.known[refused] = self.without(refused)
             return self.known[refused]
 
     def plain(self, text):
-        """What the program writes for this text with ample memory."""
+        """What the program writes for this text with ample memory, and of which line it says that it cuts above the horizon, or none."""
         given = self.program.place() / "without"
         given.write_bytes(text)
         ran = self.program.run(self.words(), str(given))
-        if (ran.status, ran.errors) != (0, b""):
+        above = ABOVE.fullmatch(ran.errors)
+        if (ran.status, ran.errors) != (0, b"") and not (ran.status == 1 and above):
             raise Wrong("without what was refused the program doesn't run to its end")
-        return ran.output
+        return ran.output, int(above[1]) if above else None
 
     def judge(self, ran):
         """Raises why the run isn't right, where it isn't."""
-        ended_well(ran)
+        ended_well(ran, ran.errors if ABOVE.fullmatch(ran.errors) else b"")
         refused = self.refused(ran.output)
         if len(refused) > ran.met():
             raise Wrong(f"{len(refused)} requests are refused, and only {ran.met()} allocations were")
-        compare(ran, self.wanted(refused))
+        compare(ran, *self.wanted(refused))
 
     def refused(self, output):
         """Which requests are refused, in this output."""
         raise NotImplementedError
 
     def without(self, refused):
-        """What is wanted without these requests."""
+        """What is wanted without these requests, and the fault that has to end the run, or none."""
         raise NotImplementedError
 
 
@@ -129,10 +133,12 @@ class ScriptJudge(Judge):
         if refused[-1] >= len(asking):
             raise Wrong("there are more replies than requests")
         left_out = {asking[it] for it in refused}
-        replies = replies_in(self.plain(b"".join(line for it, line in enumerate(lines) if it not in left_out)))
+        kept = [it for it in range(len(lines)) if it not in left_out]
+        output, above = self.plain(b"".join(lines[it] for it in kept))
+        replies = replies_in(output)
         for it in refused:
             replies.insert(it, NO_MEMORY)
-        return b"".join(replies)
+        return b"".join(replies), b"" if above is None else b"s4d: line %d: cut above horizon\n" % (kept[above - 1] + 1)
 
 
 def frames_in(stream):
@@ -189,12 +195,12 @@ class HallJudge(Judge):
         lines = self.row.given.splitlines()
         for number, piece in left.items():
             lines[number] = b" ".join([*lines[number].split(b" ")[:2], piece.hex().encode() or b"empty"])
-        sent = sent_in(self.plain(b"".join(line + b"\n" for line in lines)))
+        sent = sent_in(self.plain(b"".join(line + b"\n" for line in lines))[0])
         for conn, it in refused:
             stream = sent.get(conn, b"")
             at = [0, *(end for _, end in frames_in(stream))][it]
             sent[conn] = stream[:at] + REFUSED + stream[at:]
-        return b"".join(b"%d %s\n" % (conn, stream.hex().encode() or b"empty") for conn, stream in sent.items())
+        return b"".join(b"%d %s\n" % (conn, stream.hex().encode() or b"empty") for conn, stream in sent.items()), b""
 
 
 JUDGES = {"script": ScriptJudge, "serials": ScriptJudge, "strike": StrikeJudge, "arrivals": HallJudge}

@@ -5,7 +5,7 @@ from tools.calls import Calling, sweep_all
 from tools.planted_refusals import compiled_to
 
 # What is planted, by its number in wrong_calls.c: a word of what has to be said of it, and how often, of the three refusals alone and three in
-# pairs of all five cases. Nothing is wrong with the first.
+# pairs of five cases, and of two cases of reads. Nothing is wrong with the first.
 PLANTS = {
     "nothing": ("", 0),
     "a refusal that no call tells": ("no call tells it", 15),
@@ -22,6 +22,8 @@ PLANTS = {
     "memory for one more at a time": ("are asked for in all", 1),
     "memory for four times as many": ("asks for twice as many", 1),
     "room for refunds at a SetWindow": ("and not the number of those of set_window_over_none", 1),
+    "a copy of each value that is read": ("are held for each", 1),
+    "reads that leave nothing": ("are held for each", 2),
 }
 
 

@@ -3,6 +3,7 @@ import tempfile
 from pathlib import Path
 
 from tools.growth import KINDS, grown
+from tools.holding import READS as READ, WRITES as WRITTEN, held
 from tools.refusing import HERE, Program, compiled
 from tools.rows import Row
 from tools.sweeps import Sweeper
@@ -49,6 +50,22 @@ GROWTHS = {
     "twofold by new blocks": None,
 }
 
+# What wrong_reads.c keeps of each read, by its number there, and a word of what has to be said of it.
+READS = {
+    "a record": None,
+    "a copy of the value": "are held for each",
+    "nothing": "are held for each",
+    "a record of other bytes": "the replies are others",
+}
+
+# What wrong_cuts.c does at a cut, by its number there, and a word of what has to be said of it.
+CUTS = {
+    "gives back": None,
+    "keeps the memory": "are held for each",
+    "keeps all but every tenth": "are held for each",
+    "tells another number": "the replies are others",
+}
+
 
 def compiled_to(room, source, name, number, kind=Program):
     """A planted program, in a folder of its own."""
@@ -67,6 +84,18 @@ def faults_of_growths(room):
     return faults
 
 
+def faults_of_holding(room, source, name, plants, kinds):
+    """What isn't said of what a program is planted to hold, though it should be, or is said though it shouldn't."""
+    faults = []
+    for number, (plant, wanted) in enumerate(plants.items()):
+        program = compiled_to(room, source, name, number)
+        for kind in kinds:
+            said = held(program, kind).wrong
+            if bool(wanted) != bool(said) or not all(wanted in it for it in said):
+                faults.append(f"{source}, {plant}: of {kind} is said: {said}")
+    return faults
+
+
 def self_test(jobs):
     """Tries what is planted. Returns whether each mistake is found, and nothing in the program without one."""
     faults = []
@@ -76,6 +105,8 @@ def self_test(jobs):
             program.seconds = 3 if name == "it never ends" else program.seconds
             faults += faults_of(name, wanted, seen, Sweeper(program, jobs).sweep(planted_row(name)))
         faults += faults_of_growths(room)
-    count = len(PLANTS) - 1 + sum(wanted is not None for wanted in GROWTHS.values())
+        faults += faults_of_holding(room, "wrong_reads.c", "READS", READS, READ)
+        faults += faults_of_holding(room, "wrong_cuts.c", "CUTS", CUTS, WRITTEN)
+    count = len(PLANTS) - 1 + sum(wanted is not None for it in (GROWTHS, READS, CUTS) for wanted in it.values())
     print("\n".join(f"refusals: {it}" for it in faults) or f"refusals: {count} planted mistakes are found, and none in right programs")
     return not faults

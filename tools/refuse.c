@@ -38,9 +38,9 @@ static int only_thread = -1;
 static const char *tell_to;
 static number allocations, by_thread[THREADS], met, asked, held, most_held, growths, most_beyond, beyond_had;
 static number not_made;
-// Whether marks say where calls begin and end, and whether one is under way.
+// Whether marks say where calls begin and end, and whether one is under way; and how much was held when it began, and what all calls hold.
 static int marked, calling;
-static number begun, ended;
+static number begun, ended, held_before, held_by_calls;
 static __thread int thread __attribute__((tls_model("initial-exec"))), made_by_it __attribute__((tls_model("initial-exec")));
 
 // Blocks that are held, by their address: open addressing, and a block that was given back leaves its place marked.
@@ -217,11 +217,15 @@ ssize_t write(int file, const void *bytes, size_t count)
     int begins = marked && file == 2 && begins_with(bytes, count, "the call begins");
     int ends = marked && file == 2 && begins_with(bytes, count, "the call ends");
     ssize_t wrote;
-    if (ends)
+    if (ends) {
         __atomic_store_n(&calling, 0, __ATOMIC_RELEASE);
+        held_by_calls += held > held_before ? held - held_before : 0;
+    }
     wrote = syscall(SYS_write, file, bytes, count);
-    if (begins)
+    if (begins) {
+        held_before = held;
         __atomic_store_n(&calling, 1, __ATOMIC_RELEASE);
+    }
     begun += begins;
     ended += ends;
     return wrote;
@@ -256,6 +260,7 @@ static void tell(void)
     to = written(to, "asked", asked);
     to = written(to, "most_held", most_held);
     to = written(to, "held", held);
+    to = written(to, "held_by_calls", held_by_calls);
     to = written(to, "growths", growths);
     to = written(to, "most_beyond_twice", most_beyond);
     to = written(to, "most_beyond_twice_of", beyond_had);

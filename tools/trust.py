@@ -25,6 +25,9 @@ THEOREMS = [
     ("a map of chains", "s4_store", "store.rt", "Store", ()),
 ]
 
+# The rules that all theorems speak of: a name, and the definitions with their modules.
+RULES = ("the rules: answers, histories and strikes", (("s4_types.specs.Answer", "answer"), ("s4_types.specs.Play", "play"), ("s4_types.specs.Strike", "strike")))
+
 IMPORTED = re.compile(r"\s*(?:ghost )?use Rattle\.([\w.]+)\.\{(.*)\};?\s*$")
 RENAMED = re.compile(r"\s*(?:ghost )?use Rattle\.([\w.]+?)(?: as (\w+))?;?\s*$")
 HEAD = re.compile(r"(?:abbrev )?(?:pub )?(?:record |data |abbrev )?([^\s:()]+)")
@@ -127,6 +130,14 @@ def of_theorem(specs, crate, file, function, wanted):
     return specs.reached(Names("", text), "\n".join(lines + values))
 
 
+def of_words(specs, words):
+    """The definitions that these definitions reach, and they themselves."""
+    missing = [".".join(it) for it in words if it not in specs.lines]
+    if missing:
+        raise SystemExit(f"references: there is no definition {missing[0]}")
+    return set(words).union(*(specs.reached(specs.names[it[0]], "\n".join(specs.lines[it])) for it in words))
+
+
 def of_public(specs, crate):
     """The definitions that the clauses of a crate's public functions and traits reach."""
     found = set()
@@ -152,7 +163,9 @@ def table(root):
     """What TRUST says of definitions, counted."""
     specs = Specs(root)
     theorems = [(name, crate, function, wanted, of_theorem(specs, crate, file, function, wanted)) for name, crate, file, function, wanted in THEOREMS]
+    rules = of_words(specs, RULES[1])
     lines = ["| Theorem | Function | Clauses | Definitions | Lines | Files |", "|---|---|---|---:|---:|---:|"]
+    lines.append(f"| {RULES[0]} | | | {len(rules)} | {specs.lines_of(rules)} | {len({it[0] for it in rules})} |")
     for name, crate, function, wanted, found in theorems:
         clauses = ", ".join(f"*{it}*" for it in wanted) or "all"
         lines.append(f"| {name} | `{function}` of `{crate}` | {clauses} | {len(found)} | {specs.lines_of(found)} | {len({it[0] for it in found})} |")

@@ -1,15 +1,17 @@
 // A small program in the place of s4_refusal_tests, in which mistakes are planted that show only where an allocation is refused. It is
-// compiled for each mistake by -DMISTAKE=K. Each of its five cases makes three calls, each of which takes a block of its own.
+// compiled for each mistake by -DMISTAKE=K. Each of its first five cases makes three calls, each of which takes a block of its own. In the two
+// others a value is read often.
 #include <stdio.h>
 #include <stdlib.h>
 #include <string.h>
 #include <unistd.h>
 
-enum { NONE, SWALLOWS, CHANGES_SOMETHING, CRASHES, ENDS, TELLS_TWICE, HAS_NO_END, ASKS_FOR_LESS, ASKS_FOR_NOTHING, TELLS_BY_AN_ERROR, FAILS_ANYWAY, GROWS_BY_ONE, GROWS_FOURFOLD, MAKES_ROOM_FOR_VALUES };
+enum { NONE, SWALLOWS, CHANGES_SOMETHING, CRASHES, ENDS, TELLS_TWICE, HAS_NO_END, ASKS_FOR_LESS, ASKS_FOR_NOTHING, TELLS_BY_AN_ERROR, FAILS_ANYWAY, GROWS_BY_ONE, GROWS_FOURFOLD, MAKES_ROOM_FOR_VALUES, COPIES_WHAT_IS_READ, READS_LEAVE_NOTHING };
 
 #define CALLS 3
-#define CASES 5
-static const char *const cases[CASES] = {"step_arena_three_calls_at_five", "arrive", "serve_many", "set_window_over_none", "set_window_over_values"};
+#define CASES 7
+static const char *const cases[CASES] = {"step_arena_three_calls_at_five", "arrive", "serve_many", "set_window_over_none", "set_window_over_values", "read_whole_values", "read_single_bytes"};
+#define READS 2000
 
 static void mark(const char *text)
 {
@@ -41,13 +43,25 @@ static void keep_a_thousand(void)
         abort();
 }
 
+// Keeps a record of each read of a value, or of a byte of it, all in one call.
+static void read_often(int is_whole)
+{
+    mark("the call begins\n");
+    for (int it = 0; it < READS; it++)
+        if (MISTAKE != READS_LEAVE_NOTHING && (!malloc(100) || (MISTAKE == COPIES_WHAT_IS_READ && is_whole && !malloc(4096))))
+            abort();
+    mark("the call ends\n");
+}
+
 // Carries out a case. Returns how much wasn't as it has to be.
 static int carry_out(const char *name)
 {
     int faults = MISTAKE == FAILS_ANYWAY, replies = 0, errors = 0;
     if (!strcmp(name, "serve_many"))
         keep_a_thousand();
-    for (int call = 0; call < CALLS; call++) {
+    if (!strncmp(name, "read_", 5))
+        read_often(!strcmp(name, "read_whole_values"));
+    for (int call = 0; call < CALLS && strncmp(name, "read_", 5); call++) {
         int refused;
         mark("the call begins\n");
         refused = !has_block(name, call);

@@ -1,17 +1,18 @@
 -- Which lists are ACLs, once one of their entries is changed.
-use Rattle.std.proofs.Common.{take, drop, ◌≡◌, ℕ, ◌+◌, ◌≤◌, ◌<◌, Bool, true, false, not, cond, List, [], ◌∷◌, ◌++◌, refl, sym, ◌∙◌, ap, subst, arith, length, length-append}
-use Rattle.std.specs.Prelude.{is_some, Some, Ok, Err, slice_index_or, ◌&&◌, ◌||◌, ◌==◌, nat_le, nat_lt, filter, if◌then◌else◌}
+use Rattle.std.proofs.Common.{take, drop, ◌≡◌, ℕ, ◌+◌, ◌≤◌, ◌<◌, Bool, true, false, not, cond, List, [], ◌∷◌, ◌++◌, refl, sym, ◌∙◌, ap, subst, arith, length, length-append, add-zero}
+use Rattle.std.specs.Prelude.{is_some, Some, Ok, Err, slice_index_or, ◌&&◌, ◌||◌, ◌==◌, nat_le, nat_lt, filter, if◌then◌else◌, Option, None}
 use Rattle.std.specs.List.{list_all}
 use Rattle.std.proofs.lemmas.List.Folds.{list_all-append, list_any-append}
-use Rattle.std.proofs.lemmas.List.{take-append-drop, map_more}
+use Rattle.std.proofs.lemmas.List.{take-append-drop, map_more, take_more, length-take}
 use Rattle.std.proofs.lemmas.List.Elements.{filter_more}
 use Rattle.s4_types.specs.declared.acl.AclEntry.{AclEntry}
 use Rattle.s4_types.specs.declared.reply.Refusal.TheVariants.{AclFull, NoEntry}
 use Rattle.s4_types.specs.Acl.{names, one_each, IsAcl, without_entry, replaced}
-use Rattle.s4_types.specs.Judgement.{found_from}
-use Rattle.s4_acl.specs.Set.{acl_once_set}
-use Rattle.s4_types.proofs.Booleans.{by_test, both, not_both}
+use Rattle.s4_types.specs.Judgement.{Found, found_from}
+use Rattle.s4_types.specs.Answer.{settable}
+use Rattle.s4_types.proofs.Booleans.{by_test, both, not_both, ||-true}
 use Rattle.s4_types.proofs.Entries.{length-without, length-replaced}
+use Rattle.std.specs.Option.{option_or}
 
 -- what makes a list an ACL
 record AclParts (acl : List AclEntry) : Type 0 where
@@ -175,6 +176,45 @@ is_acl-more new xs given free room is =
       given = list_all-append (λ entry. nat_lt 0 entry.rights) xs (new ∷ []) ∙ rw (p.given, some) refl;
     })
 
+-- the last entry is the only one of its user
+names-last : (xs : List AclEntry) (x : AclEntry) → one_each (xs ++ x ∷ []) ≡ true → names x.who xs ≡ false
+names-last [] x e = refl
+names-last (y ∷ xs) x e =
+    let once = both (not (names y.who (xs ++ x ∷ []))) (one_each (xs ++ x ∷ [])) e in
+    let apart : (names y.who xs || ((x.who == y.who) || false)) ≡ false = sym (list_any-append (λ entry. entry.who == y.who) xs (x ∷ [])) ∙ not-true (names y.who (xs ++ x ∷ [])) once.0 in
+    by_test (y.who == x.who)
+    (λ f. let same : (x.who == y.who) ≡ true = grind arith in
+    absurd (not_both true refl (sym (||-true (names y.who xs)) ∙ ap (λ b. names y.who xs || (b || false)) (sym same) ∙ apart)))
+    (λ f. rw (f, names-last xs x once.1) refl)
+
+-- LOOKING UP
+
+is_none : (found : Option Found) → is_some found ≡ false → found ≡ None
+is_none None e = refl
+is_none (Some f) e = cc
+
+or_none : (found : Option Found) → option_or found None ≡ found
+or_none None = refl
+or_none (Some f) = refl
+
+-- one more entry is found where none before it is
+pub found-more : (i who : ℕ) (xs : List AclEntry) (x : AclEntry) → found_from i who (xs ++ x ∷ []) ≡ option_or (found_from i who xs) (if x.who == who then Some (record { index = i + length xs; rights = x.rights }) else None)
+found-more i who [] x = ap (λ n. if x.who == who then Some (record { index = n; rights = x.rights }) else None) (sym (add-zero i))
+found-more i who (y ∷ xs) x = of (y.who == who) (found-more (i + 1) who xs x)
+  where
+    of : (b : Bool) → found_from (i + 1) who (xs ++ x ∷ []) ≡ option_or (found_from (i + 1) who xs) (if x.who == who then Some (record { index = i + 1 + length xs; rights = x.rights }) else None)
+        → cond b (Some (record { index = i; rights = y.rights })) (found_from (i + 1) who (xs ++ x ∷ [])) ≡ option_or (cond b (Some (record { index = i; rights = y.rights })) (found_from (i + 1) who xs)) (if x.who == who then Some (record { index = i + length (y ∷ xs); rights = x.rights }) else None)
+    of true e = refl
+    of false e = e ∙ ap (λ n. option_or (found_from (i + 1) who xs) (if x.who == who then Some (record { index = n; rights = x.rights }) else None)) (omega arith)
+
+pub found-names : (i who : ℕ) (xs : List AclEntry) → names who xs ≡ is_some (found_from i who xs)
+found-names i who [] = refl
+found-names i who (x ∷ xs) = of (x.who == who) (found-names (i + 1) who xs)
+  where
+    of : (b : Bool) → names who xs ≡ is_some (found_from (i + 1) who xs) → (b || names who xs) ≡ is_some (cond b (Some (record { index = i; rights = x.rights })) (found_from (i + 1) who xs))
+    of true e = refl
+    of false e = e
+
 -- ONE ENTRY AFTER THE OTHER
 
 beginning : (n : ℕ) (xs : List AclEntry) → IsAcl xs → IsAcl (take n xs)
@@ -187,6 +227,30 @@ module _ (xs : List AclEntry) (i : ℕ) (x : AclEntry) (low : i < length xs) (is
   pub is_acl-replaced-next : (new : AclEntry) → 0 < new.rights → IsAcl xs → IsAcl (replaced new (take i xs) ++ in_place new x ∷ [])
   is_acl-replaced-next new given acl = subst IsAcl (replaced-next new) (is_acl-replaced new (take (i + 1) xs) given (beginning (i + 1) xs acl))
 
+  take-next : take (i + 1) xs ≡ take i xs ++ x ∷ []
+  take-next = take_more xs i x low ∙ ap (λ y. take i xs ++ y ∷ []) (sym is)
+
+  pub is_acl-next : IsAcl xs → IsAcl (take i xs ++ x ∷ [])
+  is_acl-next acl = subst IsAcl take-next (beginning (i + 1) xs acl)
+
+  -- where the next entry is the user's, it is the one that is found
+  pub found-next : (who : ℕ) → (x.who == who) ≡ true → IsAcl xs → Some (record { index = i; rights = x.rights }) ≡ found_from 0 who (take (i + 1) xs)
+  found-next who e acl =
+      let same : x.who ≡ who = grind arith in
+      let once : one_each (take i xs ++ x ∷ []) ≡ true = (parts (take i xs ++ x ∷ []) (is_acl-next acl)).once in
+      let free : names who (take i xs) ≡ false = subst (λ w. names w (take i xs) ≡ false) same (names-last (take i xs) x once) in
+      let index : 0 + length (take i xs) ≡ i = simp length-take (omega arith) in
+      sym (ap (found_from 0 who) take-next ∙ found-more 0 who (take i xs) x
+      ∙ ap (λ b. option_or (found_from 0 who (take i xs)) (if b then Some (record { index = 0 + length (take i xs); rights = x.rights }) else None)) e
+      ∙ ap (λ n. option_or (found_from 0 who (take i xs)) (Some (record { index = n; rights = x.rights }))) index
+      ∙ ap (λ f. option_or f (Some (record { index = i; rights = x.rights }))) (is_none (found_from 0 who (take i xs)) (sym (found-names 0 who (take i xs)) ∙ free)))
+
+  -- and else the one that was found stays
+  pub found-stays : (who : ℕ) → (x.who == who) ≡ false → found_from 0 who (take i xs) ≡ found_from 0 who (take (i + 1) xs)
+  found-stays who e = sym (ap (found_from 0 who) take-next ∙ found-more 0 who (take i xs) x
+      ∙ ap (λ b. option_or (found_from 0 who (take i xs)) (if b then Some (record { index = 0 + length (take i xs); rights = x.rights }) else None)) e
+      ∙ or_none (found_from 0 who (take i xs)))
+
   pub without-next : (who : ℕ) → without_entry who (take (i + 1) xs) ≡ without_entry who (take i xs) ++ cond (not (x.who == who)) (x ∷ []) []
   without-next who = filter_more (λ entry. not (entry.who == who)) xs i x low
       ∙ ap (λ (y : AclEntry). without_entry who (take i xs) ++ cond (not (y.who == who)) (y ∷ []) []) (sym is)
@@ -195,33 +259,34 @@ module _ (xs : List AclEntry) (i : ℕ) (x : AclEntry) (low : i < length xs) (is
   is_acl-without-next who e acl =
       subst IsAcl (without-next who ∙ ap (λ b. without_entry who (take i xs) ++ cond b (x ∷ []) []) e) (is_acl-without who (take (i + 1) xs) (beginning (i + 1) xs acl))
 
--- LOOKING UP
-
-pub found-names : (i who : ℕ) (xs : List AclEntry) → names who xs ≡ is_some (found_from i who xs)
-found-names i who [] = refl
-found-names i who (x ∷ xs) = of (x.who == who) (found-names (i + 1) who xs)
-  where
-    of : (b : Bool) → names who xs ≡ is_some (found_from (i + 1) who xs) → (b || names who xs) ≡ is_some (cond b (Some (record { index = i; rights = x.rights })) (found_from (i + 1) who xs))
-    of true e = refl
-    of false e = e
-
 -- WHAT A CHANGE COMES TO
 
-module _ (who rights : ℕ) (acl : List AclEntry) where
-  abbrev new-entry : AclEntry
-  new-entry = record { who = who; rights = rights }
+pub none-to-take : (who rights : ℕ) (acl : List AclEntry) → names who acl ≡ false → (rights == 0) ≡ true → Err NoEntry ≡ settable who rights acl
+none-to-take who rights acl e f = rw (e, f) refl
 
-  pub taken-away : names who acl ≡ true → (rights == 0) ≡ true → acl_once_set who rights acl ≡ Ok (without_entry who acl)
-  taken-away e f = rw (e, f) refl
+pub full : (who rights : ℕ) (acl : List AclEntry) → names who acl ≡ false → (rights == 0) ≡ false → 16 ≤ length acl → Err AclFull ≡ settable who rights acl
+full who rights acl e f low = let g : nat_le 16 (length acl) ≡ true = grind arith in rw (e, f, g) refl
 
-  pub changed-in-place : names who acl ≡ true → (rights == 0) ≡ false → acl_once_set who rights acl ≡ Ok (replaced new-entry acl)
-  changed-in-place e f = rw (e, f) refl
+-- rights are taken away only where there is an entry
+pub entry-to-take : (who : ℕ) (acl : List AclEntry) → settable who 0 acl ≡ Ok tt → names who acl ≡ true
+entry-to-take who acl e = by_test (names who acl) (λ f. f) (λ f. let none : settable who 0 acl ≡ Err NoEntry = rw f refl in cc)
 
-  pub none-to-take : names who acl ≡ false → (rights == 0) ≡ true → acl_once_set who rights acl ≡ Err NoEntry
-  none-to-take e f = rw (e, f) refl
+-- and a new entry is added only where there is room
+pub room-to-add : (who rights : ℕ) (acl : List AclEntry) → (rights == 0) ≡ false → names who acl ≡ false → settable who rights acl ≡ Ok tt → length acl < 16
+room-to-add who rights acl given free e = by_test (nat_le 16 (length acl))
+    (λ f. let none : settable who rights acl ≡ Err AclFull = rw (free, given, f) refl in cc)
+    (λ f. grind arith)
 
-  pub full : names who acl ≡ false → (rights == 0) ≡ false → nat_le 16 (length acl) ≡ true → acl_once_set who rights acl ≡ Err AclFull
-  full e f g = rw (e, f, g) refl
+some-of-names : (who : ℕ) (acl : List AclEntry) → names who acl ≡ true → 0 < length acl
+some-of-names who [] e = cc
+some-of-names who (x ∷ acl) e = omega arith
 
-  pub added : names who acl ≡ false → (rights == 0) ≡ false → nat_le 16 (length acl) ≡ false → acl_once_set who rights acl ≡ Ok (acl ++ new-entry ∷ [])
-  added e f g = rw (e, f, g) refl
+pub some-to-take : (who rights : ℕ) (acl : List AclEntry) → (rights == 0) ≡ true → settable who rights acl ≡ Ok tt → 0 < length acl
+some-to-take who rights acl given e =
+    let zero : rights ≡ 0 = grind arith in
+    some-of-names who acl (entry-to-take who acl (subst (λ r. settable who r acl ≡ Ok tt) zero e))
+
+pub is_acl-added : (who rights : ℕ) (acl : List AclEntry) → (rights == 0) ≡ false → names who acl ≡ false → settable who rights acl ≡ Ok tt → IsAcl acl → IsAcl (acl ++ record { who = who; rights = rights } ∷ [])
+is_acl-added who rights acl given free e is =
+    let some : 0 < rights = grind arith in
+    is_acl-more (record { who = who; rights = rights }) acl some free (room-to-add who rights acl given free e) is

@@ -23,7 +23,7 @@ use Rattle.s4_types.specs.Bindings.{bound_at, bound_count, has_name}
 use Rattle.s4_types.specs.Limits.{data_limit}
 use Rattle.s4_types.specs.Judgement.{judge}
 use Rattle.s4_types.specs.Versions.{Value, versions, ends_by, in_force_by, unended, standing, data_track, attribute_track, acl_track}
-use Rattle.s4_types.specs.Answer.{answer, outcome_by_kind, data_of, acl_of, value_or_empty, settable, found_bound, administered, flushed}
+use Rattle.s4_types.specs.Answer.{answer, outcome_by_kind, value_or_empty, settable, found_bound, administered, flushed}
 use Rattle.s4_types.proofs.Outcomes.{passes_judgement, answer-by-kind}
 use Rattle.s4_laws.specs.Bases.{IsBase}
 use Rattle.s4_types.specs.Play.{UpTo}
@@ -32,6 +32,7 @@ use Rattle.s4_laws.proofs.Old.{Old}
 use Rattle.s4_cuts.proofs.CutTracks.{acl-kept, early-old}
 use Rattle.s4_base.specs.Answered.{IsAnswered}
 use Rattle.s4_base.specs.Changes.{told_done, next_in, IsSettable, CanSet, Follows, CanFollow}
+use Rattle.s4_types.specs.Contents.{data_of, acl_of}
 
 -- WHAT IS TOLD
 

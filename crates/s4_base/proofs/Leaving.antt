@@ -13,13 +13,13 @@ use Rattle.s4_types.specs.declared.record.Record.{Record}
 use Rattle.s4_types.specs.Acl.{acl_with}
 use Rattle.s4_types.specs.Names.{same_purse, same_object}
 use Rattle.s4_types.specs.Name.{same_name}
-use Rattle.s4_types.specs.Kinds.{concerns, is_create, is_refused, is_wide, is_about, is_accepted, only_reads}
+use Rattle.s4_types.specs.Kinds.{concerns, is_create, is_refused, is_wide, is_about, is_accepted, only_reads, purse_of}
 use Rattle.s4_types.specs.Serials.{draws}
 use Rattle.s4_types.specs.Base.{Base, KeptObject}
 use Rattle.s4_types.specs.Bindings.{with_name, named_by, rebound, bindings, names_of}
 use Rattle.s4_types.specs.Horizon.{Guarded, windowed, windowed_by, guarded_at}
 use Rattle.s4_types.specs.Spending.{budget_by, budget_of}
-use Rattle.s4_types.specs.Versions.{Value, begun, with_end, only_kept, standing, when, written, of_length, is_deleted}
+use Rattle.s4_types.specs.Versions.{Value, begun, with_end, only_kept, standing, written, of_length, is_deleted}
 use Rattle.s4_types.proofs.Booleans.{by_test, &&-false, &&-true}
 use Rattle.s4_types.proofs.SameNames.{purse_is, object_is, object_self, same_purses, purse_self}
 use Rattle.s4_cuts.specs.Cut.{object_left, binding_left, is_left, left}
@@ -28,6 +28,7 @@ use Rattle.s4_cuts.proofs.Cutting.{standing-kept}
 use Rattle.s4_base.proofs.OneObject.{moved, affected, object-idle, object-made, object-deleted, object-changed, object-stays, standing-ended}
 use Rattle.s4_base.proofs.OneName.{AllBound, binding-stays, names-stay, names-with, names-without}
 use Rattle.s4_base.proofs.SameBase.{same_base}
+use Rattle.std.specs.Bool.{then_some}
 
 if-same : {A : Type 0} (b : Bool) (x : A) → (if b then x else x) ≡ x
 if-same true x = refl
@@ -40,7 +41,7 @@ count-one test r = zero-add (cond (test r) 1 0)
 
 module _ (base : Base) (bound : AllBound base) (r : Record) (e : is_accepted r ≡ false) where
   unconcerned : (p : Purse) → concerns p r ≡ false
-  unconcerned p = ap (λ b. b && (is_wide r.caller r.request || is_about p r.caller r.request)) e
+  unconcerned p = ap (λ b. b && (is_wide r.caller r.request || is_about p (purse_of r.caller r.request))) e
 
   unguarded : guarded_at base (r ∷ []) ≡ record { window = base.window; floor = base.floor }
   unguarded = ap (λ (b : Bool). if b then windowed_by r.moment r.request (record { window = base.window; floor = base.floor }) else record { window = base.window; floor = base.floor }) (ap (λ b. is_wide r.caller r.request && b) e ∙ &&-false (is_wide r.caller r.request))
@@ -306,13 +307,13 @@ module _ (base : Base) (bound : AllBound base) (m : ℕ) (caller : Caller) where
 
   leaves-bytes : (request : Request) (d : ObjectId) (change : List ℕ → List ℕ) → guarded_at base (done m caller request ∷ []) ≡ record { window = base.window; floor = base.floor } → Rests base (done m caller request)
       → ((p : Purse) → concerns p (done m caller request) ≡ same_purse d.purse p) → ((o : ObjectId) → is_deleted o request ≡ false)
-      → ((o : ObjectId) (kept : KeptObject) → affected base (done m caller request) o kept ≡ record { bytes = moved m (when (same_object d o) (change kept.bytes.value)) kept.bytes; attributes = kept.attributes; acl = kept.acl })
+      → ((o : ObjectId) (kept : KeptObject) → affected base (done m caller request) o kept ≡ record { bytes = moved m (then_some (same_object d o) (change kept.bytes.value)) kept.bytes; attributes = kept.attributes; acl = kept.acl })
       → left base m (done m caller request ∷ []) ≡ passed m 1 (on_object d (with_bytes m change) base)
   leaves-bytes request d change guarded rests about gone effect =
       leaves-object request d (option_map (with_bytes m change) (base.object d)) guarded rests
       (object-one request d (with_bytes m change) about gone
-      (λ kept. effect d kept ∙ ap (λ b. record { bytes = moved m (when b (change kept.bytes.value)) kept.bytes; attributes = kept.attributes; acl = kept.acl }) (object_self d))
-      (λ o e kept. effect o kept ∙ ap (λ b. record { bytes = moved m (when b (change kept.bytes.value)) kept.bytes; attributes = kept.attributes; acl = kept.acl }) e))
+      (λ kept. effect d kept ∙ ap (λ b. record { bytes = moved m (then_some b (change kept.bytes.value)) kept.bytes; attributes = kept.attributes; acl = kept.acl }) (object_self d))
+      (λ o e kept. effect o kept ∙ ap (λ b. record { bytes = moved m (then_some b (change kept.bytes.value)) kept.bytes; attributes = kept.attributes; acl = kept.acl }) e))
 
   pub leaves-done : (request : Request) → only_reads request ≡ false → left base m (record_as m caller request (told_done base caller request) ∷ []) ≡ passed m 1 (changed_by m caller request base)
   leaves-done (Create number) e = leaves-created number
@@ -326,13 +327,13 @@ module _ (base : Base) (bound : AllBound base) (m : ℕ) (caller : Caller) where
   leaves-done (SetAttr d bytes) e =
       leaves-object (SetAttr d bytes) d (option_map (with_attributes m bytes) (base.object d)) refl (rests-by (SetAttr d bytes) refl (λ p ns. refl) (λ p n vs. refl) (λ p b. refl))
       (object-one (SetAttr d bytes) d (with_attributes m bytes) (λ p. refl) (λ o. refl)
-      (λ kept. ap (λ b. record { bytes = kept.bytes; attributes = moved m (when b bytes) kept.attributes; acl = kept.acl }) (object_self d))
-      (λ o f kept. ap (λ b. record { bytes = kept.bytes; attributes = moved m (when b bytes) kept.attributes; acl = kept.acl }) f))
+      (λ kept. ap (λ b. record { bytes = kept.bytes; attributes = moved m (then_some b bytes) kept.attributes; acl = kept.acl }) (object_self d))
+      (λ o f kept. ap (λ b. record { bytes = kept.bytes; attributes = moved m (then_some b bytes) kept.attributes; acl = kept.acl }) f))
   leaves-done (SetAcl d user rights) e =
       leaves-object (SetAcl d user rights) d (option_map (with_acl m (acl_with user rights)) (base.object d)) refl (rests-by (SetAcl d user rights) refl (λ p ns. refl) (λ p n vs. refl) (λ p b. refl))
       (object-one (SetAcl d user rights) d (with_acl m (acl_with user rights)) (λ p. refl) (λ o. refl)
-      (λ kept. ap (λ b. record { bytes = kept.bytes; attributes = kept.attributes; acl = moved m (when b (acl_with user rights kept.acl.value)) kept.acl }) (object_self d))
-      (λ o f kept. ap (λ b. record { bytes = kept.bytes; attributes = kept.attributes; acl = moved m (when b (acl_with user rights kept.acl.value)) kept.acl }) f))
+      (λ kept. ap (λ b. record { bytes = kept.bytes; attributes = kept.attributes; acl = moved m (then_some b (acl_with user rights kept.acl.value)) kept.acl }) (object_self d))
+      (λ o f kept. ap (λ b. record { bytes = kept.bytes; attributes = kept.attributes; acl = moved m (then_some b (acl_with user rights kept.acl.value)) kept.acl }) f))
   leaves-done (PCreate name d) e = leaves-bound name d
   leaves-done (PDelete place name) e = leaves-unbound place name
   leaves-done (Flush from to) e =

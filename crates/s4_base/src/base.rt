@@ -1,8 +1,11 @@
 //! What the records before a moment leave.
 
 ghost use Rattle.std.specs.Prelude.{◌≡◌, ◌+◌, ◌<◌, ◌^◌, length, [], ◌∷◌, IfOk, OnOk, OnErr};
+ghost use Rattle.std.specs.List.Sorted.{IsStrictlySortedBy};
+ghost use Rattle.std.specs.Map.{keys_of};
 ghost use Rattle.std.specs.Option.{option_copied};
 ghost use Rattle.s4_types.specs.Base.{opened};
+ghost use Rattle.s4_types.specs.Names.{object_cmp, purse_cmp};
 ghost use Rattle.s4_types.specs.Play.{InOrder, UpTo};
 ghost use Rattle.s4_laws.specs.Bases.{IsBase};
 ghost use Rattle.s4_cuts.specs.Cut.{left, base_at};
@@ -71,6 +74,15 @@ impl Base {
         let mut base = self.copy()?;
         base.follow_all(alloc, &records[..early], cut)?;
         Ok(base)
+    }
+
+    /// Its lists have each object once, and each purse once: in their order. It does nothing.
+    pub fn lists_each_once(&self)
+        ensures objects { IsStrictlySortedBy object_cmp (keys_of self.now.objects) }
+        ensures purses { IsStrictlySortedBy purse_cmp (keys_of self.now.names) }
+    {
+        self.tables.objects.len();
+        self.tables.names.len();
     }
 
     /// The detection window in force, in ticks.

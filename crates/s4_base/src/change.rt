@@ -29,8 +29,8 @@ impl Tables {
             (base_in self.new ≡ with_made moment object.now (base_in self.old)) }
         ensures err { OnErr result (base_in self.new ≡ base_in self.old) }
     {
+        let kept = objects::fresh(alloc, moment, object)?;
         numbers::open(&mut self.drawn, &object.purse)?;
-        let kept = objects::fresh(alloc, moment, object);
         objects::keep(&mut self.objects, object, kept)?;
         numbers::set_drawn(&mut self.drawn, &object.purse, object.serial.number());
         Ok(())
@@ -59,13 +59,8 @@ impl Tables {
         let Some(kept) = self.objects.get(object) else {
             return Ok(());
         };
-        let new = written(
-            alloc,
-            kept.bytes.as_slice(),
-            offset as usize,
-            bytes.as_slice(),
-        )?;
-        objects::set_bytes(&mut self.objects, moment, object, Bytes::new(new));
+        let new = written(alloc, &kept.bytes, offset, bytes)?;
+        objects::set_bytes(&mut self.objects, moment, object, new);
         Ok(())
     }
 
@@ -84,8 +79,8 @@ impl Tables {
         let Some(kept) = self.objects.get(object) else {
             return Ok(());
         };
-        let new = joined(alloc, kept.bytes.as_slice(), bytes.as_slice())?;
-        objects::set_bytes(&mut self.objects, moment, object, Bytes::new(new));
+        let new = joined(alloc, &kept.bytes, bytes)?;
+        objects::set_bytes(&mut self.objects, moment, object, new);
         Ok(())
     }
 
@@ -104,8 +99,8 @@ impl Tables {
         let Some(kept) = self.objects.get(object) else {
             return Ok(());
         };
-        let new = of_length(alloc, kept.bytes.as_slice(), length as usize)?;
-        objects::set_bytes(&mut self.objects, moment, object, Bytes::new(new));
+        let new = of_length(alloc, &kept.bytes, length)?;
+        objects::set_bytes(&mut self.objects, moment, object, new);
         Ok(())
     }
 
@@ -125,17 +120,26 @@ impl Tables {
         Ok(())
     }
 
-    /// Rights for a user in an object's ACL, if it lives. Takes no memory.
-    pub fn set_rights(&mut self, moment: Moment, object: &ObjectId, user: User, rights: Rights)
+    /// Rights for a user in an object's ACL, if it lives.
+    pub fn set_rights(
+        &mut self,
+        alloc: Global,
+        moment: Moment,
+        object: &ObjectId,
+        user: User,
+        rights: Rights,
+    ) -> Result<(), NoMemory>
         requires { IsSettable user rights ((base_in self.old).object object.now) }
-        ensures { base_in self.new
-            ≡ on_object object.now (with_acl moment (acl_with user rights)) (base_in self.old) }
+        ensures ok { OnOk result (base_in self.new
+            ≡ on_object object.now (with_acl moment (acl_with user rights)) (base_in self.old)) }
+        ensures err { OnErr result (base_in self.new ≡ base_in self.old) }
     {
-        if let Some(kept) = self.objects.get(object) {
-            if let Ok(acl) = s4_acl::set(&kept.acl, user, rights) {
-                objects::set_acl(&mut self.objects, moment, object, acl);
-            }
-        }
+        let Some(kept) = self.objects.get(object) else {
+            return Ok(());
+        };
+        let acl = s4_acl::set(alloc, kept.acl.entries(), user, rights)?;
+        objects::set_acl(&mut self.objects, moment, object, acl);
+        Ok(())
     }
 
     /// A name bound to an object, in the object's purse.

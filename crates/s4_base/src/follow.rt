@@ -95,10 +95,7 @@ impl Tables {
                 object,
                 user,
                 rights,
-            } => {
-                self.set_rights(moment, object, *user, *rights);
-                Ok(())
-            }
+            } => self.set_rights(alloc, moment, object, *user, *rights),
             _ => Ok(()),
         }
     }

@@ -37,7 +37,7 @@ impl Clone for Kept {
             bytes_begin: self.bytes_begin,
             attributes: self.attributes.clone()?,
             attributes_begin: self.attributes_begin,
-            acl: self.acl.copy(),
+            acl: self.acl.copy()?,
             acl_begin: self.acl_begin,
         })
     }

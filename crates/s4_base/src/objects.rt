@@ -1,6 +1,6 @@
 //! The objects that live, by their names.
 
-ghost use Rattle.std.specs.Prelude.{◌≡◌, Some, None, OnOk, OnErr};
+ghost use Rattle.std.specs.Prelude.{◌≡◌, Some, None, IfOk, OnOk, OnErr};
 ghost use Rattle.s4_types.specs.declared.object.ObjectId.{ObjectId};
 ghost use Rattle.s4_base.specs.Changes.{made, object_put, object_changed, with_bytes, with_attributes, with_acl};
 ghost use Rattle.s4_base.specs.Tables.{object_held};
@@ -10,18 +10,19 @@ use s4_types::{Acl, Bytes, Moment, NoMemory, ObjectId};
 use std::alloc::Global;
 use std::collections::BTreeMap;
 
-/// What is kept of an object that is made at the moment. Takes no memory.
-pub(crate) fn fresh(alloc: Global, moment: Moment, object: &ObjectId) -> Kept
-    ensures { result ≡ made moment object.now }
+/// What is kept of an object that is made at the moment, or `NoMemory` where there is none for its
+/// ACL.
+pub(crate) fn fresh(alloc: Global, moment: Moment, object: &ObjectId) -> Result<Kept, NoMemory>
+    ensures { IfOk result (λ kept. kept ≡ made moment object.now) }
 {
-    Kept {
-        bytes: Bytes::new(Vec::new(alloc)),
+    Ok(Kept {
+        bytes: Bytes::new(),
         bytes_begin: moment,
-        attributes: Bytes::new(Vec::new(alloc)),
+        attributes: Bytes::new(),
         attributes_begin: moment,
-        acl: Acl::of_creator(object.purse.creator),
+        acl: Acl::of_creator(alloc, object.purse.creator)?,
         acl_begin: moment,
-    }
+    })
 }
 
 /// Keeps an object, in the place of what was kept of it.

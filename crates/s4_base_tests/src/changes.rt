@@ -55,7 +55,7 @@ pub fn written(
     let request = Request::Write {
         object: of_serial(1)?,
         offset,
-        bytes: Bytes::new(Vec::from_slice(alloc, text)?),
+        bytes: Bytes::from_slice(alloc, text)?,
     };
     record(tick, 7, request, reply)
 }

@@ -12,16 +12,22 @@ use crate::cell::Cell;
 use s4_drive::Answered;
 use s4_types::{Caller, Moment, NoMemory, Refusal, Reply, Request};
 
-/// Answers a wide request, a Flush or a SetWindow of the administrator, at a moment that isn't before
-/// any cell's newest record, and adds the same record to every cell. Where a growth was refused it
-/// answers `NoMemory`, and no cell has changed.
+/// Answers a wide request, a Flush or a SetWindow of the administrator, at a moment that isn't
+/// before any cell's newest record, and adds the same record to every cell. Where a growth was
+/// refused it answers `NoMemory`, and no cell has changed.
 pub fn wide(cells: &mut [Cell], moment: Moment, caller: Caller, request: &Request) -> Reply
     requires some { 0 < length cells.old }
     requires wide { is_wide caller request.now ≡ true }
     requires later { Each (λ c. last_of c.history ≤ moment) cells.old }
-    ensures reply { is_no_memory result ≡ false → Each (λ c. result ≡ answer_of (base_of c) c.history moment caller request.now) cells.old }
+    ensures reply { is_no_memory result ≡ false
+        → Each (λ c. result ≡ answer_of (base_of c) c.history moment caller request.now) cells.old }
     ensures adds { is_no_memory result ≡ false
-        → AllAdd (record { moment = moment; caller = caller; request = request.now; reply = result }) cells.old cells.new }
+        → AllAdd (record {
+          moment = moment;
+          caller = caller;
+          request = request.now;
+          reply = result;
+        }) cells.old cells.new }
     ensures refused { is_no_memory result ≡ true → AllStay cells.old cells.new }
     ensures limits { IsTrue (is_within_limits caller.version result) }
 {
@@ -42,10 +48,16 @@ pub fn wide_with_copy(
     requires some { 0 < length cells.old }
     requires wide { is_wide caller request.now ≡ true }
     requires later { Each (λ c. last_of c.history ≤ moment) cells.old }
-    ensures reply { IfOk result (λ told. Each (λ c. told.reply ≡ answer_of (base_of c) c.history moment caller request.now) cells.old) }
+    ensures reply { IfOk result (λ told. Each
+        (λ c. told.reply ≡ answer_of (base_of c) c.history moment caller request.now) cells.old) }
     ensures copy { IfOk result (λ told. told.copy ≡ told.reply) }
     ensures adds { IfOk result (λ told.
-        AllAdd (record { moment = moment; caller = caller; request = request.now; reply = told.reply }) cells.old cells.new) }
+        AllAdd (record {
+          moment = moment;
+          caller = caller;
+          request = request.now;
+          reply = told.reply;
+        }) cells.old cells.new) }
     ensures refused { OnErr result (AllStay cells.old cells.new) }
     ensures limits { IfOk result (λ told. IsTrue (is_within_limits caller.version told.reply)) }
 {
@@ -53,7 +65,8 @@ pub fn wide_with_copy(
     Ok(step_all(cells, moment, caller, request))
 }
 
-// Makes every cell ready for the request, so that none is refused a growth once the first was stepped.
+// Makes every cell ready for the request, so that none is refused a growth once the first was
+// stepped.
 fn make_ready(cells: &mut [Cell], request: &Request) -> Result<(), NoMemory>
     ensures stay { AllStay cells.old cells.new }
     ensures ready { OnOk result (AreReady request.now (length cells.new) cells.new) }

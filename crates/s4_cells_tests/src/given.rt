@@ -36,7 +36,7 @@ pub fn write(alloc: Global, text: &[u8]) -> Result<Request, Fail> {
     Ok(Request::Write {
         object: object()?,
         offset: 0,
-        bytes: Bytes::new(Vec::from_slice(alloc, text)?),
+        bytes: Bytes::from_slice(alloc, text)?,
     })
 }
 
@@ -54,6 +54,6 @@ pub fn data(alloc: Global, text: &[u8], since: u64) -> Result<Reply, Fail> {
     let since = Moment::new(since);
     Ok(Reply::Data {
         grant: Grant::Entry { index: 0, since },
-        bytes: Bytes::new(Vec::from_slice(alloc, text)?),
+        bytes: Bytes::from_slice(alloc, text)?,
     })
 }

@@ -1,5 +1,5 @@
 -- What a call sends and hears.
-use Rattle.std.specs.Prelude.{◌⊎◌, ⊤, ℕ, Option, List, ◌++◌, take}
+use Rattle.std.specs.Prelude.{◌⊎◌, ⊤, ℕ, Option, Result, List, ◌++◌, take, IsErrOf}
 use Rattle.std.specs.Io.KnownBytes.{Appends, Consumes}
 use Rattle.s4_types.specs.declared.request.Request.{Request}
 use Rattle.s4_codec.specs.Frames.{framed}
@@ -22,6 +22,10 @@ Begins old new bytes = (n : ℕ) × Appends old new (take n bytes)
 -- What is read is the frame of the fault, or the Welcome and then that frame.
 abbrev pub HearsFault : Option (List ℕ) → Option (List ℕ) → SessionFault → Type 0
 HearsFault old new fault = Consumes old new (fault_frame fault) ⊎ Consumes old new (welcome ++ fault_frame fault)
+
+-- That holds of the fault of the session, where one ended the call.
+abbrev pub IfFault : {T : Type 0} → Result T CallFault → (SessionFault → Type 0) → Type 0
+IfFault result P = (told : SessionFault) → IsErrOf result (fault.Session told) → P told
 
 -- There is no reply, or not enough memory.
 abbrev pub IsLoss : CallFault → Type 0

@@ -6,7 +6,7 @@ ghost use Rattle.byteorder.specs.Endian.{big_bytes};
 ghost use Rattle.s4_codec.specs.Frames.{framed};
 ghost use Rattle.s4_stream.specs.declared.event.SessionFault as faults;
 ghost use Rattle.s4_stream.specs.Talk.{welcome, reply_frame, fault_frame, fault_number};
-ghost use Rattle.s4_client.specs.Calls.{Begins, HearsFault, IsLoss, IsMet};
+ghost use Rattle.s4_client.specs.Calls.{Begins, HearsFault, IfFault, IsLoss, IsMet};
 ghost use Rattle.s4_client.specs.declared.fault.CallFault.TheVariants as fault;
 
 use crate::fault::CallFault;
@@ -17,8 +17,8 @@ use std::alloc::Global;
 use std::io::{ErrorKind, Read, Write};
 
 /// Sends a message, as `message` makes it, and hears what is answered: the Welcome, and then the
-/// reply. `Session` where a fault is told in place of one of them; `ConnectionLost` where the reader
-/// or the writer fails or ends before, or where something else is told.
+/// reply. `Session` where a fault is told in place of one of them; `ConnectionLost` where the
+/// reader or the writer fails or ends before, or where something else is told.
 #[tactic(auto, using(crate::proofs::Chains::consumes_both))]
 pub fn call<R: Read, W: Write>(
     alloc: Global,
@@ -28,10 +28,12 @@ pub fn call<R: Read, W: Write>(
 ) -> Result<Reply, CallFault>
     // A beginning of the message is sent, and nothing else; with a reply all of it.
     ensures sent { Begins (W.contents writer.old) (W.contents writer.new) message.now }
-    ensures all_sent { OnOk result (Appends (W.contents writer.old) (W.contents writer.new) message.now) }
-    // The bytes that were heard are the Welcome and the frame of the reply, or end by the frame of the fault.
-    ensures reply { IfOk result (λ reply. Consumes (R.remaining reader.old) (R.remaining reader.new) (welcome ++ reply_frame reply)) }
-    ensures fault { (f : faults.SessionFault) → IsErrOf result (fault.Session f) → HearsFault (R.remaining reader.old) (R.remaining reader.new) f }
+    ensures all_sent { OnOk result
+        (Appends (W.contents writer.old) (W.contents writer.new) message.now) }
+    // What was heard is the Welcome and the frame of the reply, or ends by the frame of the fault.
+    ensures reply { IfOk result (λ reply. Consumes
+        (R.remaining reader.old) (R.remaining reader.new) (welcome ++ reply_frame reply)) }
+    ensures fault { IfFault result (HearsFault (R.remaining reader.old) (R.remaining reader.new)) }
     ensures met { IfErr result IsMet }
 {
     send(writer, message)?;
@@ -42,7 +44,8 @@ pub fn call<R: Read, W: Write>(
 /// Writes all of the bytes.
 fn send<W: Write>(writer: &mut W, bytes: &[u8]) -> Result<(), CallFault>
     ensures sent { Begins (W.contents writer.old) (W.contents writer.new) bytes.now }
-    ensures all_sent { OnOk result (Appends (W.contents writer.old) (W.contents writer.new) bytes.now) }
+    ensures all_sent { OnOk result
+        (Appends (W.contents writer.old) (W.contents writer.new) bytes.now) }
     ensures lost { IfErr result IsLoss }
 {
     let mut sent = 0;
@@ -59,7 +62,9 @@ fn send<W: Write>(writer: &mut W, bytes: &[u8]) -> Result<(), CallFault>
 /// takes no byte has failed.
 #[tactic(auto, using(crate::proofs::Chains::kept_none, crate::proofs::Chains::none_kept))]
 fn send_some<W: Write>(writer: &mut W, bytes: &[u8]) -> Result<usize, CallFault>
-    ensures some { IfOk result (λ n. (n ≤ length bytes.now) × Appends (W.contents writer.old) (W.contents writer.new) (take n bytes.now)) }
+    ensures some { IfOk result
+        (λ n. (n ≤ length bytes.now)
+        × Appends (W.contents writer.old) (W.contents writer.new) (take n bytes.now)) }
     ensures none { OnErr result (Keeps (W.contents writer.old) (W.contents writer.new)) }
     ensures lost { IfErr result IsLoss }
 {
@@ -75,9 +80,10 @@ fn send_some<W: Write>(writer: &mut W, bytes: &[u8]) -> Result<usize, CallFault>
 
 /// Hears the Welcome.
 fn hear_welcome<R: Read>(alloc: Global, reader: &mut R) -> Result<(), CallFault>
-    ensures welcome { OnOk result (Consumes (R.remaining reader.old) (R.remaining reader.new) welcome) }
-    ensures fault { (f : faults.SessionFault) → IsErrOf result (fault.Session f)
-        → Consumes (R.remaining reader.old) (R.remaining reader.new) (fault_frame f) }
+    ensures welcome { OnOk result
+        (Consumes (R.remaining reader.old) (R.remaining reader.new) welcome) }
+    ensures fault { IfFault result
+        (λ f. Consumes (R.remaining reader.old) (R.remaining reader.new) (fault_frame f)) }
     ensures met { IfErr result IsMet }
 {
     let body = hear_body(alloc, reader)?;
@@ -89,9 +95,10 @@ fn hear_welcome<R: Read>(alloc: Global, reader: &mut R) -> Result<(), CallFault>
 
 /// Hears the reply.
 fn hear_reply<R: Read>(alloc: Global, reader: &mut R) -> Result<Reply, CallFault>
-    ensures reply { IfOk result (λ reply. Consumes (R.remaining reader.old) (R.remaining reader.new) (reply_frame reply)) }
-    ensures fault { (f : faults.SessionFault) → IsErrOf result (fault.Session f)
-        → Consumes (R.remaining reader.old) (R.remaining reader.new) (fault_frame f) }
+    ensures reply { IfOk result
+        (λ reply. Consumes (R.remaining reader.old) (R.remaining reader.new) (reply_frame reply)) }
+    ensures fault { IfFault result
+        (λ f. Consumes (R.remaining reader.old) (R.remaining reader.new) (fault_frame f)) }
     ensures met { IfErr result IsMet }
 {
     let body = hear_body(alloc, reader)?;
@@ -105,7 +112,8 @@ fn hear_reply<R: Read>(alloc: Global, reader: &mut R) -> Result<Reply, CallFault
 /// Hears a frame, and gives its body.
 #[tactic(auto, using(crate::proofs::Chains::consumes_both))]
 fn hear_body<R: Read>(alloc: Global, reader: &mut R) -> Result<Vec<u8>, CallFault>
-    ensures body { IfOk result (λ body. Consumes (R.remaining reader.old) (R.remaining reader.new) (framed body.items)) }
+    ensures body { IfOk result
+        (λ body. Consumes (R.remaining reader.old) (R.remaining reader.new) (framed body.items)) }
     ensures lost { IfErr result IsLoss }
 {
     let length = hear_length(reader)?;
@@ -114,7 +122,9 @@ fn hear_body<R: Read>(alloc: Global, reader: &mut R) -> Result<Vec<u8>, CallFaul
 
 /// Hears the length of a body, in four bytes.
 fn hear_length<R: Read>(reader: &mut R) -> Result<u32, CallFault>
-    ensures length { IfOk result (λ length. Consumes (R.remaining reader.old) (R.remaining reader.new) (big_bytes 4 length)) }
+    ensures length { IfOk result
+        (λ length. Consumes
+        (R.remaining reader.old) (R.remaining reader.new) (big_bytes 4 length)) }
     ensures lost { IfErr result IsLoss }
 {
     let mut head = [0; 4];
@@ -136,7 +146,8 @@ fn length_in(head: [u8; 4]) -> u32
 
 /// Hears that many bytes.
 fn hear_bytes<R: Read>(alloc: Global, reader: &mut R, count: usize) -> Result<Vec<u8>, CallFault>
-    ensures bytes { IfOk result (λ bytes. Consumes (R.remaining reader.old) (R.remaining reader.new) bytes.items) }
+    ensures bytes { IfOk result
+        (λ bytes. Consumes (R.remaining reader.old) (R.remaining reader.new) bytes.items) }
     ensures count { IfOk result (λ bytes. length bytes.items ≡ count) }
     ensures lost { IfErr result IsLoss }
 {
@@ -147,7 +158,8 @@ fn hear_bytes<R: Read>(alloc: Global, reader: &mut R, count: usize) -> Result<Ve
 
 /// Reads until the bytes are full.
 fn fill<R: Read>(reader: &mut R, bytes: &mut [u8]) -> Result<(), CallFault>
-    ensures bytes { OnOk result (Consumes (R.remaining reader.old) (R.remaining reader.new) bytes.new) }
+    ensures bytes { OnOk result
+        (Consumes (R.remaining reader.old) (R.remaining reader.new) bytes.new) }
     ensures lost { IfErr result IsLoss }
 {
     match reader.read_exact(bytes) {
@@ -158,7 +170,8 @@ fn fill<R: Read>(reader: &mut R, bytes: &mut [u8]) -> Result<(), CallFault>
 
 /// The fault that a body tells; the connection is lost where it tells none.
 fn fault_in(body: &[u8]) -> CallFault
-    ensures fault { (f : faults.SessionFault) → result ≡ fault.Session f → body.now ≡ 17 ∷ fault_number f ∷ [] }
+    ensures fault { (f : faults.SessionFault) → result ≡ fault.Session f
+        → body.now ≡ 17 ∷ fault_number f ∷ [] }
     ensures met { IsMet result }
 {
     match body {

@@ -12,18 +12,19 @@ use crate::fault::CallFault;
 use byteorder::{BigEndian, ByteOrder};
 use bytes::BytesMut;
 use s4_codec::{WriteError, write_request};
-use s4_stream::{Hello, add_frame, version_number};
+use s4_stream::{Hello, add_frame};
 use s4_types::{NoMemory, Request};
 use std::alloc::Global;
 
 /// The code of a Hello.
 const HELLO: u8 = 0;
 
-/// The bytes of a call: the frame of its Hello, and then that of its request. `BadRequest` where the
-/// request has no spelling within a frame.
+/// The bytes of a call: the frame of its Hello, and then that of its request. `BadRequest` where
+/// the request has no spelling within a frame.
 pub fn message(alloc: Global, hello: &Hello, request: &Request) -> Result<Vec<u8>, CallFault>
     ensures message { IfOk result (λ message. message.items ≡ message_of hello.now request.now) }
-    ensures bad { IsErrOf result fault.BadRequest → (body : List ℕ) → IsRequestBody body request.now → ⊥ }
+    ensures bad { IsErrOf result fault.BadRequest
+        → (body : List ℕ) → IsRequestBody body request.now → ⊥ }
     ensures why { IfErr result (λ why. (why ≡ fault.BadRequest) ⊎ (why ≡ fault.NoMemory)) }
 {
     let body = match write_request(alloc, request) {
@@ -38,7 +39,8 @@ pub fn message(alloc: Global, hello: &Hello, request: &Request) -> Result<Vec<u8
 fn framed(alloc: Global, hello: &Hello, body: &[u8]) -> Result<Vec<u8>, NoMemory>
     requires some { 0 < length body.now }
     requires limit { length body.now ≤ frame_limit }
-    ensures { IfOk result (λ message. message.items ≡ framed (format.hello.spell hello.now) ++ framed body.now) }
+    ensures { IfOk result
+        (λ message. message.items ≡ framed (format.hello.spell hello.now) ++ framed body.now) }
 {
     let mut message = BytesMut::new(alloc);
     add_frame(&mut message, write_hello(alloc, hello)?.as_slice())?;
@@ -52,7 +54,7 @@ fn write_hello(alloc: Global, hello: &Hello) -> Result<Vec<u8>, NoMemory>
     ensures length { IfOk result (λ body. length body.items ≡ 26) }
 {
     let mut body = Vec::new(alloc);
-    body.extend_from_slice(&[HELLO, version_number(hello.caller.version)])?;
+    body.extend_from_slice(&[HELLO, hello.caller.version.number()])?;
     write_u32(&mut body, hello.caller.who.number())?;
     write_u32(&mut body, hello.caller.client)?;
     body.extend_from_slice(&hello.secret)?;

@@ -71,16 +71,18 @@ pub fn read_values_are_spelled()
 /// For each limit of a body: a body that is framed is the first whole frame, whatever follows it,
 /// and a whole frame is that of its body.
 pub fn framed_bodies_are_read_back()
-    ensures read { (limit : ℕ) (body rest : List ℕ) → 0 < length body → length body ≤ limit → limit < 2 ^ 32
-        → front_of limit (framed body ++ rest) ≡ Whole body rest }
-    ensures framed { (limit : ℕ) (bytes body rest : List ℕ) → AreBytes bytes → front_of limit bytes ≡ Whole body rest
-        → bytes ≡ framed body ++ rest }
+    ensures read { (limit : ℕ) (body rest : List ℕ) → 0 < length body → length body ≤ limit
+        → limit < 2 ^ 32 → front_of limit (framed body ++ rest) ≡ Whole body rest }
+    ensures framed { (limit : ℕ) (bytes body rest : List ℕ) → AreBytes bytes
+        → front_of limit bytes ≡ Whole body rest → bytes ≡ framed body ++ rest }
 {}
 
 /// A reply of which each part has a spelling, and that keeps to the limits of version 1, has a
-/// spelling within a frame. What has one is read back from that spelling, and the spelling from its frame.
+/// spelling within a frame. What has one is read back from that spelling, and the spelling from its
+/// frame.
 pub fn replies_within_limits_have_spellings()
-    ensures spelled { (r : told.Reply) → IsTrue (reply.fits r) → IsTrue (is_within_limits One r) → IsTrue (has_body r) }
+    ensures spelled { (r : told.Reply) → IsTrue (reply.fits r) → IsTrue (is_within_limits One r)
+        → IsTrue (has_body r) }
     ensures read { (r : told.Reply) → IsTrue (has_body r) → reply_in (reply.spell r) ≡ Some r }
     ensures framed { (r : told.Reply) (rest : List ℕ) → IsTrue (has_body r)
         → front_of frame_limit (framed (reply.spell r) ++ rest) ≡ Whole (reply.spell r) rest }

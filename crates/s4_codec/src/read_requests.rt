@@ -24,7 +24,8 @@ pub fn read_request(alloc: Global, body: &[u8]) -> Result<Request, ReadError>
     // The body is the spelling of what is read.
     ensures read { IfOk result (λ request. IsRequestBody body.now request) }
     // What is malformed is the spelling of no request.
-    ensures malformed { IsErrOf result read_error.Malformed → (request : Request) → IsRequestBody body.now request → ⊥ }
+    ensures malformed { IsErrOf result read_error.Malformed
+        → (request : Request) → IsRequestBody body.now request → ⊥ }
     // What a stream's meaning says of the body.
     ensures meaning { Gives result (request_in body.now) }
 {

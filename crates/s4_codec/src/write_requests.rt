@@ -26,7 +26,8 @@ pub fn write_request(alloc: Global, request: &Request) -> Result<Vec<u8>, WriteE
     // What is written is the spelling.
     ensures written { IfOk result (λ body. IsRequestBody body.items request.now) }
     // A request that is too big has no spelling within a frame.
-    ensures too_big { IsErrOf result write_error.TooBig → (body : List ℕ) → IsRequestBody body request.now → ⊥ }
+    ensures too_big { IsErrOf result write_error.TooBig
+        → (body : List ℕ) → IsRequestBody body request.now → ⊥ }
 {
     let mut body = Vec::new(alloc);
     write_code_and_fields(&mut body, request)?;
@@ -44,7 +45,8 @@ fn write_code_and_fields(out: &mut Vec<u8>, request: &Request) -> Result<(), Wri
 }
 
 fn write_fields(out: &mut Vec<u8>, request: &Request) -> Result<(), WriteError>
-    ensures { Puts (in_place bodies (code_of request.now)) request.now out.old.items out.new.items result }
+    ensures { Puts (in_place bodies (code_of request.now)) request.now
+        out.old.items out.new.items result }
 {
     match request {
         Request::Create { number } => write_create(out, number),
@@ -106,7 +108,8 @@ fn write_read(
     length: u32,
     at: &Option<Moment>,
 ) -> Result<(), WriteError>
-    ensures { Puts format.read (requests.Read object.now offset length at.now) out.old.items out.new.items result }
+    ensures { Puts format.read (requests.Read object.now offset length at.now)
+        out.old.items out.new.items result }
 {
     write_object(out, object)?;
     write_u32(out, offset)?;
@@ -121,7 +124,8 @@ fn write_write(
     offset: u32,
     bytes: &Bytes,
 ) -> Result<(), WriteError>
-    ensures { Puts format.write (requests.Write object.now offset bytes.now) out.old.items out.new.items result }
+    ensures { Puts format.write (requests.Write object.now offset bytes.now)
+        out.old.items out.new.items result }
 {
     write_object(out, object)?;
     write_u32(out, offset)?;
@@ -129,14 +133,16 @@ fn write_write(
 }
 
 fn write_append(out: &mut Vec<u8>, object: &ObjectId, bytes: &Bytes) -> Result<(), WriteError>
-    ensures { Puts format.append (requests.Append object.now bytes.now) out.old.items out.new.items result }
+    ensures { Puts format.append (requests.Append object.now bytes.now)
+        out.old.items out.new.items result }
 {
     write_object(out, object)?;
     write_bytes(out, bytes)
 }
 
 fn write_truncate(out: &mut Vec<u8>, object: &ObjectId, length: u32) -> Result<(), WriteError>
-    ensures { Puts format.truncate (requests.Truncate object.now length) out.old.items out.new.items result }
+    ensures { Puts format.truncate (requests.Truncate object.now length)
+        out.old.items out.new.items result }
 {
     write_object(out, object)?;
     write_u32(out, length)?;
@@ -148,7 +154,8 @@ fn write_get_attr(
     object: &ObjectId,
     at: &Option<Moment>,
 ) -> Result<(), WriteError>
-    ensures { Puts format.get_attr (requests.GetAttr object.now at.now) out.old.items out.new.items result }
+    ensures { Puts format.get_attr (requests.GetAttr object.now at.now)
+        out.old.items out.new.items result }
 {
     write_object(out, object)?;
     write_optional_moment(out, at)?;
@@ -156,7 +163,8 @@ fn write_get_attr(
 }
 
 fn write_set_attr(out: &mut Vec<u8>, object: &ObjectId, bytes: &Bytes) -> Result<(), WriteError>
-    ensures { Puts format.set_attr (requests.SetAttr object.now bytes.now) out.old.items out.new.items result }
+    ensures { Puts format.set_attr (requests.SetAttr object.now bytes.now)
+        out.old.items out.new.items result }
 {
     write_object(out, object)?;
     write_bytes(out, bytes)
@@ -168,7 +176,8 @@ fn write_get_acl_by_user(
     user: &User,
     at: &Option<Moment>,
 ) -> Result<(), WriteError>
-    ensures { Puts format.get_acl_by_user (requests.GetAclByUser object.now user.now at.now) out.old.items out.new.items result }
+    ensures { Puts format.get_acl_by_user (requests.GetAclByUser object.now user.now at.now)
+        out.old.items out.new.items result }
 {
     write_object(out, object)?;
     write_user(out, user)?;
@@ -182,7 +191,8 @@ fn write_get_acl_by_index(
     index: u8,
     at: &Option<Moment>,
 ) -> Result<(), WriteError>
-    ensures { Puts format.get_acl_by_index (requests.GetAclByIndex object.now index at.now) out.old.items out.new.items result }
+    ensures { Puts format.get_acl_by_index (requests.GetAclByIndex object.now index at.now)
+        out.old.items out.new.items result }
 {
     write_object(out, object)?;
     write_byte(out, index)?;
@@ -196,7 +206,8 @@ fn write_set_acl(
     user: &User,
     rights: &Rights,
 ) -> Result<(), WriteError>
-    ensures { Puts format.set_acl (requests.SetAcl object.now user.now rights.now) out.old.items out.new.items result }
+    ensures { Puts format.set_acl (requests.SetAcl object.now user.now rights.now)
+        out.old.items out.new.items result }
 {
     write_object(out, object)?;
     write_user(out, user)?;
@@ -205,7 +216,8 @@ fn write_set_acl(
 }
 
 fn write_pcreate(out: &mut Vec<u8>, name: &Name, object: &ObjectId) -> Result<(), WriteError>
-    ensures { Puts format.pcreate (requests.PCreate name.now object.now) out.old.items out.new.items result }
+    ensures { Puts format.pcreate (requests.PCreate name.now object.now)
+        out.old.items out.new.items result }
 {
     write_name(out, name)?;
     write_object(out, object)?;
@@ -213,7 +225,8 @@ fn write_pcreate(out: &mut Vec<u8>, name: &Name, object: &ObjectId) -> Result<()
 }
 
 fn write_pdelete(out: &mut Vec<u8>, purse: &Purse, name: &Name) -> Result<(), WriteError>
-    ensures { Puts format.pdelete (requests.PDelete purse.now name.now) out.old.items out.new.items result }
+    ensures { Puts format.pdelete (requests.PDelete purse.now name.now)
+        out.old.items out.new.items result }
 {
     write_purse(out, purse)?;
     write_name(out, name)?;
@@ -226,7 +239,8 @@ fn write_plist(
     after: &Option<After>,
     at: &Option<Moment>,
 ) -> Result<(), WriteError>
-    ensures { Puts format.plist (requests.PList range.now after.now at.now) out.old.items out.new.items result }
+    ensures { Puts format.plist (requests.PList range.now after.now at.now)
+        out.old.items out.new.items result }
 {
     write_principal(out, range)?;
     write_optional_after(out, after)?;
@@ -240,7 +254,8 @@ fn write_pmount(
     name: &Name,
     at: &Option<Moment>,
 ) -> Result<(), WriteError>
-    ensures { Puts format.pmount (requests.PMount purse.now name.now at.now) out.old.items out.new.items result }
+    ensures { Puts format.pmount (requests.PMount purse.now name.now at.now)
+        out.old.items out.new.items result }
 {
     write_purse(out, purse)?;
     write_name(out, name)?;
@@ -249,7 +264,8 @@ fn write_pmount(
 }
 
 fn write_flush(out: &mut Vec<u8>, from: &Moment, to: &Moment) -> Result<(), WriteError>
-    ensures { Puts format.flush (requests.Flush from.now to.now) out.old.items out.new.items result }
+    ensures { Puts format.flush (requests.Flush from.now to.now)
+        out.old.items out.new.items result }
 {
     write_moment(out, from)?;
     write_moment(out, to)?;
@@ -262,7 +278,8 @@ fn write_flush_object(
     from: &Moment,
     to: &Moment,
 ) -> Result<(), WriteError>
-    ensures { Puts format.flush_object (requests.FlushO object.now from.now to.now) out.old.items out.new.items result }
+    ensures { Puts format.flush_object (requests.FlushO object.now from.now to.now)
+        out.old.items out.new.items result }
 {
     write_object(out, object)?;
     write_moment(out, from)?;
@@ -278,7 +295,8 @@ fn write_set_window(out: &mut Vec<u8>, ticks: u64) -> Result<(), WriteError>
 }
 
 fn write_set_budget(out: &mut Vec<u8>, purse: &Purse, budget: u32) -> Result<(), WriteError>
-    ensures { Puts format.set_budget (requests.SetBudget purse.now budget) out.old.items out.new.items result }
+    ensures { Puts format.set_budget (requests.SetBudget purse.now budget)
+        out.old.items out.new.items result }
 {
     write_purse(out, purse)?;
     write_u32(out, budget)?;
@@ -286,7 +304,8 @@ fn write_set_budget(out: &mut Vec<u8>, purse: &Purse, budget: u32) -> Result<(),
 }
 
 fn write_read_audit(out: &mut Vec<u8>, range: &Principal, skip: u32) -> Result<(), WriteError>
-    ensures { Puts format.read_audit (requests.ReadAudit range.now skip) out.old.items out.new.items result }
+    ensures { Puts format.read_audit (requests.ReadAudit range.now skip)
+        out.old.items out.new.items result }
 {
     write_principal(out, range)?;
     write_u32(out, skip)?;

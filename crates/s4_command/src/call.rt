@@ -22,7 +22,7 @@ pub struct Call {
 }
 
 impl Call {
-    /// A call that tries to connect once. `BadRequest` where the request has no spelling within a frame.
+    /// A call that tries to connect once. `BadRequest` where the request has no spelling in a frame.
     pub fn new(
         alloc: Global,
         address: &str,

@@ -1,5 +1,5 @@
-//! What a command line may ask of `s4d`, and why its words may ask nothing (docs/ARCHITECTURE.md, "The
-//! commands").
+//! What a command line may ask of `s4d`, and why its words may ask nothing (docs/ARCHITECTURE.md,
+//! "The commands").
 #![tactic(auto)]
 
 mod call;

@@ -9,7 +9,7 @@ pub struct Service {
     pub logins: String,
     /// The path of the file that ends it, where there is one.
     pub until: Option<String>,
-    /// After how many milliseconds it is looked again whether the file of logins has changed; 0 for never.
+    /// After how many milliseconds it is looked again whether the logins' file changed; 0 for never.
     pub reload: u64,
     /// The path of the file with what is carried out first, where there is one.
     pub setup: Option<String>,

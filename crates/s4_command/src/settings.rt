@@ -34,8 +34,8 @@ pub struct Settings {
 }
 
 impl Settings {
-    /// A window of a day, four cells, four workers, no end, a minute of silence, ten seconds up to the
-    /// Welcome, 1024 connections, and a clock that begins at 0.
+    /// A window of a day, four cells, four workers, no end, a minute of silence, ten seconds up to
+    /// the Welcome, 1024 connections, and a clock that begins at 0.
     pub fn standard() -> Settings {
         Settings {
             window: 86400000,

@@ -25,7 +25,7 @@ use std::alloc::Global;
 use std::rt::{Env, Files};
 use std::{env, io};
 
-/// The greatest moment at the start of a server. Those behind it are for more than 292 million years.
+/// The greatest moment at the start of a server. Those behind it last more than 292 million years.
 const LAST_FIRST: u64 = 9223372036854775807;
 
 /// The command that the program's arguments spell. Files that these name are read.
@@ -240,7 +240,9 @@ fn misfit(alloc: Global, name: &str, wanted: &str) -> WordsFault {
 /// What comes of words that spell no command: a text, which was asked for, or a fault.
 fn told(alloc: Global, error: &Error) -> Result<Command, WordsFault>
     ensures no_memory { kind_of error.now ≡ ErrorKind.OutOfMemory → result ≡ Err fault.NoMemory }
-    ensures asked_for { IfOk result (λ _. (kind_of error.now ≡ ErrorKind.DisplayHelp) ⊎ (kind_of error.now ≡ ErrorKind.DisplayVersion)) }
+    ensures asked_for { IfOk result
+        (λ _. (kind_of error.now ≡ ErrorKind.DisplayHelp)
+        ⊎ (kind_of error.now ≡ ErrorKind.DisplayVersion)) }
 {
     if error.kind() == ErrorKind::OutOfMemory {
         return Err(WordsFault::NoMemory);
@@ -256,7 +258,8 @@ fn told(alloc: Global, error: &Error) -> Result<Command, WordsFault>
 /// The fault of arguments that can't be read, as those that aren't UTF-8.
 fn unread(alloc: Global, error: &io::Error) -> WordsFault
     ensures no_memory { error_kind error.now ≡ io_kind.OutOfMemory → result ≡ fault.NoMemory }
-    ensures not_utf8 { error_kind error.now ≡ io_kind.InvalidData → IsFaultOf (codes "error: an argument isn't UTF-8") result }
+    ensures not_utf8 { error_kind error.now ≡ io_kind.InvalidData
+        → IsFaultOf (codes "error: an argument isn't UTF-8") result }
     ensures other { error_kind error.now ≢ io_kind.OutOfMemory
         → error_kind error.now ≢ io_kind.InvalidData
         → IsFaultOf (codes "error: the arguments can't be read") result }

@@ -13,10 +13,11 @@ use std::str;
 /// The most bytes of a file that a word names.
 const FILE_LIMIT: u32 = 65536;
 
-/// What a word means. Where it is `@` and a path that is what the file there has, without blanks and
-/// line ends around it; else the word itself.
+/// What a word means. Where it is `@` and a path that is what the file there has, without blanks
+/// and line ends around it; else the word itself.
 pub fn meant<R: Files + AllocGlobal>(rt: &R, word: &str) -> Result<String, WordsFault>
-    ensures typed { names_file word.now ≡ false → IfOk result (λ text. string_bytes text ≡ word.now) }
+    ensures typed { names_file word.now ≡ false
+        → IfOk result (λ text. string_bytes text ≡ word.now) }
 {
     match word.as_bytes() {
         [b'@', path @ ..] => text_at(rt, str::from_utf8(path).unwrap_or_default()),
@@ -26,7 +27,8 @@ pub fn meant<R: Files + AllocGlobal>(rt: &R, word: &str) -> Result<String, Words
 
 /// The secret that is meant by a word, where it is one.
 pub fn secret_of<R: Files + AllocGlobal>(rt: &R, word: &str) -> Result<Option<[u8; 16]>, WordsFault>
-    ensures typed { names_file word.now ≡ false → IfOk result (λ secret. secret ≡ secret_in word.now) }
+    ensures typed { names_file word.now ≡ false
+        → IfOk result (λ secret. secret ≡ secret_in word.now) }
 {
     let text = meant(rt, word)?;
     Ok(secret_in(text.as_bytes()))

@@ -245,7 +245,7 @@ fn request_of(alloc: Global, asked: &Asked) -> Result<Request, Fail> {
         Asked::Write(bytes) => Ok(Request::Write {
             object: object()?,
             offset: 0,
-            bytes: Bytes::new(bytes.to_vec(alloc)?),
+            bytes: Bytes::from_slice(alloc, bytes)?,
         }),
         Asked::Read => Ok(Request::Read {
             object: object()?,

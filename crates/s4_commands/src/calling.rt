@@ -39,8 +39,8 @@ pub fn call_at<N: Net<Stream = TcpStream> + Wait + Clock, W: Write>(
     call_over(alloc, call, &mut &stream, &mut &stream, output)
 }
 
-/// Connects, and tries again for so many milliseconds while that fails. Where the clock can't be read
-/// it tries once.
+/// Connects, and tries again for so many milliseconds while that fails. Where the clock can't be
+/// read it tries once.
 fn reach<N: Net<Stream = TcpStream> + Wait + Clock>(
     net: &N,
     address: &str,
@@ -73,9 +73,11 @@ pub fn call_over<R: Read, W: Write, O: Write>(
     writer: &mut W,
     output: &mut O,
 ) -> Result<(), Fault>
-    // Nothing but the Hello and the request of the call is sent, and where a reply is told both are.
-    ensures sent { Begins (W.contents writer.old) (W.contents writer.new) (message_of call.now.hello call.now.request) }
-    ensures all_sent { OnOk result (Appends (W.contents writer.old) (W.contents writer.new) (message_of call.now.hello call.now.request)) }
+    // Nothing but the call's Hello and its request is sent, and where a reply is told both are.
+    ensures sent { Begins (W.contents writer.old) (W.contents writer.new)
+        (message_of call.now.hello call.now.request) }
+    ensures all_sent { OnOk result (Appends (W.contents writer.old) (W.contents writer.new)
+        (message_of call.now.hello call.now.request)) }
     ensures told { OnOk result (TellsReply (R.remaining reader.old) (R.remaining reader.new)
         (O.contents output.old) (O.contents output.new)) }
     // A fault of the session is told where the peer told it, and then no reply is.
@@ -91,7 +93,8 @@ pub fn call_over<R: Read, W: Write, O: Write>(
 
 /// Writes the text of a reply.
 fn tell<W: Write>(output: &mut W, reply: &Reply) -> Result<(), RunFault>
-    ensures { OnOk result (Appends (W.contents output.old) (W.contents output.new) (reply_text reply.now ++ 10 ∷ [])) }
+    ensures { OnOk result (Appends (W.contents output.old) (W.contents output.new)
+        (reply_text reply.now ++ 10 ∷ [])) }
 {
     writeln!(output, "{}", ReplyText(reply)).map_err(RunFault::writing)?;
     output.flush().map_err(RunFault::writing)

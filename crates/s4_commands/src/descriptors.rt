@@ -3,8 +3,8 @@
 use s4_command::Settings;
 use std::fs;
 
-/// How many descriptors a server has beside its connections and its workers: its streams, its listener,
-/// what it looks at, and some more.
+/// How many descriptors a server has beside its connections and its workers: its streams, its
+/// listener, what it looks at, and some more.
 const OTHERS: u64 = 12;
 
 /// How many a worker has, and he who accepts.

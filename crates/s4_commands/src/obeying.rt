@@ -16,8 +16,8 @@ use std::sync::Wait;
 use std::thread::Threads;
 use std::time::Clock;
 
-/// Does what the command asks for, from the input to the output. Sockets, threads and the clock are those
-/// of `system`; files are the machine's.
+/// Does what the command asks for, from the input to the output. Sockets, threads and the clock are
+/// those of `system`; files are the machine's.
 pub fn obey<
     S: Net<Listener = TcpListener, Stream = TcpStream>
         + Threads
@@ -29,7 +29,8 @@ pub fn obey<
     R: Read + Drop,
     W: Write,
 >(system: &S, files: &HostRuntime, command: &Command, input: R, output: &mut W) -> Result<(), Fault>
-    ensures shown { OnOk result (IsObeyed command.now (W.contents output.old) (W.contents output.new)) }
+    ensures shown { OnOk result
+        (IsObeyed command.now (W.contents output.old) (W.contents output.new)) }
 {
     match command {
         Command::Show(text) => show(output, text)?,
@@ -52,8 +53,8 @@ fn show<W: Write>(output: &mut W, text: &str) -> Result<(), RunFault>
     output.flush().map_err(RunFault::writing)
 }
 
-/// Runs the arrivals of the input on a hall of the logins in the file with that path, and writes what
-/// each connection is sent.
+/// Runs the arrivals of the input on a hall of the logins in the file with that path, and writes
+/// what each connection is sent.
 fn run_hall<F: Files + AllocGlobal, R: Read + Drop, W: Write>(
     files: &F,
     path: &str,

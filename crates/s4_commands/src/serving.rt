@@ -18,8 +18,8 @@ use std::sync::Wait;
 use std::thread::Threads;
 use std::time::Clock;
 
-/// Serves at the address of the service. Logins are read, and it is looked for the file that ends it,
-/// before it listens.
+/// Serves at the address of the service. Logins are read, and it is looked for the file that ends
+/// it, before it listens.
 pub fn serve_at<
     R: Net<Listener = TcpListener, Stream = TcpStream>
         + Threads
@@ -30,7 +30,8 @@ pub fn serve_at<
         + AllocGlobal,
     W: Write,
 >(rt: &R, files: &HostRuntime, service: &Service, output: &mut W) -> Result<(), Fault>
-    ensures told { OnOk result (TellsService (string_bytes service.now.address) (W.contents output.old) (W.contents output.new)) }
+    ensures told { OnOk result (TellsService (string_bytes service.now.address)
+        (W.contents output.old) (W.contents output.new)) }
 {
     look(files, path_in(&service.until))?;
     try_status(files, path_in(&service.status))?;
@@ -51,8 +52,8 @@ fn look<F: Files>(files: &F, until: Option<&str>) -> Result<(), Fault> {
     }
 }
 
-/// That the file in which the server tells of itself can be written: it is no folder, and one beside it can
-/// be made.
+/// That the file in which the server tells of itself can be written: it is no folder, and one
+/// beside it can be made.
 fn try_status(files: &HostRuntime, path: Option<&str>) -> Result<(), Fault> {
     let Some(path) = path else {
         return Ok(());
@@ -82,7 +83,8 @@ pub fn serve_on<R: Net + Threads + Wait + Clock + Eprint + Sync + AllocGlobal, C
     logins: Logins,
     output: &mut W,
 ) -> Result<(), Fault>
-    ensures told { OnOk result (TellsService (string_bytes service.now.address) (W.contents output.old) (W.contents output.new)) }
+    ensures told { OnOk result (TellsService (string_bytes service.now.address)
+        (W.contents output.old) (W.contents output.new)) }
 {
     let mut server = Server::open(rt, rt.alloc(), service.settings)?;
     setting_up::set_up(rt, files, &mut server, clock, path_in(&service.setup))?;
@@ -106,7 +108,8 @@ fn upkeep_of<'a>(files: &'a HostRuntime, service: &'a Service) -> Upkeep<'a> {
 
 /// Writes where it listens, at once.
 fn tell_listening<W: Write>(output: &mut W, address: &str) -> Result<(), RunFault>
-    ensures { OnOk result (Appends (W.contents output.old) (W.contents output.new) (listening_line address.now)) }
+    ensures { OnOk result
+        (Appends (W.contents output.old) (W.contents output.new) (listening_line address.now)) }
 {
     writeln!(output, "listening {address}").map_err(RunFault::writing)?;
     output.flush().map_err(RunFault::writing)
@@ -114,7 +117,8 @@ fn tell_listening<W: Write>(output: &mut W, address: &str) -> Result<(), RunFaul
 
 /// Writes how many records there are.
 fn tell_closed<W: Write>(output: &mut W, records: usize) -> Result<(), RunFault>
-    ensures { OnOk result (Appends (W.contents output.old) (W.contents output.new) (closed_line records)) }
+    ensures { OnOk result
+        (Appends (W.contents output.old) (W.contents output.new) (closed_line records)) }
 {
     writeln!(output, "closed {records}").map_err(RunFault::writing)?;
     output.flush().map_err(RunFault::writing)

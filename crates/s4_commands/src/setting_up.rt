@@ -55,8 +55,8 @@ fn text_of(files: &HostRuntime, path: &str) -> Option<String> {
     String::from_str(files.alloc(), str::from_utf8(&bytes).ok()?).ok()
 }
 
-/// Has the server carry out the lines of a text in turn. The first one that is none, or is refused, ends
-/// that.
+/// Has the server carry out the lines of a text in turn. The first one that is none, or is refused,
+/// ends that.
 fn carry_out<R: Wait, C: Ticks>(
     rt: &R,
     alloc: Global,

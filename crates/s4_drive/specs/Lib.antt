@@ -1,3 +1,4 @@
 pub mod Stands
 pub mod Step
+pub mod Alike
 pub mod Near

@@ -1,12 +1,13 @@
 //! GetAclByUser, GetAclByIndex and SetAcl: who may do what to an object.
 
 ghost use Rattle.std.specs.Prelude.{◌≡◌, ◌≤◌};
-ghost use Rattle.s4_types.specs.Answer.{entry_read_by_user, entry_read_by_index, acl_set};
+ghost use Rattle.s4_types.specs.declared.request.Request.TheVariants as request;
+ghost use Rattle.s4_types.specs.Answer.{outcome_by_kind};
 ghost use Rattle.s4_types.specs.Play.{last_of};
 ghost use Rattle.s4_types.specs.Log.{base_of};
 ghost use Rattle.s4_state.specs.Told.{IsTold};
 
-use s4_acl::{by_index, entry_of, set};
+use s4_acl::{by_index, entry_of, settable};
 use s4_state::State;
 use s4_store::Store;
 use s4_types::{Caller, Moment, ObjectId, Refusal, Reply, Right, Rights, User, Version};
@@ -22,10 +23,11 @@ pub fn by_user_outcome<S: Store<Version>>(
 ) -> Result<Reply, Refusal>
     requires later { last_of state.now.history ≤ moment }
     requires told { IsTold state.now at.now }
-    ensures { result ≡ entry_read_by_user (base_of state.now) state.now.history moment caller object.now user at.now }
+    ensures { result ≡ outcome_by_kind (base_of state.now) state.now.history moment caller
+        (request.GetAclByUser object.now user at.now) }
 {
     let grant = state.judge(caller, object, Right::Read, *at)?;
-    match entry_of(&state.acl(object, *at), user) {
+    match entry_of(state.acl(object, *at), user) {
         Some((index, rights)) => Ok(Reply::Entry {
             grant,
             index,
@@ -47,10 +49,11 @@ pub fn by_index_outcome<S: Store<Version>>(
 ) -> Result<Reply, Refusal>
     requires later { last_of state.now.history ≤ moment }
     requires told { IsTold state.now at.now }
-    ensures { result ≡ entry_read_by_index (base_of state.now) state.now.history moment caller object.now index at.now }
+    ensures { result ≡ outcome_by_kind (base_of state.now) state.now.history moment caller
+        (request.GetAclByIndex object.now index at.now) }
 {
     let grant = state.judge(caller, object, Right::Read, *at)?;
-    match by_index(&state.acl(object, *at), index) {
+    match by_index(state.acl(object, *at), index) {
         Some(entry) => Ok(Reply::Entry {
             grant,
             index,
@@ -71,9 +74,10 @@ pub fn set_outcome<S: Store<Version>>(
     rights: Rights,
 ) -> Result<Reply, Refusal>
     requires later { last_of state.now.history ≤ moment }
-    ensures { result ≡ acl_set (base_of state.now) state.now.history moment caller object.now user rights }
+    ensures { result ≡ outcome_by_kind (base_of state.now) state.now.history moment caller
+        (request.SetAcl object.now user rights) }
 {
     state.judge(caller, object, Right::Control, None)?;
-    set(&state.acl(object, None), user, rights)?;
+    settable(state.acl(object, None), user, rights)?;
     Ok(Reply::Done)
 }

@@ -1,7 +1,8 @@
 //! Append: bytes after an object's data.
 
 ghost use Rattle.std.specs.Prelude.{◌≡◌, ◌≤◌};
-ghost use Rattle.s4_types.specs.Answer.{data_appended};
+ghost use Rattle.s4_types.specs.declared.request.Request.TheVariants as request;
+ghost use Rattle.s4_types.specs.Answer.{outcome_by_kind};
 ghost use Rattle.s4_types.specs.Play.{last_of};
 ghost use Rattle.s4_types.specs.Log.{base_of};
 
@@ -18,7 +19,8 @@ pub fn outcome<S: Store<Version>>(
     bytes: &Bytes,
 ) -> Result<Reply, Refusal>
     requires later { last_of state.now.history ≤ moment }
-    ensures { result ≡ data_appended (base_of state.now) state.now.history moment caller object.now bytes.now }
+    ensures { result ≡ outcome_by_kind (base_of state.now) state.now.history moment caller
+        (request.Append object.now bytes.now) }
 {
     let limit = caller.version.data_limit() as usize;
     let more = bytes.len();

@@ -1,7 +1,8 @@
 //! Delete: an object ends.
 
 ghost use Rattle.std.specs.Prelude.{◌≡◌, ◌≤◌};
-ghost use Rattle.s4_types.specs.Answer.{deleted};
+ghost use Rattle.s4_types.specs.declared.request.Request.TheVariants as request;
+ghost use Rattle.s4_types.specs.Answer.{outcome_by_kind};
 ghost use Rattle.s4_types.specs.Play.{last_of};
 ghost use Rattle.s4_types.specs.Log.{base_of};
 
@@ -17,7 +18,8 @@ pub fn outcome<S: Store<Version>>(
     object: &ObjectId,
 ) -> Result<Reply, Refusal>
     requires later { last_of state.now.history ≤ moment }
-    ensures { result ≡ deleted (base_of state.now) state.now.history moment caller object.now }
+    ensures { result ≡ outcome_by_kind (base_of state.now) state.now.history moment caller
+        (request.Delete object.now) }
 {
     state.judge(caller, object, Right::Delete, None)?;
     if state.has_name(object) {

@@ -43,15 +43,17 @@ impl Limits {
         }
     }
 
-    /// Makes room for what an accepted record changes here, the charges of what it makes past and the
-    /// budget that it sets, and tells who is charged, if anyone is. A refused one changes nothing here,
-    /// and a wide request's needs no room.
+    /// Makes room for what an accepted record changes here, the charges of what it makes past and
+    /// the budget that it sets, and tells who is charged, if anyone is. A refused one changes
+    /// nothing here, and a wide request's needs no room.
     pub fn reserve(&mut self, added: &Record, past: Past) -> Result<Option<Payer>, NoMemory>
         ensures payer { is_refused added.now.reply ≡ false
             → IfOk result (λ payer. Pays payer (purse_of added.now.caller added.now.request)
             (costs_of past) self.new.ledger) }
-        ensures budget { is_refused added.now.reply ≡ false → OnOk result (HasBudget added.now.request self.new.ledger.budgets) }
-        ensures stand { (base : Base) (h : List Record) → LimitsStand base h self.old → LimitsStand base h self.new }
+        ensures budget { is_refused added.now.reply ≡ false
+            → OnOk result (HasBudget added.now.request self.new.ledger.budgets) }
+        ensures stand { (base : Base) (h : List Record) → LimitsStand base h self.old
+            → LimitsStand base h self.new }
         ensures wide { is_wide added.now.caller added.now.request ≡ true → IsOk result }
     {
         if added.reply.is_refused() {
@@ -69,7 +71,8 @@ impl Limits {
         requires { self.old.ledger.horizon ≤ horizon_of window moment }
         ensures window { self.new.window ≡ window }
         ensures horizon { self.new.ledger.horizon ≡ horizon_of window moment }
-        ensures charges { self.new.ledger.charges ≡ books.lasting (horizon_of window moment) self.old.ledger.charges }
+        ensures charges { self.new.ledger.charges
+            ≡ books.lasting (horizon_of window moment) self.old.ledger.charges }
         ensures budgets { self.new.ledger.budgets ≡ self.old.ledger.budgets }
         ensures room { self.old.ledger.room ≤ self.new.ledger.room }
     {
@@ -77,13 +80,15 @@ impl Limits {
         self.ledger.advance(window.horizon(moment));
     }
 
-    /// Gives back what was charged for values that a flush erased. What is expired is spent no longer
-    /// as it is. Takes no memory.
+    /// Gives back what was charged for values that a flush erased. What is expired is spent no
+    /// longer as it is. Takes no memory.
     pub fn forgive(&mut self, refunds: &[Refund])
         requires charged { (weight : ℕ → ℕ → ℕ) (p : Purse)
-            → refunded (above self.old.ledger.horizon weight) p refunds.now ≤ sum_by (charge_weight weight p) self.old.ledger.charges }
+            → refunded (above self.old.ledger.horizon weight) p refunds.now
+            ≤ sum_by (charge_weight weight p) self.old.ledger.charges }
         ensures charges { (weight : ℕ → ℕ → ℕ) (p : Purse)
-            → sum_by (charge_weight weight p) self.new.ledger.charges + refunded (above self.old.ledger.horizon weight) p refunds.now
+            → sum_by (charge_weight weight p) self.new.ledger.charges + refunded
+            (above self.old.ledger.horizon weight) p refunds.now
             ≡ sum_by (charge_weight weight p) self.old.ledger.charges }
         ensures window { self.new.window ≡ self.old.window }
         ensures horizon { self.new.ledger.horizon ≡ self.old.ledger.horizon }
@@ -92,17 +97,21 @@ impl Limits {
         forgive(&mut self.ledger, refunds);
     }
 
-    /// Charges what an accepted request made past to who pays for it, and sets the budget that it tells.
+    /// Charges what an accepted request made past to who pays for it, and sets the budget that it
+    /// tells.
     pub fn accept(&mut self, moment: Moment, payer: Option<Payer>, request: &Request, past: Past)
         requires costs { ArePositive (costs_of past) }
         requires ready { (p : Payer) → payer ≡ Some p → IsReady p (costs_of past) self.old.ledger }
         requires budget { HasBudget request.now self.old.ledger.budgets }
-        requires room { (p : Payer) → payer ≡ Some p → HasRoom p.purse (costs_of past) self.old.ledger }
+        requires room { (p : Payer) → payer ≡ Some p
+            → HasRoom p.purse (costs_of past) self.old.ledger }
         ensures window { self.new.window ≡ self.old.window }
         ensures horizon { self.new.ledger.horizon ≡ self.old.ledger.horizon }
-        ensures charges { (weight : ℕ → ℕ → ℕ) (p : Purse) → sum_by (charge_weight weight p) self.new.ledger.charges
+        ensures charges { (weight : ℕ → ℕ → ℕ) (p : Purse)
+            → sum_by (charge_weight weight p) self.new.ledger.charges
             ≡ sum_by (charge_weight weight p) self.old.ledger.charges
-            + charged (above self.old.ledger.horizon weight) moment (paying payer) (costs_of past) p }
+            + charged (above self.old.ledger.horizon weight) moment (paying payer)
+            (costs_of past) p }
         ensures budgets { (p : Purse) → books.budget_of p self.new.ledger.budgets
             ≡ budget_by p request.now (books.budget_of p self.old.ledger.budgets) }
     {
@@ -160,9 +169,11 @@ fn charge(ledger: &mut Ledger, payer: &Payer, moment: Moment, past: Past)
     requires room { HasRoom payer.now.purse (costs_of past) ledger.old }
     ensures horizon { ledger.new.horizon ≡ ledger.old.horizon }
     ensures budgets { ledger.new.budgets ≡ ledger.old.budgets }
-    ensures charges { (weight : ℕ → ℕ → ℕ) (p : Purse) → sum_by (charge_weight weight p) ledger.new.charges
+    ensures charges { (weight : ℕ → ℕ → ℕ) (p : Purse)
+        → sum_by (charge_weight weight p) ledger.new.charges
         ≡ sum_by (charge_weight weight p) ledger.old.charges
-        + charged (above ledger.old.horizon weight) moment (Some payer.now.purse) (costs_of past) p }
+        + charged (above ledger.old.horizon weight) moment (Some payer.now.purse)
+        (costs_of past) p }
 {
     match past {
         Past::Nothing => {}
@@ -182,9 +193,11 @@ fn charge(ledger: &mut Ledger, payer: &Payer, moment: Moment, past: Past)
 // Takes the charges out that the refunds tell of, where they still count.
 fn forgive(ledger: &mut Ledger, refunds: &[Refund])
     requires charged { (weight : ℕ → ℕ → ℕ) (p : Purse)
-        → refunded (above ledger.old.horizon weight) p refunds.now ≤ sum_by (charge_weight weight p) ledger.old.charges }
+        → refunded (above ledger.old.horizon weight) p refunds.now
+        ≤ sum_by (charge_weight weight p) ledger.old.charges }
     ensures charges { (weight : ℕ → ℕ → ℕ) (p : Purse)
-        → sum_by (charge_weight weight p) ledger.new.charges + refunded (above ledger.old.horizon weight) p refunds.now
+        → sum_by (charge_weight weight p) ledger.new.charges + refunded
+        (above ledger.old.horizon weight) p refunds.now
         ≡ sum_by (charge_weight weight p) ledger.old.charges }
     ensures horizon { ledger.new.horizon ≡ ledger.old.horizon }
     ensures budgets { ledger.new.budgets ≡ ledger.old.budgets }

@@ -1,7 +1,8 @@
 //! PCreate, PDelete, PList and PMount: names of objects.
 
 ghost use Rattle.std.specs.Prelude.{◌≡◌, ◌≤◌};
-ghost use Rattle.s4_types.specs.Answer.{name_bound, name_unbound, names_listed, name_mounted};
+ghost use Rattle.s4_types.specs.declared.request.Request.TheVariants as request;
+ghost use Rattle.s4_types.specs.Answer.{outcome_by_kind};
 ghost use Rattle.s4_types.specs.Judgement.{denied_absent};
 ghost use Rattle.s4_types.specs.declared.reply.Refusal.TheVariants as refusal;
 ghost use Rattle.s4_types.specs.Play.{last_of};
@@ -24,7 +25,8 @@ pub fn bind_outcome<S: Store<Version>>(
     object: &ObjectId,
 ) -> Result<Reply, Refusal>
     requires later { last_of state.now.history ≤ moment }
-    ensures { result ≡ name_bound (base_of state.now) state.now.history moment caller name.now object.now }
+    ensures { result ≡ outcome_by_kind (base_of state.now) state.now.history moment caller
+        (request.PCreate name.now object.now) }
 {
     state.judge(caller, object, Right::Control, None)?;
     if state.bound(&object.purse, name, None).is_some() {
@@ -45,7 +47,8 @@ pub fn unbind_outcome<S: Store<Version>>(
     name: &Name,
 ) -> Result<Reply, Refusal>
     requires later { last_of state.now.history ≤ moment }
-    ensures { result ≡ name_unbound (base_of state.now) state.now.history moment caller purse.now name.now }
+    ensures { result ≡ outcome_by_kind (base_of state.now) state.now.history moment caller
+        (request.PDelete purse.now name.now) }
 {
     let Some(object) = state.bound(purse, name, None) else {
         return Err(unbound(caller, purse, Right::Control));
@@ -65,7 +68,8 @@ pub fn list_outcome<S: Store<Version>>(
 ) -> Result<Reply, Refusal>
     requires later { last_of state.now.history ≤ moment }
     requires told { IsTold state.now at.now }
-    ensures { IsOutcome result (names_listed (base_of state.now) state.now.history moment caller range after.now at.now) }
+    ensures { IsOutcome result (outcome_by_kind (base_of state.now) state.now.history moment caller
+        (request.PList range after.now at.now)) }
 {
     match state.page(moment, caller, range, after, at) {
         Ok(page) => Ok(Reply::Names {
@@ -87,7 +91,8 @@ pub fn mount_outcome<S: Store<Version>>(
 ) -> Result<Reply, Refusal>
     requires later { last_of state.now.history ≤ moment }
     requires told { IsTold state.now at.now }
-    ensures { result ≡ name_mounted (base_of state.now) state.now.history moment caller purse.now name.now at.now }
+    ensures { result ≡ outcome_by_kind (base_of state.now) state.now.history moment caller
+        (request.PMount purse.now name.now at.now) }
 {
     let Some(object) = state.bound(purse, name, *at) else {
         return Err(unbound(caller, purse, Right::Read));

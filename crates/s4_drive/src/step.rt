@@ -34,7 +34,8 @@ pub fn answer<S: Store<Version>>(
 ) -> Result<Reply, NoMemory>
     requires stand { LimitsStand (base_of state.now) state.now.history limits.now }
     requires later { last_of state.now.history ≤ moment }
-    ensures value { IfOk result (λ reply. reply ≡ answer_of (base_of state.now) state.now.history moment caller request.now) }
+    ensures value { IfOk result (λ reply. reply
+        ≡ answer_of (base_of state.now) state.now.history moment caller request.now) }
     ensures wide { is_wide caller request.now ≡ true → IsOk result }
 {
     match outcome(alloc, state, limits, moment, caller, request) {
@@ -55,7 +56,8 @@ fn outcome<S: Store<Version>>(
 ) -> Result<Reply, Refusal>
     requires stand { LimitsStand (base_of state.now) state.now.history limits.now }
     requires later { last_of state.now.history ≤ moment }
-    ensures value { IsOutcome result (outcome_of (base_of state.now) state.now.history moment caller request.now) }
+    ensures value { IsOutcome result
+        (outcome_of (base_of state.now) state.now.history moment caller request.now) }
     ensures wide { is_wide caller request.now ≡ true → is_wanting result ≡ false }
 {
     let horizon = limits.window.horizon(moment);
@@ -80,7 +82,8 @@ fn outcome_by_kind<S: Store<Version>>(
     requires horizon { horizon ≡ horizon_at (base_of state.now) state.now.history moment }
     requires later { last_of state.now.history ≤ moment }
     requires told { IsTold state.now (at_of request.now) }
-    ensures value { IsOutcome result (outcome_by_kind_of (base_of state.now) state.now.history moment caller request.now) }
+    ensures value { IsOutcome result
+        (outcome_by_kind_of (base_of state.now) state.now.history moment caller request.now) }
     ensures wide { is_wide caller request.now ≡ true → is_wanting result ≡ false }
 {
     match request {
@@ -111,7 +114,7 @@ fn outcome_by_kind<S: Store<Version>>(
             truncate::outcome(state, moment, caller, object, *length)
         }
         Request::GetAttr { object, at } => {
-            attributes::get_outcome(alloc, state, moment, caller, object, at)
+            attributes::get_outcome(state, moment, caller, object, at)
         }
         Request::SetAttr { object, bytes } => {
             attributes::set_outcome(state, moment, caller, object, bytes)

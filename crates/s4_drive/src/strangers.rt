@@ -3,7 +3,7 @@
 ghost use Rattle.std.specs.Prelude.{◌≡◌, ◌++◌, ◌∷◌, [], ℕ, List, IfOk, OnOk, OnErr};
 ghost use Rattle.s4_types.specs.declared.object.Purse.{Purse};
 ghost use Rattle.s4_types.specs.declared.record.Step.{Step};
-ghost use Rattle.s4_types.specs.Kinds.{is_that, is_wide, purse_of};
+ghost use Rattle.s4_types.specs.Kinds.{is_about, is_wide, purse_of};
 ghost use Rattle.s4_types.specs.Strike.{names_in, is_near, is_elsewhere, is_strangers, stays, strike as struck};
 ghost use Rattle.s4_drive.specs.Near.{IsNearIn, has};
 
@@ -13,8 +13,8 @@ use std::collections::BTreeSet;
 
 /// The steps without sweeps and without the requests of the principal's strangers, in their order
 /// (docs/MODEL.md, "Isolation"): what the drive's replies to the principal depend on. Which purses
-/// are near the principal is told by all steps, also by later and by refused ones. `NoMemory` where a
-/// growth was refused.
+/// are near the principal is told by all steps, also by later and by refused ones. `NoMemory` where
+/// a growth was refused.
 pub fn strike(alloc: Global, who: Principal, steps: &[Step]) -> Result<Vec<Step>, NoMemory>
     ensures struck { IfOk result (λ kept. kept.items ≡ struck who steps.now) }
 {
@@ -62,7 +62,8 @@ impl Near {
     pub fn add(&mut self, step: &Step) -> Result<(), NoMemory>
         ensures ok { OnOk result ((who : ℕ) (steps : List Step) → IsNearIn self.old who steps
             → IsNearIn self.new who (steps ++ step.now ∷ [])) }
-        ensures err { OnErr result ((who : ℕ) (steps : List Step) → IsNearIn self.old who steps → IsNearIn self.new who steps) }
+        ensures err { OnErr result ((who : ℕ) (steps : List Step) → IsNearIn self.old who steps
+            → IsNearIn self.new who steps) }
     {
         if let Some(purse) = purse_naming(self.who, step) {
             self.named.insert(purse)?;
@@ -70,10 +71,11 @@ impl Near {
         Ok(())
     }
 
-    /// Whether a step stays once sweeps and the requests of the principal's strangers are struck out
-    /// of the steps seen so far.
+    /// Whether a step stays once sweeps and the requests of the principal's strangers are struck
+    /// out of the steps seen so far.
     pub fn keeps(&self, step: &Step) -> bool
-        ensures { (who : ℕ) (steps : List Step) → IsNearIn self.now who steps → result ≡ stays who (is_near who steps) step.now }
+        ensures { (who : ℕ) (steps : List Step) → IsNearIn self.now who steps
+            → result ≡ stays who (is_near who steps) step.now }
     {
         match step {
             Step::Sweep { .. } => false,
@@ -94,7 +96,8 @@ impl Near {
 
     /// Whether the request is neither about a near purse nor about all purses.
     fn is_elsewhere(&self, caller: &Caller, request: &Request) -> bool
-        ensures { result ≡ is_elsewhere (has self.now) (purse_of caller.now request.now) (is_wide caller.now request.now) }
+        ensures { result ≡ is_elsewhere (has self.now) (purse_of caller.now request.now)
+            (is_wide caller.now request.now) }
     {
         match request.purse(caller) {
             Some(purse) => !self.has(&purse),
@@ -106,14 +109,14 @@ impl Near {
     fn has(&self, purse: &Purse) -> bool
         ensures { result ≡ has self.now purse.now }
     {
-        User::of(purse.creator).reaches(self.who) || self.named.contains(purse)
+        User::from(purse.creator).reaches(self.who) || self.named.contains(purse)
     }
 }
 
 /// The purse in which the step asks to change an entry that can serve the principal in an object's
 /// ACL, where another asks that.
 fn purse_naming(who: Principal, step: &Step) -> Option<Purse>
-    ensures { (purse : Purse) → is_that purse result ≡ names_in who purse step.now }
+    ensures { (purse : Purse) → is_about purse result ≡ names_in who purse step.now }
 {
     let Step::Request {
         caller,

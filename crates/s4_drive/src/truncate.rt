@@ -1,7 +1,8 @@
 //! Truncate: an object's data cut, or filled with zeros.
 
 ghost use Rattle.std.specs.Prelude.{◌≡◌, ◌≤◌};
-ghost use Rattle.s4_types.specs.Answer.{data_truncated};
+ghost use Rattle.s4_types.specs.declared.request.Request.TheVariants as request;
+ghost use Rattle.s4_types.specs.Answer.{outcome_by_kind};
 ghost use Rattle.s4_types.specs.Play.{last_of};
 ghost use Rattle.s4_types.specs.Log.{base_of};
 
@@ -18,7 +19,8 @@ pub fn outcome<S: Store<Version>>(
     length: u32,
 ) -> Result<Reply, Refusal>
     requires later { last_of state.now.history ≤ moment }
-    ensures { result ≡ data_truncated (base_of state.now) state.now.history moment caller object.now length }
+    ensures { result ≡ outcome_by_kind (base_of state.now) state.now.history moment caller
+        (request.Truncate object.now length) }
 {
     if length > caller.version.data_limit() {
         return Err(Refusal::TooLong);

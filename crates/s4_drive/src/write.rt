@@ -1,7 +1,8 @@
 //! Write: bytes over an object's data, from an offset on.
 
 ghost use Rattle.std.specs.Prelude.{◌≡◌, ◌≤◌};
-ghost use Rattle.s4_types.specs.Answer.{data_written};
+ghost use Rattle.s4_types.specs.declared.request.Request.TheVariants as request;
+ghost use Rattle.s4_types.specs.Answer.{outcome_by_kind};
 ghost use Rattle.s4_types.specs.Play.{last_of};
 ghost use Rattle.s4_types.specs.Log.{base_of};
 
@@ -19,7 +20,8 @@ pub fn outcome<S: Store<Version>>(
     bytes: &Bytes,
 ) -> Result<Reply, Refusal>
     requires later { last_of state.now.history ≤ moment }
-    ensures { result ≡ data_written (base_of state.now) state.now.history moment caller object.now offset bytes.now }
+    ensures { result ≡ outcome_by_kind (base_of state.now) state.now.history moment caller
+        (request.Write object.now offset bytes.now) }
 {
     let limit = caller.version.data_limit() as usize;
     if bytes.len() > limit.saturating_sub(offset as usize) || offset as usize > limit {

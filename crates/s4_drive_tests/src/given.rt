@@ -29,5 +29,5 @@ pub fn object(creator: u32, number: u8, serial: u16) -> Result<ObjectId, Fail> {
 }
 
 pub fn bytes(alloc: Global, text: &[u8]) -> Result<Bytes, Fail> {
-    Ok(Bytes::new(Vec::from_slice(alloc, text)?))
+    Ok(Bytes::from_slice(alloc, text)?)
 }

@@ -27,10 +27,13 @@ fn check_values<S: Store<Version>>(rt: &impl Abort, state: &State<S>) -> Result<
 {
     let object = object(7, 0, 1)?;
     let at = Some(Moment::new(3));
-    let data = state.data(&object, at).ok_or("data")?;
-    let attributes = state.attributes(&object, None).ok_or("attributes")?;
+    let data = state.data(&object, at).as_slice().ok_or("data")?;
+    let attributes = state
+        .attributes(&object, None)
+        .as_slice()
+        .ok_or("attributes")?;
     assert!(rt; data.is_empty() && attributes.is_empty());
-    assert!(rt; state.acl(&object, at).entries().is_empty());
+    assert!(rt; state.acl(&object, at).is_empty());
     Ok(())
 }
 

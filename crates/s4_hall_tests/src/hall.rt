@@ -122,7 +122,7 @@ fn steps(alloc: Global, rows: &[Row]) -> Result<Vec<HallStep>, Fail> {
         steps.push(HallStep::Arrive {
             conn: row.0,
             moment: Moment::new(row.1),
-            piece: Bytes::new(Vec::from_slice(alloc, row.2)?),
+            piece: Bytes::from_slice(alloc, row.2)?,
         })?;
     }
     Ok(steps)

@@ -2,7 +2,6 @@
 
 ghost use Rattle.std.specs.Prelude.{◌≡◌};
 ghost use Rattle.s4_types.specs.declared.reply.Refusal.TheVariants as refusal;
-ghost use Rattle.s4_types.specs.declared.rights.Right.TheVariants as right_of;
 ghost use Rattle.s4_types.specs.Judgement.{judge_now as judged, judge_past as judged_past, denied_absent};
 ghost use Rattle.s4_judge.specs.Held.{shown_held};
 
@@ -40,7 +39,7 @@ pub fn judge_now(
     if right == Right::Control && caller.who == object.purse.creator {
         return Ok(Grant::Owner);
     }
-    match asked_entry(held.acl, caller.who) {
+    match asked_entry(held.acl.entries(), caller.who) {
         Some((index, rights)) if rights.has(right) => Ok(Grant::Entry {
             index,
             since: held.since,
@@ -67,7 +66,7 @@ pub fn judge_past(
     if caller.who.is_administrator() {
         return Ok(Grant::Admin);
     }
-    let Some((index, rights)) = asked_entry(held.acl, caller.who) else {
+    let Some((index, rights)) = asked_entry(held.acl.entries(), caller.who) else {
         return Err(Refusal::Denied(Right::Read));
     };
     if !rights.has(Right::Read) {

@@ -1,9 +1,8 @@
 -- A name is bound to what its bindings and unbindings up to the moment leave, carried out in their order.
-use Rattle.std.proofs.Common.{◌≡◌, ℕ, ◌≤◌, ◌<◌, Bool, true, false, Option, Some, None, List, [], ◌∷◌, refl, sym, ◌∙◌, ap, fold, nat_le, arith}
+use Rattle.std.proofs.Common.{◌≡◌, ℕ, ◌≤◌, ◌<◌, true, false, Option, Some, None, List, [], ◌∷◌, refl, sym, ◌∙◌, ap, fold, nat_le, arith}
 use Rattle.std.specs.Prelude.{◌&&◌, if◌then◌else◌}
 use Rattle.std.specs.Option.{option_map}
 use Rattle.std.proofs.lemmas.Bool.{le-leb, leb-true, leb-false}
-use Rattle.s4_types.specs.declared.object.ObjectId.{ObjectId}
 use Rattle.s4_types.specs.declared.object.Purse.{Purse}
 use Rattle.s4_types.specs.declared.request.Request.{Request}
 use Rattle.s4_types.specs.declared.request.Request.TheVariants.{PCreate, PDelete}
@@ -12,7 +11,7 @@ use Rattle.s4_types.specs.Name.{same_name}
 use Rattle.s4_types.specs.Names.{same_purse}
 use Rattle.s4_types.specs.Kinds.{concerns}
 use Rattle.s4_types.specs.Base.{Base, Standing}
-use Rattle.s4_types.specs.Bindings.{rebound, bindings_after, bindings, bound_at}
+use Rattle.s4_types.specs.Bindings.{rebound, bindings_after, bound_at}
 use Rattle.s4_types.specs.Versions.{Value, begun, with_end, in_force_by, only_kept, standing}
 use Rattle.s4_types.specs.Play.{InOrder}
 use Rattle.s4_types.proofs.Booleans.{by_test, &&-false, &&-true}

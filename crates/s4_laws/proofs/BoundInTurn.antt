@@ -16,7 +16,7 @@ use Rattle.s4_types.specs.declared.record.Step.{Step}
 use Rattle.s4_types.specs.declared.record.Step.TheVariants as step
 use Rattle.s4_types.specs.Names.{same_purse}
 use Rattle.s4_types.specs.Name.{same_name}
-use Rattle.s4_types.specs.Kinds.{concerns, is_accepted, is_refused, is_wide, is_about, only_reads}
+use Rattle.s4_types.specs.Kinds.{concerns, is_accepted, is_refused, is_wide, is_about, only_reads, purse_of}
 use Rattle.s4_types.specs.Base.{Base, Standing}
 use Rattle.s4_types.specs.Versions.{Value, begun, with_end, only_kept, in_force_by}
 use Rattle.s4_types.specs.Bindings.{rebound, bindings_after, bindings, bound_at, bound_count}
@@ -82,7 +82,7 @@ module _ (base : Base) (purse : Purse) (name : List ℕ) where
       of : (b : Bool) → concerns purse r ≡ b → IsSteady t (cond b (rebound purse name t request (bindings base purse name h)) (bindings base purse name h))
       of false e = s
       of true e =
-          let accepted : is_accepted r ≡ true = (both (is_accepted r) (is_wide caller request || is_about purse caller request) e).0 in
+          let accepted : is_accepted r ≡ true = (both (is_accepted r) (is_wide caller request || is_about purse (purse_of caller request)) e).0 in
           kind-steady h t caller request (not-true (is_refused r.reply) (both (not (is_refused r.reply)) (not (only_reads request)) accepted).0) s
 
   run-turn : (from : ℕ) (steps : List Step) (h : List Record) → NeverDown from steps → IsSteady from (bindings base purse name h) → InTurn (bindings base purse name (play_on base h steps))

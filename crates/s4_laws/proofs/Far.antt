@@ -22,10 +22,11 @@ use Rattle.s4_types.specs.Bindings.{bound_at}
 use Rattle.s4_types.specs.Limits.{data_limit}
 use Rattle.s4_types.specs.Judgement.{Held, held_at, judge, judge_now, judge_past, needs_control}
 use Rattle.s4_types.specs.Outcome.{◌>>=◌, ◌>>◌, refuse_if}
-use Rattle.s4_types.specs.Answer.{timely, moment_of, found_bound, administered, affordable, outcome_by_kind, outcome}
+use Rattle.s4_types.specs.Answer.{timely, moment_of, found_bound, administered, affordable, outcome_by_kind, outcome, mountable}
 use Rattle.s4_laws.proofs.Strangers.{and-false}
 use Rattle.s4_laws.proofs.Unnamed.{IsAway, HeldWithout, IsUnnamed, held-lacks}
 use Rattle.s4_laws.proofs.Entryless.{unfound}
+use Rattle.s4_types.specs.declared.reply.NameLine.{NameLine}
 
 -- the caller isn't the administrator, and the purse isn't near to it
 pub record IsFar (near : Purse → Bool) (caller : Caller) (purse : Purse) : Type 0 where
@@ -87,10 +88,13 @@ unbound-far : (near : Purse → Bool) (base : Base) (h : List Record) (t : ℕ) 
 unbound-far near base h t caller purse None f s = rw (f.ordinary, f.stranger) refl
 unbound-far near base h t caller purse (Some serial) f s = ap (λ j. j >> Ok Done) (denied near base h t caller (object_in purse serial) right.Control f s)
 
-mounted-far : (near : Purse → Bool) (base : Base) (h : List Record) (t : ℕ) (caller : Caller) (purse : Purse) (at : Option ℕ) (found : Option ℕ) → IsFar near caller purse → Seen near base caller h → (found_bound caller purse right.Read found >>= λ serial. (judge base h t caller (object_in purse serial) right.Read at >>= λ grant. Ok (Mounted grant (object_in purse serial)))) ≡ Err (Denied right.Read)
-mounted-far near base h t caller purse at None f s = rw (f.ordinary, f.stranger) refl
-mounted-far near base h t caller purse at (Some serial) f s =
-    ap (λ j. j >>= λ grant. Ok (Mounted grant (object_in purse serial))) (denied-reading near base h t caller (object_in purse serial) at f s)
+line-far : (near : Purse → Bool) (base : Base) (h : List Record) (t : ℕ) (caller : Caller) (purse : Purse) (line : ℕ → Grant → Result NameLine Refusal) (at : Option ℕ) (found : Option ℕ) → IsFar near caller purse → Seen near base caller h → (found_bound caller purse right.Read found >>= λ serial. (judge base h t caller (object_in purse serial) right.Read at >>= line serial)) ≡ Err (Denied right.Read)
+line-far near base h t caller purse line at None f s = rw (f.ordinary, f.stranger) refl
+line-far near base h t caller purse line at (Some serial) f s = ap (λ j. j >>= line serial) (denied-reading near base h t caller (object_in purse serial) at f s)
+
+pub mountable-far : (near : Purse → Bool) (base : Base) (h : List Record) (t : ℕ) (caller : Caller) (purse : Purse) (name : List ℕ) (at : Option ℕ) → IsFar near caller purse → Seen near base caller h → mountable base h t caller purse name at ≡ Err (Denied right.Read)
+mountable-far near base h t caller purse name at f s =
+    line-far near base h t caller purse (λ serial grant. Ok (record { name = name; object = object_in purse serial; grant = grant })) at (bound_at base purse name (moment_of t at) h) f s
 
 -- the request has a purse, and that isn't near
 abbrev pub FarThere : (Purse → Bool) → Caller → Option Purse → Type 0
@@ -112,7 +116,7 @@ by_kind-far near base h t caller (SetAcl o user rights) f s = rw (denied near ba
 by_kind-far near base h t caller (PCreate name o) f s = rw (denied near base h t caller o right.Control f s) refl
 by_kind-far near base h t caller (PDelete purse name) f s = unbound-far near base h t caller purse (bound_at base purse name t h) f s
 by_kind-far near base h t caller (PList range after at) f s = absurd f
-by_kind-far near base h t caller (PMount purse name at) f s = mounted-far near base h t caller purse at (bound_at base purse name (moment_of t at) h) f s
+by_kind-far near base h t caller (PMount purse name at) f s = ap (λ found. found >>= λ line. Ok (Mounted line.grant line.object)) (mountable-far near base h t caller purse name at f s)
 by_kind-far near base h t caller (Flush from to) f s = absurd f
 by_kind-far near base h t caller (FlushO o from to) f s = flushed-far (nat_lt to from) caller f.ordinary
 by_kind-far near base h t caller (SetWindow ticks) f s = absurd f

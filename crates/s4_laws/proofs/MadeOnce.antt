@@ -1,6 +1,6 @@
 -- No run makes an object twice: a Create draws the next serial of its purse, and no other request makes an object.
-use Rattle.std.proofs.Common.{◌≡◌, ℕ, ◌+◌, ◌≤◌, ◌<◌, nat_le, nat_lt, Bool, true, false, not, cond, Option, Some, None, Result, Ok, Err, List, [], ◌∷◌, ◌++◌, refl, sym, ◌∙◌, ap, subst, is_some, count_by, arith}
-use Rattle.std.specs.Prelude.{◌&&◌, ◌||◌, ◌==◌, length, min, take, drop, slice_get}
+use Rattle.std.proofs.Common.{◌≡◌, ℕ, ◌+◌, ◌≤◌, ◌<◌, nat_le, nat_lt, Bool, true, false, not, cond, Option, None, Result, Ok, Err, List, [], ◌∷◌, ◌++◌, refl, sym, ◌∙◌, ap, subst, is_some, count_by, arith}
+use Rattle.std.specs.Prelude.{◌&&◌, ◌||◌, ◌==◌, length, min, take, drop, slice_get, ok_or}
 use Rattle.std.proofs.lemmas.List.Sums.{fold-append}
 use Rattle.s4_types.specs.declared.principal.Caller.{Caller}
 use Rattle.s4_types.specs.declared.object.Purse.{Purse}
@@ -9,16 +9,16 @@ use Rattle.s4_types.specs.declared.acl.AclEntry.{AclEntry}
 use Rattle.s4_types.specs.declared.rights.Right.TheVariants as right
 use Rattle.s4_types.specs.declared.reply.Grant.{Grant}
 use Rattle.s4_types.specs.declared.reply.Refusal.{Refusal}
-use Rattle.s4_types.specs.declared.reply.Refusal.TheVariants.{Denied, Flushed, TooLong, NamesSpent, Exists, PartsFull, Named, BadRange}
+use Rattle.s4_types.specs.declared.reply.Refusal.TheVariants.{Denied, Flushed, TooLong, NamesSpent, Exists, PartsFull, Named, BadRange, NoEntry}
 use Rattle.s4_types.specs.declared.reply.Reply.{Reply}
-use Rattle.s4_types.specs.declared.reply.Reply.TheVariants.{Done, Made, Data, Attr, Mounted}
+use Rattle.s4_types.specs.declared.reply.Reply.TheVariants.{Done, Made, Data, Attr, Mounted, Entry}
 use Rattle.s4_types.specs.declared.request.Request.{Request}
 use Rattle.s4_types.specs.declared.request.Request.TheVariants.{Create, Delete, Read, Write, Append, Truncate, GetAttr, SetAttr, GetAclByUser, GetAclByIndex, SetAcl, PCreate, PDelete, PList, PMount, Flush, FlushO, SetWindow, SetBudget, ReadAudit}
 use Rattle.s4_types.specs.declared.record.Record.{Record}
 use Rattle.s4_types.specs.declared.record.Step.{Step}
 use Rattle.s4_types.specs.declared.record.Step.TheVariants as step
 use Rattle.s4_types.specs.Names.{object_in}
-use Rattle.s4_types.specs.Kinds.{concerns, is_accepted, is_refused, is_wide, is_about, only_reads, is_create}
+use Rattle.s4_types.specs.Kinds.{concerns, is_accepted, is_refused, is_wide, is_about, only_reads, is_create, purse_of}
 use Rattle.s4_types.specs.Base.{Base}
 use Rattle.s4_types.specs.Versions.{makes, is_made, value_at, data_track, attribute_track}
 use Rattle.s4_types.specs.Serials.{drawn, draws}
@@ -26,7 +26,7 @@ use Rattle.s4_types.specs.Bindings.{bound_at, bound_count, has_name}
 use Rattle.s4_types.specs.Limits.{data_limit}
 use Rattle.s4_types.specs.Judgement.{Found, entry_of, judge}
 use Rattle.s4_types.specs.Outcome.{◌>>=◌, ◌>>◌, refuse_if, reply_of}
-use Rattle.s4_types.specs.Answer.{answer, outcome_by_kind, moment_of, is_gone, data_of, attributes_of, acl_of, entry_by_user, entry_by_index, settable, found_bound, administered, flushed}
+use Rattle.s4_types.specs.Answer.{answer, outcome_by_kind, moment_of, is_gone, settable, found_bound, administered, flushed, mountable}
 use Rattle.s4_types.specs.Play.{play, play_on, record_of}
 use Rattle.s4_types.proofs.Booleans.{both, by_test}
 use Rattle.s4_types.proofs.SameNames.{object_is}
@@ -34,6 +34,7 @@ use Rattle.s4_types.proofs.Snoc.{drawn-snoc}
 use Rattle.s4_types.proofs.Outcomes.{answer-by-kind}
 use Rattle.s4_laws.specs.InForce.{made_count, IsDrawn}
 use Rattle.s4_laws.proofs.Strangers.{not-true}
+use Rattle.s4_types.specs.Contents.{data_of, attributes_of, acl_of}
 
 -- WHAT MAKES NOTHING
 
@@ -48,13 +49,8 @@ none-bind : {A : Type 0} (o : ObjectId) (first : Result A Refusal) (next : A →
 none-bind o (Ok x) next e = e x
 none-bind o (Err r) next e = refl
 
-none-user : (o : ObjectId) (g : Grant) (user : ℕ) (found : Option Found) → MakesNone o (entry_by_user g user found)
-none-user o g user None = refl
-none-user o g user (Some found) = refl
-
-none-index : (o : ObjectId) (g : Grant) (index : ℕ) (entry : Option AclEntry) → MakesNone o (entry_by_index g index entry)
-none-index o g index None = refl
-none-index o g index (Some entry) = refl
+none-entry : {A : Type 0} (o : ObjectId) (found : Option A) (entry : A → Reply) → ((x : A) → is_made o (entry x) ≡ false) → MakesNone o (ok_or found NoEntry >>= λ x. Ok (entry x))
+none-entry o found entry e = none-bind o (ok_or found NoEntry) (λ x. Ok (entry x)) e
 
 -- after a test and a judgement, or a judgement and a test
 none-sized : (o : ObjectId) (long : Bool) (judged : Result Grant Refusal) → MakesNone o (refuse_if long TooLong >> (judged >> Ok Done))
@@ -87,10 +83,12 @@ none-by-kind o base h t caller (GetAttr p at) e =
 none-by-kind o base h t caller (SetAttr p bytes) e = none-sized o (nat_lt 256 (length bytes)) (judge base h t caller p right.Write None)
 none-by-kind o base h t caller (GetAclByUser p user at) e =
     let found : Option Found = entry_of user (acl_of base p (moment_of t at) h) in
-    none-bind o (judge base h t caller p right.Read at) (λ g. entry_by_user g user found) (λ g. none-user o g user found)
+    let entry : Grant → Found → Reply = λ g x. Entry g x.index user x.rights in
+    none-bind o (judge base h t caller p right.Read at) (λ g. ok_or found NoEntry >>= λ x. Ok (entry g x)) (λ g. none-entry o found (entry g) (λ x. refl))
 none-by-kind o base h t caller (GetAclByIndex p index at) e =
-    let entry : Option AclEntry = slice_get (acl_of base p (moment_of t at) h) index in
-    none-bind o (judge base h t caller p right.Read at) (λ g. entry_by_index g index entry) (λ g. none-index o g index entry)
+    let found : Option AclEntry = slice_get (acl_of base p (moment_of t at) h) index in
+    let entry : Grant → AclEntry → Reply = λ g x. Entry g index x.who x.rights in
+    none-bind o (judge base h t caller p right.Read at) (λ g. ok_or found NoEntry >>= λ x. Ok (entry g x)) (λ g. none-entry o found (entry g) (λ x. refl))
 none-by-kind o base h t caller (SetAcl p user rights) e =
     let settled : Result (Unit {0}) Refusal = settable user rights (acl_of base p t h) in
     none-then o (judge base h t caller p right.Control None) (settled >> Ok Done) (none-then o settled (Ok Done) refl)
@@ -104,8 +102,7 @@ none-by-kind o base h t caller (PDelete purse name) e =
     (λ serial. none-then o (judge base h t caller (object_in purse serial) right.Control None) (Ok Done) refl)
 none-by-kind o base h t caller (PList range after at) e = refl
 none-by-kind o base h t caller (PMount purse name at) e =
-    none-bind o (found_bound caller purse right.Read (bound_at base purse name (moment_of t at) h)) (λ serial. judge base h t caller (object_in purse serial) right.Read at >>= λ g. Ok (Mounted g (object_in purse serial)))
-    (λ serial. none-bind o (judge base h t caller (object_in purse serial) right.Read at) (λ g. Ok (Mounted g (object_in purse serial))) (λ g. refl))
+    none-bind o (mountable base h t caller purse name at) (λ line. Ok (Mounted line.grant line.object)) (λ line. refl)
 none-by-kind o base h t caller (Flush from to) e = none-flushed o from to caller
 none-by-kind o base h t caller (FlushO p from to) e = none-flushed o from to caller
 none-by-kind o base h t caller (SetWindow ticks) e = none-administered o caller
@@ -132,7 +129,7 @@ made-next : (o : ObjectId) (base : Base) (h : List Record) (t : ℕ) (caller : C
 made-next o base h t caller request e =
     let r : Record = record_of base h t caller request in
     let parts = both (concerns o.purse r) (is_made o r.reply) e in
-    let accepted : is_accepted r ≡ true = (both (is_accepted r) (is_wide caller request || is_about o.purse caller request) parts.0).0 in
+    let accepted : is_accepted r ≡ true = (both (is_accepted r) (is_wide caller request || is_about o.purse (purse_of caller request)) parts.0).0 in
     let told : is_refused (answer base h t caller request) ≡ false = not-true (is_refused r.reply) (both (not (is_refused r.reply)) (not (only_reads request)) accepted).0 in
     let made = made-by-kind o base h t caller request (sym (ap (is_made o) (answer-by-kind base h t caller request told)) ∙ parts.1) in
     (ap (λ b. b && is_create request) parts.0 ∙ made.0, made.1)

@@ -4,7 +4,7 @@ use Rattle.std.specs.Prelude.{◌&&◌, ◌||◌}
 use Rattle.s4_types.specs.declared.record.Record.{Record}
 use Rattle.s4_types.specs.Base.{Base}
 use Rattle.s4_types.specs.declared.object.Purse.{Purse}
-use Rattle.s4_types.specs.Kinds.{is_accepted, is_wide, is_about, concerns, concerns_all}
+use Rattle.s4_types.specs.Kinds.{is_accepted, is_wide, is_about, concerns, concerns_all, purse_of}
 use Rattle.s4_types.specs.Horizon.{horizon_of, windowed_by, guarded_after, guarded_at, horizon_at}
 use Rattle.s4_laws.specs.Agree.{AgreeOn}
 use Rattle.s4_laws.proofs.OfPurse.{fold-filter}
@@ -24,7 +24,7 @@ all_or_one false false about e = refl
 
 guarded-in-purse : (base : Base) (purse : Purse) (h : List Record) → guarded_at base (filter (concerns purse) h) ≡ guarded_at base h
 guarded-in-purse base purse h = fold-filter (concerns purse) guarded_after
-    (λ guarded r e. ap (λ b. cond b (windowed_by r.moment r.request guarded) guarded) (all_or_one (is_accepted r) (is_wide r.caller r.request) (is_about purse r.caller r.request) e))
+    (λ guarded r e. ap (λ b. cond b (windowed_by r.moment r.request guarded) guarded) (all_or_one (is_accepted r) (is_wide r.caller r.request) (is_about purse (purse_of r.caller r.request)) e))
     (record { window = base.window; floor = base.floor }) h
 
 -- so the records of one purse tell the horizon

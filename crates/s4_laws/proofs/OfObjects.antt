@@ -11,8 +11,9 @@ use Rattle.s4_types.specs.Base.{Base}
 use Rattle.s4_types.specs.Versions.{Track, in_force_by, value_at, data_track, attribute_track, acl_track}
 use Rattle.s4_types.specs.Bindings.{bound_count, has_name}
 use Rattle.s4_types.specs.Judgement.{judge, judge_now, judge_past, held_of}
-use Rattle.s4_types.specs.Answer.{value_or_empty, data_of, attributes_of, acl_of}
+use Rattle.s4_types.specs.Answer.{value_or_empty}
 use Rattle.s4_laws.proofs.OfPurse.{versions-agree, names_of-agree, bound_at-agree}
+use Rattle.s4_types.specs.Contents.{data_of, attributes_of, acl_of}
 
 pub value_at-agree : {V : Type 0} (base : Base) (track : Track V) (o : ObjectId) (m : ℕ) (h k : List Record) → AgreeOn o.purse h k → value_at base track o m h ≡ value_at base track o m k
 value_at-agree base track o m h k e = ap (in_force_by m) (versions-agree base track o h k e)

@@ -1,5 +1,5 @@
 -- The horizon is the one that the rule gives.
-use Rattle.std.proofs.Common.{◌≡◌, ℕ, Bool, true, false, Option, Some, None, List, [], ◌∷◌, refl, ◌∙◌, ap, fold, max, unwrap_or}
+use Rattle.std.proofs.Common.{◌≡◌, ℕ, true, false, Option, Some, None, List, [], ◌∷◌, refl, ◌∙◌, ap, fold, max, unwrap_or}
 use Rattle.std.specs.Prelude.{◌-◌, if◌then◌else◌}
 use Rattle.s4_types.specs.declared.request.Request.{Request}
 use Rattle.s4_types.specs.declared.request.Request.TheVariants.{SetWindow}

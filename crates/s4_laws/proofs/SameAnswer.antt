@@ -1,14 +1,14 @@
 -- A request about a purse is answered by the records that concern the purse, and by those that concern all purses.
 use Rattle.std.proofs.Common.{◌≡◌, ℕ, ◌+◌, nat_le, nat_lt, ◌∷◌, [], Option, Some, None, Ok, List, length, refl, ap, ◌∙◌, is_some, filter, take, drop, slice_get}
-use Rattle.std.specs.Prelude.{min, sum}
+use Rattle.std.specs.Prelude.{min, sum, ok_or, Result}
 use mathlib.Core.Path.{fun_ext}
 use Rattle.s4_types.specs.declared.principal.Caller.{Caller}
 use Rattle.s4_types.specs.declared.object.Purse.{Purse}
 use Rattle.s4_types.specs.declared.object.ObjectId.{ObjectId}
 use Rattle.s4_types.specs.declared.rights.Right.TheVariants as right
 use Rattle.s4_types.specs.declared.record.Record.{Record}
-use Rattle.s4_types.specs.declared.reply.Refusal.TheVariants.{Flushed, TooLong, Exists, PartsFull, Named, NamesSpent}
-use Rattle.s4_types.specs.declared.reply.Reply.TheVariants.{Done, Made, Data, Attr, Mounted}
+use Rattle.s4_types.specs.declared.reply.Refusal.TheVariants.{Flushed, TooLong, Exists, PartsFull, Named, NamesSpent, NoEntry}
+use Rattle.s4_types.specs.declared.reply.Reply.TheVariants.{Done, Made, Data, Attr, Mounted, Entry}
 use Rattle.s4_types.specs.declared.request.Request.{Request}
 use Rattle.s4_types.specs.declared.request.Request.TheVariants.{Create, Delete, Read, Write, Append, Truncate, GetAttr, SetAttr, GetAclByUser, GetAclByIndex, SetAcl, PCreate, PDelete, PList, PMount, ReadAudit}
 use Rattle.s4_laws.specs.Agree.{AgreeOn}
@@ -20,73 +20,85 @@ use Rattle.s4_types.specs.Versions.{value_at, data_track, attribute_track, acl_t
 use Rattle.s4_types.specs.Bindings.{bound_at, bound_count, has_name}
 use Rattle.s4_types.specs.Spending.{spent_at, budget_of}
 use Rattle.s4_types.specs.Limits.{data_limit}
-use Rattle.s4_types.specs.Judgement.{judge, entry_of}
+use Rattle.s4_types.specs.Judgement.{judge, entry_of, Found}
 use Rattle.s4_types.specs.Outcome.{◌>>=◌, ◌>>◌, refuse_if}
-use Rattle.s4_types.specs.Answer.{timely, moment_of, is_gone, data_of, attributes_of, acl_of, created, deleted, data_read, attributes_read, entry_by_user, entry_by_index, entry_read_by_user, entry_read_by_index, data_appended, settable, acl_set, name_bound, name_unbound, name_mounted, found_bound, made_past, charge_of, within, affordable, outcome_by_kind, outcome}
+use Rattle.s4_types.specs.Answer.{timely, moment_of, is_gone, created, settable, found_bound, made_past, charge_of, within, affordable, outcome_by_kind, outcome, mountable}
 use Rattle.s4_laws.proofs.OfPurse.{drawn-agree, bound_at-agree}
 use Rattle.s4_laws.proofs.OfObjects.{value_at-agree, judge-agree, data_of-agree, attributes_of-agree, acl_of-agree, bound_count-agree, has_name-agree}
 use Rattle.s4_laws.proofs.OfSpending.{budget-agree, spent_at-agree}
 use Rattle.s4_laws.proofs.OfHorizon.{horizon_at-agree}
+use Rattle.s4_types.specs.Contents.{data_of, attributes_of, acl_of}
+use Rattle.s4_types.specs.declared.reply.Grant.{Grant}
+use Rattle.s4_types.specs.declared.reply.NameLine.{NameLine}
+use Rattle.s4_types.specs.declared.reply.Refusal.{Refusal}
+use Rattle.s4_types.specs.declared.reply.Reply.{Reply}
+use Rattle.s4_types.specs.declared.acl.AclEntry.{AclEntry}
 
 -- ONE KIND AFTER THE OTHER
 
 created-agree : (base : Base) (purse : Purse) (h k : List Record) → AgreeOn purse h k → created base h purse ≡ created base k purse
 created-agree base purse h k e = ap (λ n. refuse_if (nat_le 65535 n) NamesSpent >> Ok (Made (object_in purse (n + 1)))) (drawn-agree base purse h k e)
 
-deleted-agree : (base : Base) (t : ℕ) (caller : Caller) (o : ObjectId) (h k : List Record) → AgreeOn o.purse h k → deleted base h t caller o ≡ deleted base k t caller o
+deleted-agree : (base : Base) (t : ℕ) (caller : Caller) (o : ObjectId) (h k : List Record) → AgreeOn o.purse h k → outcome_by_kind base h t caller (Delete o) ≡ outcome_by_kind base k t caller (Delete o)
 deleted-agree base t caller o h k e =
     ap (λ j. j >> (refuse_if (has_name base o t h) Named >> Ok Done)) (judge-agree base t caller o right.Delete None h k e)
     ∙ ap (λ b. judge base k t caller o right.Delete None >> (refuse_if b Named >> Ok Done)) (has_name-agree base o t h k e)
 
-data_read-agree : (base : Base) (t : ℕ) (caller : Caller) (o : ObjectId) (offset n : ℕ) (at : Option ℕ) (h k : List Record) → AgreeOn o.purse h k → data_read base h t caller o offset n at ≡ data_read base k t caller o offset n at
+data_read-agree : (base : Base) (t : ℕ) (caller : Caller) (o : ObjectId) (offset n : ℕ) (at : Option ℕ) (h k : List Record) → AgreeOn o.purse h k → outcome_by_kind base h t caller (Read o offset n at) ≡ outcome_by_kind base k t caller (Read o offset n at)
 data_read-agree base t caller o offset n at h k e =
     ap (λ j. j >>= λ grant. refuse_if (is_gone (value_at base data_track o (moment_of t at) h)) Flushed >> Ok (Data grant (take (min n (data_limit caller.version)) (drop offset (data_of base o (moment_of t at) h))))) (judge-agree base t caller o right.Read at h k e)
     ∙ ap (λ v. judge base k t caller o right.Read at >>= λ grant. refuse_if (is_gone v) Flushed >> Ok (Data grant (take (min n (data_limit caller.version)) (drop offset (data_of base o (moment_of t at) h))))) (value_at-agree base data_track o (moment_of t at) h k e)
     ∙ ap (λ bytes. judge base k t caller o right.Read at >>= λ grant. refuse_if (is_gone (value_at base data_track o (moment_of t at) k)) Flushed >> Ok (Data grant (take (min n (data_limit caller.version)) (drop offset bytes)))) (data_of-agree base o (moment_of t at) h k e)
 
-attributes_read-agree : (base : Base) (t : ℕ) (caller : Caller) (o : ObjectId) (at : Option ℕ) (h k : List Record) → AgreeOn o.purse h k → attributes_read base h t caller o at ≡ attributes_read base k t caller o at
+attributes_read-agree : (base : Base) (t : ℕ) (caller : Caller) (o : ObjectId) (at : Option ℕ) (h k : List Record) → AgreeOn o.purse h k → outcome_by_kind base h t caller (GetAttr o at) ≡ outcome_by_kind base k t caller (GetAttr o at)
 attributes_read-agree base t caller o at h k e =
     ap (λ j. j >>= λ grant. refuse_if (is_gone (value_at base attribute_track o (moment_of t at) h)) Flushed >> Ok (Attr grant (attributes_of base o (moment_of t at) h))) (judge-agree base t caller o right.Read at h k e)
     ∙ ap (λ v. judge base k t caller o right.Read at >>= λ grant. refuse_if (is_gone v) Flushed >> Ok (Attr grant (attributes_of base o (moment_of t at) h))) (value_at-agree base attribute_track o (moment_of t at) h k e)
     ∙ ap (λ bytes. judge base k t caller o right.Read at >>= λ grant. refuse_if (is_gone (value_at base attribute_track o (moment_of t at) k)) Flushed >> Ok (Attr grant bytes)) (attributes_of-agree base o (moment_of t at) h k e)
 
-entry_read_by_user-agree : (base : Base) (t : ℕ) (caller : Caller) (o : ObjectId) (user : ℕ) (at : Option ℕ) (h k : List Record) → AgreeOn o.purse h k → entry_read_by_user base h t caller o user at ≡ entry_read_by_user base k t caller o user at
+entry_read_by_user-agree : (base : Base) (t : ℕ) (caller : Caller) (o : ObjectId) (user : ℕ) (at : Option ℕ) (h k : List Record) → AgreeOn o.purse h k → outcome_by_kind base h t caller (GetAclByUser o user at) ≡ outcome_by_kind base k t caller (GetAclByUser o user at)
 entry_read_by_user-agree base t caller o user at h k e =
-    ap (λ j. j >>= λ grant. entry_by_user grant user (entry_of user (acl_of base o (moment_of t at) h))) (judge-agree base t caller o right.Read at h k e)
-    ∙ ap (λ acl. judge base k t caller o right.Read at >>= λ grant. entry_by_user grant user (entry_of user acl)) (acl_of-agree base o (moment_of t at) h k e)
+    let entry : Grant → Found → Result Reply Refusal = λ grant found. Ok (Entry grant found.index user found.rights) in
+    ap (λ j. j >>= λ grant. ok_or (entry_of user (acl_of base o (moment_of t at) h)) NoEntry >>= entry grant) (judge-agree base t caller o right.Read at h k e)
+    ∙ ap (λ acl. judge base k t caller o right.Read at >>= λ grant. ok_or (entry_of user acl) NoEntry >>= entry grant) (acl_of-agree base o (moment_of t at) h k e)
 
-entry_read_by_index-agree : (base : Base) (t : ℕ) (caller : Caller) (o : ObjectId) (index : ℕ) (at : Option ℕ) (h k : List Record) → AgreeOn o.purse h k → entry_read_by_index base h t caller o index at ≡ entry_read_by_index base k t caller o index at
+entry_read_by_index-agree : (base : Base) (t : ℕ) (caller : Caller) (o : ObjectId) (index : ℕ) (at : Option ℕ) (h k : List Record) → AgreeOn o.purse h k → outcome_by_kind base h t caller (GetAclByIndex o index at) ≡ outcome_by_kind base k t caller (GetAclByIndex o index at)
 entry_read_by_index-agree base t caller o index at h k e =
-    ap (λ j. j >>= λ grant. entry_by_index grant index (slice_get (acl_of base o (moment_of t at) h) index)) (judge-agree base t caller o right.Read at h k e)
-    ∙ ap (λ acl. judge base k t caller o right.Read at >>= λ grant. entry_by_index grant index (slice_get acl index)) (acl_of-agree base o (moment_of t at) h k e)
+    let entry : Grant → AclEntry → Result Reply Refusal = λ grant found. Ok (Entry grant index found.who found.rights) in
+    ap (λ j. j >>= λ grant. ok_or (slice_get (acl_of base o (moment_of t at) h) index) NoEntry >>= entry grant) (judge-agree base t caller o right.Read at h k e)
+    ∙ ap (λ acl. judge base k t caller o right.Read at >>= λ grant. ok_or (slice_get acl index) NoEntry >>= entry grant) (acl_of-agree base o (moment_of t at) h k e)
 
-data_appended-agree : (base : Base) (t : ℕ) (caller : Caller) (o : ObjectId) (bytes : List ℕ) (h k : List Record) → AgreeOn o.purse h k → data_appended base h t caller o bytes ≡ data_appended base k t caller o bytes
+data_appended-agree : (base : Base) (t : ℕ) (caller : Caller) (o : ObjectId) (bytes : List ℕ) (h k : List Record) → AgreeOn o.purse h k → outcome_by_kind base h t caller (Append o bytes) ≡ outcome_by_kind base k t caller (Append o bytes)
 data_appended-agree base t caller o bytes h k e =
     ap (λ j. refuse_if (nat_lt (data_limit caller.version) (length bytes)) TooLong >> (j >> (refuse_if (nat_lt (data_limit caller.version) (length (data_of base o t h) + length bytes)) TooLong >> Ok Done))) (judge-agree base t caller o right.Write None h k e)
     ∙ ap (λ old. refuse_if (nat_lt (data_limit caller.version) (length bytes)) TooLong >> (judge base k t caller o right.Write None >> (refuse_if (nat_lt (data_limit caller.version) (length old + length bytes)) TooLong >> Ok Done))) (data_of-agree base o t h k e)
 
-acl_set-agree : (base : Base) (t : ℕ) (caller : Caller) (o : ObjectId) (user rights : ℕ) (h k : List Record) → AgreeOn o.purse h k → acl_set base h t caller o user rights ≡ acl_set base k t caller o user rights
+acl_set-agree : (base : Base) (t : ℕ) (caller : Caller) (o : ObjectId) (user rights : ℕ) (h k : List Record) → AgreeOn o.purse h k → outcome_by_kind base h t caller (SetAcl o user rights) ≡ outcome_by_kind base k t caller (SetAcl o user rights)
 acl_set-agree base t caller o user rights h k e =
     ap (λ j. j >> (settable user rights (acl_of base o t h) >> Ok Done)) (judge-agree base t caller o right.Control None h k e)
     ∙ ap (λ acl. judge base k t caller o right.Control None >> (settable user rights acl >> Ok Done)) (acl_of-agree base o t h k e)
 
-name_bound-agree : (base : Base) (t : ℕ) (caller : Caller) (name : List ℕ) (o : ObjectId) (h k : List Record) → AgreeOn o.purse h k → name_bound base h t caller name o ≡ name_bound base k t caller name o
+name_bound-agree : (base : Base) (t : ℕ) (caller : Caller) (name : List ℕ) (o : ObjectId) (h k : List Record) → AgreeOn o.purse h k → outcome_by_kind base h t caller (PCreate name o) ≡ outcome_by_kind base k t caller (PCreate name o)
 name_bound-agree base t caller name o h k e =
     ap (λ j. j >> (refuse_if (is_some (bound_at base o.purse name t h)) Exists >> (refuse_if (nat_le 64 (bound_count base o.purse t h)) PartsFull >> Ok Done))) (judge-agree base t caller o right.Control None h k e)
     ∙ ap (λ b. judge base k t caller o right.Control None >> (refuse_if (is_some b) Exists >> (refuse_if (nat_le 64 (bound_count base o.purse t h)) PartsFull >> Ok Done))) (bound_at-agree base o.purse name t h k e)
     ∙ ap (λ n. judge base k t caller o right.Control None >> (refuse_if (is_some (bound_at base o.purse name t k)) Exists >> (refuse_if (nat_le 64 n) PartsFull >> Ok Done))) (bound_count-agree base o.purse t h k e)
 
-name_unbound-agree : (base : Base) (t : ℕ) (caller : Caller) (purse : Purse) (name : List ℕ) (h k : List Record) → AgreeOn purse h k → name_unbound base h t caller purse name ≡ name_unbound base k t caller purse name
+name_unbound-agree : (base : Base) (t : ℕ) (caller : Caller) (purse : Purse) (name : List ℕ) (h k : List Record) → AgreeOn purse h k → outcome_by_kind base h t caller (PDelete purse name) ≡ outcome_by_kind base k t caller (PDelete purse name)
 name_unbound-agree base t caller purse name h k e =
     ap (λ b. found_bound caller purse right.Control b >>= λ serial. (judge base h t caller (object_in purse serial) right.Control None >> Ok Done)) (bound_at-agree base purse name t h k e)
     ∙ ap (λ f. found_bound caller purse right.Control (bound_at base purse name t k) >>= f)
     (fun_ext (λ serial. ap (λ j. j >> Ok Done) (judge-agree base t caller (object_in purse serial) right.Control None h k e)))
 
-name_mounted-agree : (base : Base) (t : ℕ) (caller : Caller) (purse : Purse) (name : List ℕ) (at : Option ℕ) (h k : List Record) → AgreeOn purse h k → name_mounted base h t caller purse name at ≡ name_mounted base k t caller purse name at
-name_mounted-agree base t caller purse name at h k e =
-    ap (λ b. found_bound caller purse right.Read b >>= λ serial. (judge base h t caller (object_in purse serial) right.Read at >>= λ grant. Ok (Mounted grant (object_in purse serial)))) (bound_at-agree base purse name (moment_of t at) h k e)
+pub mountable-agree : (base : Base) (t : ℕ) (caller : Caller) (purse : Purse) (name : List ℕ) (at : Option ℕ) (h k : List Record) → AgreeOn purse h k → mountable base h t caller purse name at ≡ mountable base k t caller purse name at
+mountable-agree base t caller purse name at h k e =
+    let line : ℕ → Grant → Result NameLine Refusal = λ serial grant. Ok (record { name = name; object = object_in purse serial; grant = grant }) in
+    ap (λ b. found_bound caller purse right.Read b >>= λ serial. (judge base h t caller (object_in purse serial) right.Read at >>= line serial)) (bound_at-agree base purse name (moment_of t at) h k e)
     ∙ ap (λ f. found_bound caller purse right.Read (bound_at base purse name (moment_of t at) k) >>= f)
-    (fun_ext (λ serial. ap (λ j. j >>= λ grant. Ok (Mounted grant (object_in purse serial))) (judge-agree base t caller (object_in purse serial) right.Read at h k e)))
+    (fun_ext (λ serial. ap (λ j. j >>= line serial) (judge-agree base t caller (object_in purse serial) right.Read at h k e)))
+
+name_mounted-agree : (base : Base) (t : ℕ) (caller : Caller) (purse : Purse) (name : List ℕ) (at : Option ℕ) (h k : List Record) → AgreeOn purse h k → outcome_by_kind base h t caller (PMount purse name at) ≡ outcome_by_kind base k t caller (PMount purse name at)
+name_mounted-agree base t caller purse name at h k e = ap (λ found. found >>= λ line. Ok (Mounted line.grant line.object)) (mountable-agree base t caller purse name at h k e)
 
 -- ALL KINDS
 

@@ -6,7 +6,7 @@ use Rattle.s4_types.specs.declared.record.Record.{Record}
 use Rattle.s4_types.specs.declared.request.Request.{Request}
 use Rattle.s4_types.specs.declared.request.Request.TheVariants.{Flush, SetWindow}
 use Rattle.s4_laws.specs.Agree.{AgreeOn}
-use Rattle.s4_types.specs.Kinds.{concerns, concerns_all, purse_of, only_reads, is_accepted, is_refused, is_about, is_that, is_wide}
+use Rattle.s4_types.specs.Kinds.{concerns, concerns_all, purse_of, only_reads, is_accepted, is_refused, is_about, is_wide}
 use Rattle.s4_types.specs.Strike.{is_elsewhere}
 use Rattle.s4_laws.specs.Kept.{is_kept, without_strangers}
 use Rattle.s4_types.proofs.Booleans.{by_test, both}
@@ -73,7 +73,7 @@ accepted-kept who near r a e =
     (not-true (only_reads r.request) (both (not (is_refused r.reply)) (not (only_reads r.request)) a).1)
     e
 
-elsewhere-near : (near : Purse → Bool) (purse : Purse) (place : Option Purse) (wide : Bool) → near purse ≡ true → is_that purse place ≡ true → is_elsewhere near place wide ≡ false
+elsewhere-near : (near : Purse → Bool) (purse : Purse) (place : Option Purse) (wide : Bool) → near purse ≡ true → is_about purse place ≡ true → is_elsewhere near place wide ≡ false
 elsewhere-near near purse (Some other) wide e f = ap (λ x. not (near x)) (purse_is other purse f) ∙ ap not e
 elsewhere-near near purse None wide e f = cc
 
@@ -89,10 +89,10 @@ wide-somewhere near caller request e = ap (λ place. is_elsewhere near place (is
 -- what concerns a near purse is no stranger's
 concerns-kept : (who : ℕ) (near : Purse → Bool) (purse : Purse) → near purse ≡ true → (r : Record) → concerns purse r ≡ true → is_kept who near r ≡ true
 concerns-kept who near purse n r e =
-    let parts = both (is_accepted r) (is_wide r.caller r.request || is_about purse r.caller r.request) e in
+    let parts = both (is_accepted r) (is_wide r.caller r.request || is_about purse (purse_of r.caller r.request)) e in
     accepted-kept who near r parts.0 (by_test (is_wide r.caller r.request)
     (λ wide. wide-somewhere near r.caller r.request wide)
-    (λ one. elsewhere-near near purse (purse_of r.caller r.request) (is_wide r.caller r.request) n (sym (ap (λ b. b || is_about purse r.caller r.request) one) ∙ parts.1)))
+    (λ one. elsewhere-near near purse (purse_of r.caller r.request) (is_wide r.caller r.request) n (sym (ap (λ b. b || is_about purse (purse_of r.caller r.request)) one) ∙ parts.1)))
 
 -- nor is what concerns all purses
 concerns_all-kept : (who : ℕ) (near : Purse → Bool) (r : Record) → concerns_all r ≡ true → is_kept who near r ≡ true

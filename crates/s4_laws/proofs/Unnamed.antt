@@ -1,5 +1,5 @@
 -- No entry serves a principal in the ACLs of a purse in which nobody named it or everyone.
-use Rattle.std.proofs.Common.{◌≡◌, ℕ, Bool, true, false, cond, not, ◌&&◌, ◌||◌, nat_le, ◌==◌, Option, Some, None, List, [], ◌∷◌, fold, refl, ap, sym, subst, ◌∙◌}
+use Rattle.std.proofs.Common.{◌≡◌, ℕ, Bool, true, false, cond, not, ◌&&◌, ◌||◌, nat_le, Option, Some, None, List, [], ◌∷◌, fold, refl, ap, sym, subst, ◌∙◌}
 use Rattle.std.specs.Option.{option_map}
 use Rattle.s4_types.specs.declared.object.Purse.{Purse}
 use Rattle.s4_types.specs.declared.object.ObjectId.{ObjectId}
@@ -9,7 +9,7 @@ use Rattle.s4_types.specs.declared.request.Request.{Request}
 use Rattle.s4_types.specs.declared.request.Request.TheVariants.{SetAcl}
 use Rattle.s4_types.specs.Acl.{acl_with}
 use Rattle.s4_types.specs.Names.{same_object}
-use Rattle.s4_types.specs.Kinds.{concerns, is_accepted, is_wide, is_about}
+use Rattle.s4_types.specs.Kinds.{concerns, is_accepted, is_wide, is_about, purse_of}
 use Rattle.s4_types.specs.Versions.{Value, versions, versions_after, after_mutation, after_change, span_of, makes, deletes, begun, on_current, with_value, with_effect, with_end, only_kept, ends_by, in_force_by, acl_track, acl_effect}
 use Rattle.s4_types.specs.Base.{Base}
 use Rattle.s4_types.specs.Judgement.{Held, held_of, held_at, reaches}
@@ -18,6 +18,7 @@ use Rattle.s4_types.proofs.Erasing.{flushed-whole}
 use Rattle.s4_types.proofs.SameNames.{object_is}
 use Rattle.s4_laws.proofs.Entryless.{serves, acl_with-lacks}
 use Rattle.s4_laws.proofs.Strangers.{Each, not-true}
+use Rattle.std.specs.Bool.{then_some}
 
 -- RECORDS THAT NAME NOBODY ELSEWHERE
 
@@ -56,7 +57,7 @@ other-than user who near changed o n f e =
 effect-lacks : (who : ℕ) (near : Purse → Bool) (o : ObjectId) (request : Request) (acl : List AclEntry) → near o.purse ≡ false → names_elsewhere who near request ≡ false → serves who acl ≡ false → OptionLacks who (acl_effect o request acl)
 effect-lacks who near o (SetAcl changed user rights) acl n f e = of (same_object changed o) (other-than user who near changed o n f)
   where
-    of : (b : Bool) → (b ≡ true → reaches who user ≡ false) → OptionLacks who (cond b (Some (acl_with user rights acl)) None)
+    of : (b : Bool) → (b ≡ true → reaches who user ≡ false) → OptionLacks who (then_some b (acl_with user rights acl))
     of true other = acl_with-lacks who user rights acl (other refl) e
     of false other = tt
 effect-lacks who near o _ acl n f e = tt
@@ -97,7 +98,7 @@ fold-lacks who near o a (r ∷ h) s values e = fold-lacks who near o a h s.1 (ve
     of : (b : Bool) → concerns o.purse r ≡ b → Each (is_without who) (cond b (after_change acl_track o values r) values)
     of true c =
         change-lacks who near o r values a
-        (accepted-sound (is_accepted r) (names_elsewhere who near r.request) s.0 (both (is_accepted r) (is_wide r.caller r.request || is_about o.purse r.caller r.request) c).0) e
+        (accepted-sound (is_accepted r) (names_elsewhere who near r.request) s.0 (both (is_accepted r) (is_wide r.caller r.request || is_about o.purse (purse_of r.caller r.request)) c).0) e
     of false c = e
 
 -- IN FORCE

@@ -1,9 +1,10 @@
 //! What is told of object 7.0.1 by an ACL that is in force since 20.
 
+use crate::acl::given;
 use crate::values::{object, principal};
-use s4_acl::set;
 use s4_judge::{Held, judge_now, judge_past};
-use s4_types::{Acl, Caller, Grant, Moment, Refusal, Right, Rights, User, WireVersion};
+use s4_types::{Acl, Caller, Grant, Moment, Refusal, Right, User, WireVersion};
+use std::alloc::Global;
 use std::test::Fail;
 
 #[derive(Clone, Copy)]
@@ -73,11 +74,10 @@ const ROWS: [(u32, Entries, Asked, Told); 23] = [
 ];
 
 /// An ACL of these entries.
-fn acl(entries: Entries) -> Result<Acl, Fail> {
-    let mut acl = Acl::empty();
+fn acl(alloc: Global, entries: Entries) -> Result<Acl, Fail> {
+    let mut acl = Acl::empty(alloc);
     for (user, rights) in entries {
-        let rights = Rights::new(*rights).ok_or("rights")?;
-        acl = set(&acl, User::new(*user), rights).map_err(|_| "an ACL")?;
+        acl = given(alloc, &acl, User::new(*user), *rights)?;
     }
     Ok(acl)
 }
@@ -112,7 +112,7 @@ fn wanted(told: &Told) -> Result<Grant, Refusal> {
 #[test]
 fn who_is_told_what_now_and_of_the_past(rt: HostRuntime) -> Result<(), Fail> {
     for (index, (who, entries, asked, told)) in ROWS.iter().enumerate() {
-        let judged = judged(*who, &acl(entries)?, *asked)?;
+        let judged = judged(*who, &acl(rt.alloc(), entries)?, *asked)?;
         assert_eq!(rt; judged, wanted(told), "row {index}");
     }
     Ok(())

@@ -19,7 +19,7 @@ const EXPIRED: [(u64, u64, u64, bool); 3] = [(6, 9, 1, true), (7, 2, 2, true), (
 fn one_byte(alloc: Global) -> Result<Item, Fail>
     ensures { IfOk result (λ item. IsSmall item) }
 {
-    Ok(Item::Data(Bytes::new(vec![in alloc; b'a']?)))
+    Ok(Item::Data(Bytes::from_slice(alloc, b"a")?))
 }
 
 /// The begin, the end and whether it is held, of the value of an object's data now or at a moment.

@@ -10,16 +10,53 @@ use std::process::Abort;
 use std::test::Fail;
 
 fn bytes(alloc: Global, text: &[u8]) -> Result<Bytes, Fail> {
-    Ok(Bytes::new(Vec::from_slice(alloc, text)?))
+    Ok(Bytes::from_slice(alloc, text)?)
 }
 
 /// That bytes stay as given, none and five.
-fn check_bytes(rt: &impl Abort, empty: &Bytes, hello: Bytes) {
+fn check_bytes(rt: &impl Abort, empty: &Bytes, hello: &Bytes) {
     assert!(rt; empty.is_empty() && empty.len() == 0);
-    assert!(rt; !hello.is_empty() && hello.len() == 5 && hello != *empty);
+    assert!(rt; !hello.is_empty() && hello.len() == 5 && *hello != *empty);
     assert!(rt; hello.as_slice() == b"hello".as_slice());
-    assert!(rt; hello.copy().is_ok_and(|copy| copy == hello));
-    assert!(rt; hello.into_vec().as_slice() == b"hello".as_slice());
+    assert!(rt; hello.copy().is_ok_and(|copy| copy == *hello));
+}
+
+/// Parts of `hello`, from where to where: at least half of it, which share its block, and less.
+const PARTS: [(usize, usize, &[u8]); 7] = [
+    (0, 5, b"hello"),
+    (0, 3, b"hel"),
+    (2, 5, b"llo"),
+    (1, 4, b"ell"),
+    (0, 2, b"he"),
+    (3, 5, b"lo"),
+    (2, 3, b"l"),
+];
+
+fn check_parts(rt: &impl Abort, alloc: Global, hello: &Bytes) -> Result<(), Fail> {
+    for (start, end, wanted) in PARTS {
+        assert!(rt; start <= end && end <= hello.len());
+        let part = hello.part(alloc, start, end)?;
+        assert_eq!(rt; part.as_slice(), wanted);
+    }
+    Ok(())
+}
+
+/// That no bytes are a part of any, and of none.
+fn check_no_part(rt: &impl Abort, alloc: Global, bytes: &Bytes) -> Result<(), Fail> {
+    for at in [0, bytes.len()] {
+        let part = bytes.part(alloc, at, at)?;
+        assert!(rt; part.is_empty() && part == Bytes::new(), "at {at}");
+    }
+    Ok(())
+}
+
+#[test]
+fn parts_are_what_stands_there(rt: HostRuntime) -> Result<(), Fail> {
+    let alloc = rt.alloc();
+    let hello = Bytes::from_vec(Vec::from_slice(alloc, b"hello")?)?;
+    check_parts(&rt, alloc, &hello)?;
+    check_no_part(&rt, alloc, &hello)?;
+    check_no_part(&rt, alloc, &Bytes::new())
 }
 
 /// What is asked.
@@ -164,7 +201,7 @@ fn check_replies(rt: &impl Abort, bytes: Bytes, lines: NameLines) {
 #[test]
 fn bytes_and_lists_and_replies_stay_as_given(rt: HostRuntime) -> Result<(), Fail> {
     let alloc = rt.alloc();
-    check_bytes(&rt, &bytes(alloc, b"")?, bytes(alloc, b"hello")?);
+    check_bytes(&rt, &Bytes::new(), &bytes(alloc, b"hello")?);
     let none = NameLines::new(Vec::new(alloc));
     check_list(&rt, &listed(alloc)?, &none, &[home_line()?]);
     check_replies(&rt, bytes(alloc, b"hello")?, listed(alloc)?);

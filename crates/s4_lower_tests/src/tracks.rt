@@ -81,11 +81,11 @@ const EXPIRED: [Step; 10] = [
 fn data(alloc: Global, text: &str) -> Result<Item, Fail>
     ensures { IfOk result (λ item. IsSmall item) }
 {
-    let bytes = Vec::from_slice(alloc, text.as_bytes())?;
+    let bytes = Bytes::from_slice(alloc, text.as_bytes())?;
     if bytes.len() > 1 {
         Err("one byte at most")?;
     }
-    Ok(Item::Data(Bytes::new(bytes)))
+    Ok(Item::Data(bytes))
 }
 
 fn begin(

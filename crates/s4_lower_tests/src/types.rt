@@ -5,6 +5,7 @@ use s4_types::{
     Acl, AclEntry, Moment, Name, Principal, PurseNo, Refusal, Reply, Right, Rights, Serial, User,
     WireVersion,
 };
+use std::alloc::Global;
 use std::cmp::Ordering;
 use std::process::Abort;
 use std::test::Fail;
@@ -21,12 +22,14 @@ enum Number {
     Right(Right),
     /// The number that a refusal has.
     Refusal(Refusal),
+    /// The number that a version has.
+    Version(WireVersion),
     /// The number of bytes that a version's requests may name.
     DataLimit(WireVersion),
 }
 
 /// Numbers, and what is told of them when they are taken.
-const NUMBERS: [(Number, Option<u64>); 29] = [
+const NUMBERS: [(Number, Option<u64>); 31] = [
     (Number::Principal(0), Some(0)),
     (Number::Principal(4294967294), Some(4294967294)),
     (Number::Principal(4294967295), None),
@@ -54,6 +57,8 @@ const NUMBERS: [(Number, Option<u64>); 29] = [
     (Number::Refusal(Refusal::Flushed), Some(6)),
     (Number::Refusal(Refusal::NamesSpent), Some(13)),
     (Number::Refusal(Refusal::BadRange), Some(15)),
+    (Number::Version(WireVersion::One), Some(1)),
+    (Number::Version(WireVersion::Two), Some(2)),
     (Number::DataLimit(WireVersion::One), Some(4096)),
     (Number::DataLimit(WireVersion::Two), Some(65536)),
 ];
@@ -68,6 +73,7 @@ fn told(number: &Number) -> Option<u64> {
         Number::Tick(tick) => Some(Moment::new(tick).tick()),
         Number::Right(right) => Some(u64::from(right.number())),
         Number::Refusal(refusal) => Some(u64::from(refusal.number())),
+        Number::Version(version) => Some(u64::from(version.number())),
         Number::DataLimit(version) => Some(u64::from(version.data_limit())),
     }
 }
@@ -83,12 +89,10 @@ const RIGHTS: [(Right, bool, bool); 6] = [
 ];
 
 /// Facts of single values, each with what it says: of principal 1, principal 7 and the rights 31.
-fn facts(other: Principal, who: Principal, rights: Rights) -> [(&'static str, bool); 17] {
+fn facts(other: Principal, who: Principal, rights: Rights) -> [(&'static str, bool); 14] {
     let (early, late) = (Moment::new(5), Moment::new(u64::MAX));
     let administrator = Principal::administrator();
-    let (own, everyone) = (User::of(who), User::everyone());
-    let entries = [AclEntry { who: own, rights }];
-    let acl = Acl::of_creator(who);
+    let (own, everyone) = (User::from(who), User::everyone());
     [
         ("5 is early", early < late),
         ("equal moments", early == Moment::new(5)),
@@ -102,9 +106,6 @@ fn facts(other: Principal, who: Principal, rights: Rights) -> [(&'static str, bo
         ("number of all rights", Rights::all().number() == 31),
         ("rights 31", !rights.is_empty()),
         ("no rights", Rights::none().is_empty()),
-        ("a creator's ACL", acl.entries() == entries.as_slice()),
-        ("its copy", acl.copy().entries() == entries.as_slice()),
-        ("an empty ACL", Acl::empty().entries().is_empty()),
         ("number of done", Reply::Done.number() == 0),
         ("done", !Reply::Done.is_refused()),
     ]
@@ -114,6 +115,26 @@ fn check_facts(rt: &impl Abort, other: Principal, who: Principal, rights: Rights
     for (what, holds) in facts(other, who, rights) {
         assert!(rt; holds, "{what}");
     }
+}
+
+/// That a creator's ACL gives the rights, and its copy too.
+fn check_acls(
+    rt: &impl Abort,
+    alloc: Global,
+    creator: Principal,
+    rights: Rights,
+) -> Result<(), Fail> {
+    let wanted = [AclEntry {
+        who: User::from(creator),
+        rights,
+    }];
+    let acl = Acl::of_creator(alloc, creator)?;
+    assert!(rt; acl.entries() == wanted.as_slice(), "a creator's ACL");
+    let copy = acl.copy()?;
+    assert!(rt; copy.entries() == wanted.as_slice(), "its copy");
+    let empty = Acl::empty(alloc);
+    assert!(rt; empty.entries().is_empty(), "an empty ACL");
+    Ok(())
 }
 
 fn check_rights(rt: &impl Abort, some: Rights) {
@@ -139,7 +160,7 @@ fn numbers_and_rights_have_their_borders(rt: HostRuntime) -> Result<(), Fail> {
     check_rights(&rt, Rights::new(18).ok_or("rights")?);
     let rights = Rights::new(31).ok_or("rights")?;
     check_facts(&rt, principal(1)?, principal(7)?, rights);
-    Ok(())
+    check_acls(&rt, rt.alloc(), principal(7)?, rights)
 }
 
 /// Texts, and whether they are names.

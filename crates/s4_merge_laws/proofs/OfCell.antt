@@ -9,11 +9,11 @@ use Rattle.s4_types.specs.declared.record.Record.{Record}
 use Rattle.s4_types.specs.declared.request.After.{After}
 use Rattle.s4_types.specs.declared.request.Request.{Request}
 use Rattle.s4_types.specs.declared.request.Request.TheVariants.{PList, Flush, SetWindow, ReadAudit}
-use Rattle.s4_types.specs.Answer.{outcome, outcome_by_kind, purse_numbers, page_of, names_listed, audited, audit_read}
+use Rattle.s4_types.specs.Answer.{outcome, outcome_by_kind, purse_numbers, page_of, audited}
 use Rattle.s4_types.specs.Audit as audit
 use Rattle.s4_types.specs.Base.{Base}
 use Rattle.s4_types.specs.Horizon.{horizon_at}
-use Rattle.s4_types.specs.Kinds.{purse_of, principal_of, creator_or, range_of, is_wide, is_that, is_about, is_accepted, concerns, concerns_all}
+use Rattle.s4_types.specs.Kinds.{purse_of, range_of, is_wide, is_about, is_accepted, concerns, concerns_all}
 use Rattle.s4_types.proofs.Booleans.{both, by_test, ||-true}
 use Rattle.s4_types.proofs.SameNames.{purse_is}
 use Rattle.s4_laws.specs.Agree.{AgreeOn}
@@ -23,6 +23,7 @@ use Rattle.s4_laws.proofs.Strangers.{filter-filter}
 use Rattle.s4_laws.proofs.Pages.{lines-agree}
 use Rattle.s4_laws.proofs.KeptAnswer.{placeless-same}
 use Rattle.s4_merge_laws.specs.Cells.{is_in_cell, records_in}
+use Rattle.std.specs.Prelude.{option_map, unwrap_or}
 
 -- WHAT A CELL HAS
 
@@ -32,18 +33,24 @@ wide-in cells cell r e = ap (λ b. b || (range_of r.caller r.request % cells == 
 pub own-in : (cells cell : ℕ) (r : Record) → range_of r.caller r.request % cells ≡ cell → is_in_cell cells cell r ≡ true
 own-in cells cell r e = ap (λ b. is_wide r.caller r.request || b) (eq-eqb (range_of r.caller r.request % cells) cell e) ∙ ||-true (is_wide r.caller r.request)
 
-creator-of : (principal : ℕ) (purse : Purse) (place : Option Purse) → is_that purse place ≡ true → creator_or principal place ≡ purse.creator
-creator-of principal purse (Some other) e = ap (λ p. p.creator) (purse_is other purse e)
-creator-of principal purse None e = cc
+-- a request that has a purse lies in the range of the purse's creator
+range-there : (caller : Caller) (request : Request) (purse : Purse) → purse_of caller request ≡ Some purse → range_of caller request ≡ purse.creator
+range-there caller (PList range after at) purse e = cc
+range-there caller (ReadAudit range skip) purse e = cc
+range-there caller request purse e = ap (λ place. unwrap_or (option_map (λ (p : Purse). p.creator) place) caller.who) e
+
+range-about : (caller : Caller) (request : Request) (purse : Purse) (place : Option Purse) → purse_of caller request ≡ place → is_about purse place ≡ true → range_of caller request ≡ purse.creator
+range-about caller request purse (Some other) e f = range-there caller request other e ∙ ap (λ p. p.creator) (purse_is other purse f)
+range-about caller request purse None e f = cc
 
 -- what concerns a purse is in the purse's cell
 concerns-in : (cells cell : ℕ) (purse : Purse) → purse.creator % cells ≡ cell → (r : Record) → concerns purse r ≡ true → is_in_cell cells cell r ≡ true
 concerns-in cells cell purse here r e =
-    let parts = both (is_accepted r) (is_wide r.caller r.request || is_about purse r.caller r.request) e in
+    let parts = both (is_accepted r) (is_wide r.caller r.request || is_about purse (purse_of r.caller r.request)) e in
     by_test (is_wide r.caller r.request)
     (λ wide. wide-in cells cell r wide)
     (λ one. own-in cells cell r
-    (ap (λ n. n % cells) (creator-of (principal_of r.caller r.request) purse (purse_of r.caller r.request) (sym (ap (λ b. b || is_about purse r.caller r.request) one) ∙ parts.1))
+    (ap (λ n. n % cells) (range-about r.caller r.request purse (purse_of r.caller r.request) refl (sym (ap (λ b. b || is_about purse (purse_of r.caller r.request)) one) ∙ parts.1))
     ∙ here))
 
 -- and what concerns all purses is in each cell
@@ -58,7 +65,7 @@ all-agree cells cell h = filter-filter concerns_all (is_in_cell cells cell) (con
 
 -- PAGES
 
-listed-here : (base : Base) (cells cell t : ℕ) (caller : Caller) (range : ℕ) (after : Option After) (at : Option ℕ) (h : List Record) → range % cells ≡ cell → names_listed base (records_in cells cell h) t caller range after at ≡ names_listed base h t caller range after at
+listed-here : (base : Base) (cells cell t : ℕ) (caller : Caller) (range : ℕ) (after : Option After) (at : Option ℕ) (h : List Record) → range % cells ≡ cell → outcome_by_kind base (records_in cells cell h) t caller (PList range after at) ≡ outcome_by_kind base h t caller (PList range after at)
 listed-here base cells cell t caller range after at h here =
     ap (λ lines. Ok (page_of (flat_map lines purse_numbers)))
     (fun_ext (λ number. lines-agree base t caller after at (record { creator = range; number = number }) (records_in cells cell h) h (purse-agree cells cell (record { creator = range; number = number }) h here)))
@@ -73,7 +80,7 @@ shown-in cells cell caller range horizon r here e =
     (ap (λ n. n % cells) (eqb-true (range_of r.caller r.request) range (sym (ap (λ b. b || (range_of r.caller r.request == range)) one) ∙ there))
     ∙ here))
 
-audit-here : (base : Base) (cells cell t : ℕ) (caller : Caller) (range skip : ℕ) (h : List Record) → range % cells ≡ cell → audit_read base (records_in cells cell h) t caller range skip ≡ audit_read base h t caller range skip
+audit-here : (base : Base) (cells cell t : ℕ) (caller : Caller) (range skip : ℕ) (h : List Record) → range % cells ≡ cell → outcome_by_kind base (records_in cells cell h) t caller (ReadAudit range skip) ≡ outcome_by_kind base h t caller (ReadAudit range skip)
 audit-here base cells cell t caller range skip h here =
     ap (λ horizon. Ok (audited (audit.audit_page caller range skip horizon (records_in cells cell h)))) (horizon_at-agree base t (records_in cells cell h) h (all-agree cells cell h))
     ∙ ap (λ records. Ok (audited (audit.page_of (drop skip records))))
@@ -90,7 +97,7 @@ by_kind-here base cells cell t caller _ h e here = cc
 
 at-place : (base : Base) (cells cell t : ℕ) (caller : Caller) (request : Request) (h : List Record) (place : Option Purse) → purse_of caller request ≡ place → range_of caller request % cells ≡ cell → outcome base (records_in cells cell h) t caller request ≡ outcome base h t caller request
 at-place base cells cell t caller request h (Some purse) e here =
-    let creator : range_of caller request ≡ purse.creator = ap (creator_or (principal_of caller request)) e in
+    let creator : range_of caller request ≡ purse.creator = range-there caller request purse e in
     let agree : AgreeOn purse (records_in cells cell h) h = purse-agree cells cell purse h (ap (λ n. n % cells) (sym creator) ∙ here) in
     outcome-agree base t caller request (records_in cells cell h) h (rw e agree) (all-agree cells cell h)
 at-place base cells cell t caller request h None e here =

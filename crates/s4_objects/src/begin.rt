@@ -1,14 +1,14 @@
 //! The chains of an object, as they are opened and closed.
 
-ghost use Rattle.std.specs.Prelude.{◌≡◌, ◌+◌, ◌≤◌, IfOk, OnErr};
+ghost use Rattle.std.specs.Prelude.{◌≡◌, ℕ, ◌+◌, ◌≤◌, IfOk, OnErr};
+ghost use Rattle.s4_types.specs.Acl.{first_acl};
 ghost use Rattle.s4_store.specs.Chains.{Chains, item_count};
 ghost use Rattle.s4_objects.specs.Opening.{OpensTwo, Opens, Begins, IsHollow, without};
 
 use crate::kept::Kept;
 use s4_store::{Chain, Store};
 use s4_tracks::Track;
-use s4_types::{Acl, Bytes, Item, Moment, NoMemory, Principal, Version};
-use std::alloc::Global;
+use s4_types::{Acl, Bytes, Item, Moment, NoMemory, Version};
 
 /// Opens a chain for each track of an object.
 pub fn open<S: Store<Version>>(store: &mut S) -> Result<Kept, NoMemory>
@@ -31,7 +31,8 @@ pub fn open<S: Store<Version>>(store: &mut S) -> Result<Kept, NoMemory>
 }
 
 fn open_two<S: Store<Version>>(store: &mut S) -> Result<(Chain, Chain), NoMemory>
-    ensures ok { IfOk result (λ two. OpensTwo (S.chains store.old) (S.chains store.new) two.0 two.1) }
+    ensures ok { IfOk result (λ two. OpensTwo (S.chains store.old)
+        (S.chains store.new) two.0 two.1) }
     ensures err { OnErr result (S.chains store.new ≡ S.chains store.old) }
     ensures room { S.room store.new ≡ S.room store.old }
 {
@@ -57,25 +58,19 @@ pub fn close<S: Store<Version>>(store: &mut S, kept: &Kept)
     store.close(kept.data.chain);
 }
 
-/// Puts the first values on an object's tracks, in room that was reserved.
-pub fn begin<S: Store<Version>>(
-    alloc: Global,
-    store: &mut S,
-    kept: &Kept,
-    moment: Moment,
-    creator: Principal,
-)
+/// Puts the first values on an object's tracks, in room that was reserved. Takes no memory.
+pub fn begin<S: Store<Version>>(store: &mut S, kept: &Kept, moment: Moment, acl: Acl)
     requires opened { (before : Chains Version) × Opens before (S.chains store.old) kept.now }
     requires room { 3 ≤ S.room store.old }
-    ensures begins { (before : Chains Version) → Opens before (S.chains store.old) kept.now
-        → Begins before (S.chains store.new) kept.now moment creator }
+    ensures begins { (before : Chains Version) (creator : ℕ)
+        → Opens before (S.chains store.old) kept.now
+        → acl ≡ first_acl creator → Begins before (S.chains store.new) kept.now moment creator }
     ensures used { item_count (S.chains store.new) ≡ item_count (S.chains store.old) + 3 }
     ensures room { S.room store.new + 3 ≡ S.room store.old }
 {
-    let data = Item::Data(Bytes::new(Vec::new(alloc)));
+    let data = Item::Data(Bytes::new());
     kept.data.begin(store, moment, data);
-    let attributes = Item::Attr(Bytes::new(Vec::new(alloc)));
+    let attributes = Item::Attr(Bytes::new());
     kept.attributes.begin(store, moment, attributes);
-    let acl = Item::Acl(Acl::of_creator(creator));
-    kept.acl.begin(store, moment, acl);
+    kept.acl.begin(store, moment, Item::Acl(acl));
 }

@@ -21,10 +21,13 @@ pub struct Ended {
 pub fn take_gone(ends: &mut VecDeque<Ended>, horizon: Moment) -> Option<Ended>
     ensures taken { IfSome result (λ e. ends.old.items ≡ e ∷ ends.new.items) }
     ensures gone { IfSome result (λ e. is_gone horizon e.end ≡ true) }
-    ensures none { IfNone result (list_any (is_gone horizon) (take 1 (all_ends ends.old.items)) ≡ false) }
+    ensures none { IfNone result
+        (list_any (is_gone horizon) (take 1 (all_ends ends.old.items)) ≡ false) }
     ensures same { IfNone result (ends.new.items ≡ ends.old.items) }
-    ensures room { OnSome result (deque_capacity ends.new - deque_len ends.new ≡ deque_capacity ends.old - deque_len ends.old + 1) }
-    ensures same_room { IfNone result (deque_capacity ends.new - deque_len ends.new ≡ deque_capacity ends.old - deque_len ends.old) }
+    ensures room { OnSome result (deque_capacity ends.new - deque_len ends.new
+        ≡ deque_capacity ends.old - deque_len ends.old + 1) }
+    ensures same_room { IfNone result (deque_capacity ends.new - deque_len ends.new
+        ≡ deque_capacity ends.old - deque_len ends.old) }
 {
     if begins_gone(ends, horizon) {
         ends.pop_front()

@@ -1,6 +1,6 @@
 //! Flushes: values of the past lose their items, on all objects or on one.
 
-ghost use Rattle.std.specs.Prelude.{◌≡◌, ◌+◌, ◌≤◌, ◌==◌, ℕ, true, false, length, vec_capacity, count_by, sum_by, [], ◌++◌, IfOk, IsOk, OnOk, OnErr};
+ghost use Rattle.std.specs.Prelude.{◌≡◌, ◌+◌, ◌≤◌, ◌==◌, ℕ, true, false, length, vec_capacity, count_by, [], ◌++◌, IsOk, OnOk, OnErr};
 ghost use Rattle.std.specs.BTreeMap.{get};
 ghost use Rattle.std.specs.FinMap as finmap;
 ghost use Rattle.s4_types.specs.Names.{same_object};
@@ -26,9 +26,9 @@ pub struct Refund {
 }
 
 /// Erases the past values of all objects' data and attributes that begin at or after `from` and end
-/// at or before `to`, and puts what that takes back of the purses' charges into a list that is empty.
-/// It looks at each value that is held. It takes no memory where the list has room for as many as the
-/// store holds.
+/// at or before `to`, and puts what that takes back of the purses' charges into a list that is
+/// empty. It looks at each value that is held. It takes no memory where the list has room for as
+/// many as the store holds.
 pub fn flush<S: Store<Version>>(
     store: &mut S,
     objects: &BTreeMap<ObjectId, Kept>,
@@ -38,7 +38,8 @@ pub fn flush<S: Store<Version>>(
 ) -> Result<(), NoMemory>
     requires chained { Chained (S.chains store.old) (get object_cmp objects.now) }
     requires empty { refunds.old.items ≡ [] }
-    ensures ok { OnOk result (Flushes (S.chains store.old) (S.chains store.new) (get object_cmp objects.now)
+    ensures ok { OnOk result (Flushes (S.chains store.old) (S.chains store.new)
+        (get object_cmp objects.now)
         (λ o. true) from to refunds.new.items) }
     ensures err { OnErr result (S.chains store.new ≡ S.chains store.old) }
     ensures none { OnErr result (refunds.new.items ≡ []) }
@@ -55,9 +56,9 @@ pub fn flush<S: Store<Version>>(
 }
 
 /// Erases the past values of one object's data and attributes that begin at or after `from` and end
-/// at or before `to`, and puts what that takes back of its purse's charges into a list that is empty.
-/// It looks at each value that is held of the object. It takes no memory where the list has room for as
-/// many as it erases.
+/// at or before `to`, and puts what that takes back of its purse's charges into a list that is
+/// empty. It looks at each value that is held of the object. It takes no memory where the list has
+/// room for as many as it erases.
 pub fn flush_object<S: Store<Version>>(
     store: &mut S,
     objects: &BTreeMap<ObjectId, Kept>,
@@ -68,12 +69,14 @@ pub fn flush_object<S: Store<Version>>(
 ) -> Result<(), NoMemory>
     requires chained { Chained (S.chains store.old) (get object_cmp objects.now) }
     requires empty { refunds.old.items ≡ [] }
-    ensures ok { OnOk result (Flushes (S.chains store.old) (S.chains store.new) (get object_cmp objects.now)
+    ensures ok { OnOk result (Flushes (S.chains store.old) (S.chains store.new)
+        (get object_cmp objects.now)
         (same_object object.now) from to refunds.new.items) }
     ensures err { OnErr result (S.chains store.new ≡ S.chains store.old) }
     ensures none { OnErr result (refunds.new.items ≡ []) }
     ensures capacity { vec_capacity refunds.old ≤ vec_capacity refunds.new }
-    ensures enough { erasable_of (S.chains store.old) from to (get object_cmp objects.now object.now)
+    ensures enough { erasable_of (S.chains store.old) from to
+        (get object_cmp objects.now object.now)
         ≤ vec_capacity refunds.old → IsOk result }
     ensures room { S.room store.new ≡ S.room store.old }
 {
@@ -131,7 +134,8 @@ fn added<S: Store<Version>>(store: &S, a: usize, b: usize) -> usize
 // How many values of one track a flush erases. It looks at each value once.
 fn count_track<S: Store<Version>>(store: &S, track: Track, from: Moment, to: Moment) -> usize
     requires { IsOpen (S.chains store.now) track.chain }
-    ensures { result ≡ count_by (can_be_erased from to) (items_of (S.chains store.now) track.chain) }
+    ensures { result ≡ count_by (can_be_erased from to)
+        (items_of (S.chains store.now) track.chain) }
 {
     let mut count: usize = 0;
     let mut at = store.newest_place(track.chain);
@@ -166,11 +170,14 @@ fn flush_kept<S: Store<Version>>(
     requires data { IsOpen (S.chains store.old) kept.now.data.chain }
     requires attributes { IsOpen (S.chains store.old) kept.now.attributes.chain }
     requires apart { (kept.now.attributes.chain == kept.now.data.chain) ≡ false }
-    requires room { length refunds.old.items + erasable_count (S.chains store.old) from to kept.now ≤ vec_capacity refunds.old }
-    ensures data { items_of (S.chains store.new) kept.now.data.chain ≡ flushed from to (items_of (S.chains store.old) kept.now.data.chain) }
+    requires room { length refunds.old.items + erasable_count (S.chains store.old) from to kept.now
+        ≤ vec_capacity refunds.old }
+    ensures data { items_of (S.chains store.new) kept.now.data.chain
+        ≡ flushed from to (items_of (S.chains store.old) kept.now.data.chain) }
     ensures attributes { items_of (S.chains store.new) kept.now.attributes.chain
         ≡ flushed from to (items_of (S.chains store.old) kept.now.attributes.chain) }
-    ensures others { (c : ℕ) → (c == kept.now.data.chain) ≡ false → (c == kept.now.attributes.chain) ≡ false
+    ensures others { (c : ℕ) → (c == kept.now.data.chain) ≡ false
+        → (c == kept.now.attributes.chain) ≡ false
         → items_of (S.chains store.new) c ≡ items_of (S.chains store.old) c }
     ensures still { StillOpen (S.chains store.old) (S.chains store.new) }
     ensures unopened { StillOpen (S.chains store.new) (S.chains store.old) }
@@ -196,7 +203,8 @@ fn flush_track<S: Store<Version>>(
     refunds: &mut Vec<Refund>,
 )
     requires open { IsOpen (S.chains store.old) track.now.chain }
-    requires room { length refunds.old.items + count_by (can_be_erased from to) (items_of (S.chains store.old) track.now.chain)
+    requires room { length refunds.old.items + count_by (can_be_erased from to)
+        (items_of (S.chains store.old) track.now.chain)
         ≤ vec_capacity refunds.old }
     ensures chains { S.chains store.new ≡ finmap.insert (S.chains store.old) track.now.chain
         (flushed from to (items_of (S.chains store.old) track.now.chain)) }

@@ -24,7 +24,8 @@ pub fn free<S: Store<Version>>(
     which: Which,
 )
     requires chained { Chained (S.chains store.old) (get object_cmp objects.old) }
-    requires any { is_any (held (S.chains store.old) (get object_cmp objects.old object.now) which) ≡ true }
+    requires any { is_any (held (S.chains store.old) (get object_cmp objects.old object.now) which)
+        ≡ true }
     ensures frees { Frees (S.chains store.old) (S.chains store.new) (get object_cmp objects.old)
         (get object_cmp objects.new) object.now which }
     ensures used { item_count (S.chains store.new) + 1 ≡ item_count (S.chains store.old) }

@@ -1,6 +1,6 @@
 //! The objects that are kept.
 
-ghost use Rattle.std.specs.Prelude.{◌≡◌, ◌+◌, ◌<◌, ◌≤◌, ℕ, true, false, ◌||◌, ◌&&◌, is_some, Some, List, [], ◌∷◌, ◌++◌, IfOk, IsOk, OnOk, OnErr, vec_capacity, min, drop, count_by, if◌then◌else◌};
+ghost use Rattle.std.specs.Prelude.{◌≡◌, ◌+◌, ◌<◌, ◌≤◌, ℕ, true, false, ◌||◌, ◌&&◌, is_some, Some, [], ◌∷◌, ◌++◌, IsOk, OnOk, OnErr, vec_capacity, min, drop, count_by, if◌then◌else◌};
 ghost use Rattle.std.specs.List.{prefix_len};
 ghost use Rattle.std.specs.BTreeMap.{get};
 ghost use Rattle.std.specs.Option.{option_copied};
@@ -24,7 +24,7 @@ use crate::flushes::{self, Refund};
 use crate::free::free;
 use crate::kept::{Kept, Which};
 use s4_store::Store;
-use s4_types::{Item, Moment, NoMemory, ObjectId, Version};
+use s4_types::{Acl, Item, Moment, NoMemory, ObjectId, Version};
 use std::alloc::Global;
 use std::collections::{BTreeMap, VecDeque};
 
@@ -41,7 +41,8 @@ impl Objects {
     /// No objects. Takes no memory.
     pub fn new(alloc: Global) -> Objects
         ensures none { (o : ObjectId) → kept_in result o ≡ false }
-        ensures held { (chains : Chains Version) (o : ObjectId) (w : Which) → held_in chains result o w ≡ [] }
+        ensures held { (chains : Chains Version) (o : ObjectId) (w : Which)
+            → held_in chains result o w ≡ [] }
         ensures ends { ends_in result ≡ [] }
         ensures holds { (chains : Chains Version) → Holds chains result }
     {
@@ -75,24 +76,28 @@ impl Objects {
         requires fresh { kept_in self.old object.now ≡ false }
         requires room { 3 ≤ S.room store.old }
         ensures holds { Holds (S.chains store.new) self.new }
-        ensures kept { OnOk result ((o : ObjectId) → kept_in self.new o ≡ (same_object object.now o || kept_in self.old o)) }
-        ensures held { OnOk result ((o : ObjectId) (w : Which) → held_in (S.chains store.new) self.new o w
+        ensures kept { OnOk result ((o : ObjectId)
+            → kept_in self.new o ≡ (same_object object.now o || kept_in self.old o)) }
+        ensures held { OnOk result ((o : ObjectId) (w : Which)
+            → held_in (S.chains store.new) self.new o w
             ≡ (if same_object object.now o then first_on w moment object.now.purse.creator ∷ []
             else held_in (S.chains store.old) self.old o w)) }
         ensures ends { ends_in self.new ≡ ends_in self.old }
         ensures others { KeepsOthers (S.chains store.old) (S.chains store.new) self.old self.new }
         ensures leaves { LeavesNoChain (S.chains store.old) (S.chains store.new) self.old self.new }
         ensures room { room_in self.new ≡ room_in self.old }
-        ensures used { OnOk result (item_count (S.chains store.new) ≡ item_count (S.chains store.old) + 3) }
+        ensures used { OnOk result
+            (item_count (S.chains store.new) ≡ item_count (S.chains store.old) + 3) }
         ensures store_room { OnOk result (S.room store.new + 3 ≡ S.room store.old) }
         ensures refused { OnErr result (S.chains store.new ≡ S.chains store.old) }
         ensures unkept { OnErr result ((o : ObjectId) → found_in self.new o ≡ found_in self.old o) }
         ensures refused_room { OnErr result (S.room store.new ≡ S.room store.old) }
     {
+        let acl = Acl::of_creator(alloc, object.purse.creator)?;
         let kept = open(store)?;
         match keep(&mut self.kept, object, &kept) {
             Ok(()) => {
-                begin(alloc, store, &kept, moment, object.purse.creator);
+                begin(store, &kept, moment, acl);
                 Ok(())
             }
             Err(refused) => {
@@ -109,8 +114,8 @@ impl Objects {
         self.kept.contains_key(object)
     }
 
-    /// The version in force on one of an object's tracks, now or at a moment. It looks at the values
-    /// from the newest to the one that it finds.
+    /// The version in force on one of an object's tracks, now or at a moment. It looks at the
+    /// values from the newest to the one that it finds.
     pub fn version<'a, S: Store<Version>>(
         &self,
         store: &'a S,
@@ -119,7 +124,8 @@ impl Objects {
         at: Option<Moment>,
     ) -> Option<&'a Version>
         requires { Holds (S.chains store.now) self.now }
-        ensures { option_copied result ≡ version_in at (held_in (S.chains store.now) self.now object.now which) }
+        ensures { option_copied result
+            ≡ version_in at (held_in (S.chains store.now) self.now object.now which) }
     {
         match self.kept.get(object) {
             Some(kept) => kept.track(which).version(store, at),
@@ -139,7 +145,8 @@ impl Objects {
         item: Item,
     )
         requires holds { Holds (S.chains store.old) self.old }
-        requires current { is_some (current_of (held_in (S.chains store.old) self.old object.now which)) ≡ true }
+        requires current { is_some (current_of
+            (held_in (S.chains store.old) self.old object.now which)) ≡ true }
         requires later { all_by moment (ends_in self.old) ≡ true }
         requires small { IsSmall item }
         requires room { 0 < room_in self.old }
@@ -148,7 +155,8 @@ impl Objects {
         ensures kept { (o : ObjectId) → found_in self.new o ≡ found_in self.old o }
         ensures held { (o : ObjectId) (w : Which) → held_in (S.chains store.new) self.new o w
             ≡ (if same_object object.now o && same_which which w
-            then with_put moment item (held_in (S.chains store.old) self.old o w) else held_in (S.chains store.old) self.old o w) }
+            then with_put moment item (held_in (S.chains store.old) self.old o w)
+            else held_in (S.chains store.old) self.old o w) }
         ensures ends { ends_in self.new ≡ ends_in self.old ++ moment ∷ [] }
         ensures by_now { all_by moment (ends_in self.new) ≡ true }
         ensures room { room_in self.new + 1 ≡ room_in self.old }
@@ -166,17 +174,19 @@ impl Objects {
         });
     }
 
-    /// Ends the current values of an object, in room that was reserved here. The moment isn't before
-    /// the end of any past value that is held. Takes no memory.
+    /// Ends the current values of an object, in room that was reserved here. The moment isn't
+    /// before the end of any past value that is held. Takes no memory.
     pub fn end_all<S: Store<Version>>(&mut self, store: &mut S, moment: Moment, object: &ObjectId)
         requires holds { Holds (S.chains store.old) self.old }
-        requires current { (w : Which) → is_some (current_of (held_in (S.chains store.old) self.old object.now w)) ≡ true }
+        requires current { (w : Which)
+            → is_some (current_of (held_in (S.chains store.old) self.old object.now w)) ≡ true }
         requires later { all_by moment (ends_in self.old) ≡ true }
         requires room { 3 ≤ room_in self.old }
         ensures holds { Holds (S.chains store.new) self.new }
         ensures kept { (o : ObjectId) → found_in self.new o ≡ found_in self.old o }
         ensures held { (o : ObjectId) (w : Which) → held_in (S.chains store.new) self.new o w
-            ≡ (if same_object object.now o then with_end moment (held_in (S.chains store.old) self.old o w)
+            ≡ (if same_object object.now o
+            then with_end moment (held_in (S.chains store.old) self.old o w)
             else held_in (S.chains store.old) self.old o w) }
         ensures ends { ends_in self.new ≡ ends_in self.old ++ moment ∷ moment ∷ moment ∷ [] }
         ensures by_now { all_by moment (ends_in self.new) ≡ true }
@@ -200,13 +210,15 @@ impl Objects {
         which: Which,
     )
         requires holds { Holds (S.chains store.old) self.old }
-        requires current { is_some (current_of (held_in (S.chains store.old) self.old object.now which)) ≡ true }
+        requires current { is_some (current_of
+            (held_in (S.chains store.old) self.old object.now which)) ≡ true }
         requires later { all_by moment (ends_in self.old) ≡ true }
         requires room { 0 < room_in self.old }
         ensures holds { Holds (S.chains store.new) self.new }
         ensures kept { (o : ObjectId) → found_in self.new o ≡ found_in self.old o }
         ensures held { (o : ObjectId) (w : Which) → held_in (S.chains store.new) self.new o w
-            ≡ (if same_object object.now o && same_which which w then with_end moment (held_in (S.chains store.old) self.old o w)
+            ≡ (if same_object object.now o && same_which which w
+            then with_end moment (held_in (S.chains store.old) self.old o w)
             else held_in (S.chains store.old) self.old o w) }
         ensures ends { ends_in self.new ≡ ends_in self.old ++ moment ∷ [] }
         ensures by_now { all_by moment (ends_in self.new) ≡ true }
@@ -226,9 +238,9 @@ impl Objects {
     }
 
     /// Erases the past values of all objects' data and attributes that begin at or after `from` and
-    /// end at or before `to`, and puts what that takes back of the purses' charges into a list that is
-    /// empty. It looks at each value that is held. It takes no memory where the list has room for as
-    /// many as the store holds.
+    /// end at or before `to`, and puts what that takes back of the purses' charges into a list that
+    /// is empty. It looks at each value that is held. It takes no memory where the list has room
+    /// for as many as the store holds.
     pub fn flush<S: Store<Version>>(
         &self,
         store: &mut S,
@@ -238,7 +250,8 @@ impl Objects {
     ) -> Result<(), NoMemory>
         requires holds { Holds (S.chains store.old) self.now }
         requires empty { refunds.old.items ≡ [] }
-        ensures ok { OnOk result (Flushes (S.chains store.old) (S.chains store.new) (found_in self.now)
+        ensures ok { OnOk result (Flushes (S.chains store.old) (S.chains store.new)
+            (found_in self.now)
             (λ o. true) from to refunds.new.items) }
         ensures err { OnErr result (S.chains store.new ≡ S.chains store.old) }
         ensures none { OnErr result (refunds.new.items ≡ []) }
@@ -252,9 +265,9 @@ impl Objects {
     }
 
     /// Erases the past values of one object's data and attributes that begin at or after `from` and
-    /// end at or before `to`, and puts what that takes back of its purse's charges into a list that is
-    /// empty. It looks at each value that is held of the object. It takes no memory where the list has
-    /// room for as many as it erases.
+    /// end at or before `to`, and puts what that takes back of its purse's charges into a list that
+    /// is empty. It looks at each value that is held of the object. It takes no memory where the
+    /// list has room for as many as it erases.
     pub fn flush_object<S: Store<Version>>(
         &self,
         store: &mut S,
@@ -265,7 +278,8 @@ impl Objects {
     ) -> Result<(), NoMemory>
         requires holds { Holds (S.chains store.old) self.now }
         requires empty { refunds.old.items ≡ [] }
-        ensures ok { OnOk result (Flushes (S.chains store.old) (S.chains store.new) (found_in self.now)
+        ensures ok { OnOk result (Flushes (S.chains store.old) (S.chains store.new)
+            (found_in self.now)
             (same_object object.now) from to refunds.new.items) }
         ensures err { OnErr result (S.chains store.new ≡ S.chains store.old) }
         ensures none { OnErr result (refunds.new.items ≡ []) }
@@ -279,17 +293,19 @@ impl Objects {
         flushes::flush_object(store, &self.kept, object, from, to, refunds)
     }
 
-    /// Frees at most so many past values that have ended by the horizon, those that ended first before
-    /// the others, and tells how many it freed. An object without values left gives up its entry. It
-    /// looks at those that it frees, and at one more. Takes no memory.
+    /// Frees at most so many past values that have ended by the horizon, those that ended first
+    /// before the others, and tells how many it freed. An object without values left gives up its
+    /// entry. It looks at those that it frees, and at one more. Takes no memory.
     pub fn expire<S: Store<Version>>(&mut self, store: &mut S, horizon: Moment, most: u64) -> u64
         requires { Holds (S.chains store.old) self.old }
         ensures freed { result ≡ min most (count_by (is_gone horizon) (ends_in self.old)) }
         ensures first { result ≡ min most (prefix_len (is_gone horizon) (ends_in self.old)) }
         ensures ends { ends_in self.new ≡ drop result (ends_in self.old) }
-        ensures by_then { (m : ℕ) → all_by m (ends_in self.old) ≡ true → all_by m (ends_in self.new) ≡ true }
+        ensures by_then { (m : ℕ) → all_by m (ends_in self.old) ≡ true
+            → all_by m (ends_in self.new) ≡ true }
         ensures held { (o : ObjectId) (w : Which)
-            → IsSwept horizon (held_in (S.chains store.new) self.new o w) (held_in (S.chains store.old) self.old o w) }
+            → IsSwept horizon (held_in (S.chains store.new) self.new o w)
+            (held_in (S.chains store.old) self.old o w) }
         ensures kept { (o : ObjectId) → kept_in self.new o ≡ true → kept_in self.old o ≡ true }
         ensures holds { Holds (S.chains store.new) self.new }
         ensures room { room_in self.new ≡ room_in self.old + result }
@@ -317,7 +333,8 @@ fn keep(
 ) -> Result<(), NoMemory>
     ensures ok { OnOk result ((o : ObjectId) → get object_cmp objects.new o
         ≡ (if same_object object.now o then Some kept.now else get object_cmp objects.old o)) }
-    ensures err { OnErr result ((o : ObjectId) → get object_cmp objects.new o ≡ get object_cmp objects.old o) }
+    ensures err { OnErr result ((o : ObjectId)
+        → get object_cmp objects.new o ≡ get object_cmp objects.old o) }
 {
     objects.insert(*object, *kept)?;
     Ok(())

@@ -30,7 +30,7 @@ pub fn made(creator: u32, serial: u16) -> Result<Reply, Fail> {
 
 /// Writes `a` to an object, from its beginning on.
 pub fn write_a(alloc: Global, object: ObjectId) -> Result<Request, Fail> {
-    let bytes = Bytes::new(Vec::from_slice(alloc, b"a")?);
+    let bytes = Bytes::from_slice(alloc, b"a")?;
     Ok(Request::Write {
         object,
         offset: 0,

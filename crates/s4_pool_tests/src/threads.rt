@@ -51,7 +51,7 @@ fn ask_to_read() -> Result<Ask, Fail> {
 }
 
 fn read_row(alloc: Global) -> Result<Row, Fail> {
-    let bytes = Bytes::new(Vec::from_slice(alloc, b"a")?);
+    let bytes = Bytes::from_slice(alloc, b"a")?;
     let grant = Grant::Entry {
         index: 0,
         since: Moment::new(5),

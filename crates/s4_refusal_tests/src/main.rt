@@ -4,10 +4,12 @@
 //! no memory. The first argument names the one case that is carried out; without it all are.
 #![tactic(auto)]
 
+mod asked;
 mod case;
 mod fronts;
 mod many;
 mod pieces;
+mod reads;
 mod rooms;
 mod steps;
 mod windows;
@@ -37,11 +39,13 @@ enum Called {
     Close,
     /// A front serves four thousand requests by one pass.
     ServeMany,
+    /// A front serves two thousand reads of so many bytes of one value.
+    ReadMany(u32),
     /// A front of two cells serves a SetWindow, behind such requests.
     SetWindow(Before),
 }
 
-const CASES: [(&str, Called); 24] = [
+const CASES: [(&str, Called); 26] = [
     (
         "step_plain_first_moments",
         Called::OverPlainStore("first_moments"),
@@ -88,6 +92,8 @@ const CASES: [(&str, Called); 24] = [
     ("serve", Called::Serve),
     ("close", Called::Close),
     ("serve_many", Called::ServeMany),
+    ("read_whole_values", Called::ReadMany(4096)),
+    ("read_single_bytes", Called::ReadMany(1)),
     ("set_window_over_none", Called::SetWindow(Before::Reads)),
     ("set_window_over_values", Called::SetWindow(Before::Creates)),
 ];
@@ -119,6 +125,7 @@ fn carry_out<R: Wait>(case: &mut Case, rt: &R, called: Called) -> io::Result<()>
         Called::Serve => fronts::serve(case, rt),
         Called::Close => fronts::close(case, rt),
         Called::ServeMany => many::serve(case, rt),
+        Called::ReadMany(length) => reads::read(case, rt, length),
         Called::SetWindow(before) => windows::set(case, rt, before),
     }
 }

@@ -1,15 +1,12 @@
 //! Many requests by one pass. One that met want of memory leaves no receipt, and is made again. What
 //! is asked for in all is measured (`tools/calls.py`).
 
+use crate::asked::{caller, object};
 use crate::case::Case;
 use crate::steps::is_no_memory;
 use s4_pool::{Front, OpenGate, Pass};
-use s4_types::{
-    Caller, Moment, ObjectId, Principal, Purse, PurseNo, Refusal, Reply, Request, Serial,
-    WireVersion,
-};
+use s4_types::{Caller, Moment, Refusal, Reply, Request};
 use std::io;
-use std::io::ErrorKind;
 use std::sync::Wait;
 
 const CALLS: u64 = 4000;
@@ -20,7 +17,7 @@ const TRIES: u32 = 3;
 /// The calls are what is marked, all at once.
 pub fn serve<R: Wait>(case: &mut Case, rt: &R) -> io::Result<()> {
     let (front, mut passes) = Front::open(case.alloc(), 100, 2, 1, OpenGate)?;
-    let asked = asked().ok_or(io::Error::from(ErrorKind::InvalidData))?;
+    let asked = asked()?;
     case.begins();
     for pass in &mut passes {
         serve_all(case, rt, &front, pass, &asked);
@@ -32,27 +29,14 @@ pub fn serve<R: Wait>(case: &mut Case, rt: &R) -> io::Result<()> {
 }
 
 /// Who reads an object that isn't there.
-fn asked() -> Option<(Caller, Request)> {
-    let who = Principal::new(7)?;
-    let purse = Purse {
-        creator: who,
-        number: PurseNo::new(0)?,
-    };
+fn asked() -> io::Result<(Caller, Request)> {
     let read = Request::Read {
-        object: ObjectId {
-            purse,
-            serial: Serial::new(1)?,
-        },
+        object: object(7, 1)?,
         offset: 0,
         length: 1,
         at: None,
     };
-    let caller = Caller {
-        who,
-        client: 0,
-        version: WireVersion::One,
-    };
-    Some((caller, read))
+    Ok((caller(7, 0)?, read))
 }
 
 /// Makes all calls, at a moment more each.

@@ -1,11 +1,10 @@
 //! The bytes of principal 7, who makes an object, writes to it and reads it: heard by a session in
 //! pieces, and by a hall a frame at a time.
 
+use crate::asked::{caller, object, purse};
 use crate::case::Case;
 use s4_session::{Event, FeedError, Hall, LoginFault, Logins, Session};
-use s4_types::{
-    Bytes, Caller, Moment, ObjectId, Principal, Purse, PurseNo, Request, Serial, WireVersion,
-};
+use s4_types::{Bytes, Moment, Request};
 use std::alloc::{AllocError, Global};
 use std::io;
 use std::io::ErrorKind;
@@ -119,43 +118,54 @@ fn hear(
 
 /// What the stream says.
 fn events(alloc: Global) -> io::Result<Vec<Event>> {
-    let (Some(who), Some(number), Some(serial)) = (
-        Principal::new(7),
-        PurseNo::new(0),
-        Serial::new(1),
-    ) else {
-        return Err(io::Error::from(ErrorKind::InvalidData));
-    };
-    let purse = Purse {
-        creator: who,
-        number,
-    };
-    let caller = Caller {
-        who,
-        client: 1,
-        version: WireVersion::One,
-    };
-    let object = ObjectId { purse, serial };
-    let bytes = Bytes::new(Vec::from_slice(alloc, b"hello")?);
     let mut events = Vec::new(alloc);
-    events.push(Event::Welcome(caller))?;
-    events.push(Event::Request(caller, Request::Create { number }))?;
+    welcome(&mut events)?;
+    let create = create()?;
+    add(&mut events, create)?;
+    let write = write(alloc)?;
+    add(&mut events, write)?;
+    let read = read()?;
+    add(&mut events, read)?;
+    Ok(events)
+}
+
+fn welcome(events: &mut Vec<Event>) -> io::Result<()> {
+    let event = Event::Welcome(caller(7, 1)?);
+    events.push(event)?;
+    Ok(())
+}
+
+fn add(events: &mut Vec<Event>, request: Request) -> io::Result<()> {
+    let event = Event::Request(caller(7, 1)?, request);
+    events.push(event)?;
+    Ok(())
+}
+
+fn create() -> io::Result<Request> {
+    let number = purse(7, 0)?.number;
+    Ok(Request::Create { number })
+}
+
+fn write(alloc: Global) -> io::Result<Request> {
+    let bytes = Bytes::from_slice(alloc, b"hello")?;
+    let object = object(7, 1)?;
     let offset = 0;
-    let write = Request::Write {
+    Ok(Request::Write {
         object,
         offset,
         bytes,
-    };
-    events.push(Event::Request(caller, write))?;
-    let (length, at) = (5, None);
-    let read = Request::Read {
+    })
+}
+
+fn read() -> io::Result<Request> {
+    let object = object(7, 1)?;
+    let (offset, length, at) = (0, 5, None);
+    Ok(Request::Read {
         object,
         offset,
         length,
         at,
-    };
-    events.push(Event::Request(caller, read))?;
-    Ok(events)
+    })
 }
 
 /// Gives a hall the stream, a frame at a time.

@@ -1,14 +1,14 @@
 //! The requests of a row, given to a drive one by one. Where one is answered that there was no
 //! memory, the drive is as before, and the same request then gets the row's reply.
 
+use crate::asked::{invalid, purse};
 use crate::case::Case;
 use s4_arena::Arena;
 use s4_drive::Drive;
 use s4_script::{Line, ParseError, ReplyText, parse_line, parse_window};
 use s4_store::{PlainStore, Store};
-use s4_types::{Caller, Moment, Principal, Purse, PurseNo, Refusal, Reply, Request, Step, Version};
+use s4_types::{Caller, Moment, Refusal, Reply, Request, Step, Version};
 use std::alloc::AllocError;
-use std::io::ErrorKind;
 use std::{fs, io};
 
 pub fn over_plain_store(case: &mut Case, row: &str) -> io::Result<()> {
@@ -34,7 +34,7 @@ fn text(case: &Case, row: &str, kind: &str) -> io::Result<String> {
 
 fn error_of(error: ParseError) -> io::Error {
     match error {
-        ParseError::Bad => io::Error::from(ErrorKind::InvalidData),
+        ParseError::Bad => invalid(),
         ParseError::NoMemory => io::Error::from(AllocError),
     }
 }
@@ -88,7 +88,7 @@ fn reply_to<S: Store<Version>>(
                 request,
             },
         ) => replied(case, drive, (*moment, *caller), request),
-        _ => Err(io::Error::from(ErrorKind::InvalidData)),
+        _ => Err(invalid()),
     }
 }
 
@@ -134,7 +134,7 @@ fn step<S: Store<Version>>(
         case.ends();
         Ok(reply)
     } else {
-        Err(io::Error::from(ErrorKind::InvalidData))
+        Err(invalid())
     }
 }
 
@@ -161,8 +161,6 @@ fn stand_of<S: Store<Version>>(drive: &Drive<S>) -> io::Result<Stand> {
 }
 
 fn spent<S: Store<Version>>(drive: &Drive<S>, (creator, number): (u32, u8)) -> io::Result<u32> {
-    match (Principal::new(creator), PurseNo::new(number)) {
-        (Some(creator), Some(number)) => Ok(drive.spent(&Purse { creator, number })),
-        _ => Err(io::Error::from(ErrorKind::InvalidData)),
-    }
+    let purse = purse(creator, number)?;
+    Ok(drive.spent(&purse))
 }

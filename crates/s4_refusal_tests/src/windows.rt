@@ -1,14 +1,12 @@
 //! A SetWindow on two cells, behind as many records of each. Where the cells hold values it asks for no
 //! more memory than where they hold none (`tools/calls.py`).
 
+use crate::asked::{caller, object};
 use crate::case::Case;
 use crate::steps::is_no_memory;
 use s4_pool::{Front, OpenGate, Pass};
-use s4_types::{
-    Caller, Moment, ObjectId, Principal, Purse, PurseNo, Reply, Request, Serial, WireVersion,
-};
+use s4_types::{Caller, Moment, Reply, Request};
 use std::io;
-use std::io::ErrorKind;
 use std::sync::Wait;
 
 /// Who asks before it, each in a cell of their own.
@@ -38,18 +36,6 @@ pub fn set<R: Wait>(case: &mut Case, rt: &R, before: Before) -> io::Result<()> {
     Ok(())
 }
 
-fn invalid() -> io::Error {
-    io::Error::from(ErrorKind::InvalidData)
-}
-
-fn caller(who: u32) -> Option<Caller> {
-    Principal::new(who).map(|who| Caller {
-        who,
-        client: 0,
-        version: WireVersion::One,
-    })
-}
-
 /// Leaves the records of a creator.
 fn ask_before<R: Wait>(
     case: &mut Case,
@@ -58,8 +44,8 @@ fn ask_before<R: Wait>(
     pass: &mut Pass,
     (who, before): (u32, Before),
 ) -> io::Result<()> {
-    let by = caller(who).ok_or(invalid())?;
-    let request = request(by, before).ok_or(invalid())?;
+    let by = caller(who, 0)?;
+    let request = request(who, before)?;
     for clock in 0..RECORDS {
         let reply = front.serve(rt, pass, by, Moment::new(clock), &request);
         let is_made = matches!(reply, Reply::Made(_));
@@ -71,17 +57,14 @@ fn ask_before<R: Wait>(
     Ok(())
 }
 
-fn request(by: Caller, before: Before) -> Option<Request> {
-    let number = PurseNo::new(0)?;
-    let purse = Purse {
-        creator: by.who,
-        number,
-    };
-    let serial = Serial::new(1)?;
-    Some(match before {
-        Before::Creates => Request::Create { number },
+fn request(who: u32, before: Before) -> io::Result<Request> {
+    let object = object(who, 1)?;
+    Ok(match before {
+        Before::Creates => Request::Create {
+            number: object.purse.number,
+        },
         Before::Reads => Request::Read {
-            object: ObjectId { purse, serial },
+            object,
             offset: 0,
             length: 1,
             at: None,
@@ -111,7 +94,7 @@ fn set_window<R: Wait>(
     front: &Front<OpenGate>,
     pass: &mut Pass,
 ) -> io::Result<()> {
-    let by = caller(0).ok_or(invalid())?;
+    let by = caller(0, 0)?;
     let request = Request::SetWindow { ticks: 10 };
     let count = pass.receipts().len();
     case.begins();

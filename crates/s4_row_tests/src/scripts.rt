@@ -5,9 +5,9 @@ use crate::telling::is_run_same;
 use crate::texts::{Shelf, Texts, utf8};
 use s4_drive::{Drive, never_down};
 use s4_run::{RunFault, run_script};
-use s4_script::{Line, ReplyText, UsedText, parse_line, parse_window};
+use s4_script::{CutText, Line, ReplyText, UsedText, parse_line, parse_window};
 use s4_store::PlainStore;
-use s4_types::{Step, Version};
+use s4_types::{Moment, Step, Version};
 use std::alloc::Global;
 use std::io;
 
@@ -56,7 +56,8 @@ fn lines_of(alloc: Global, script: &str) -> Result<Vec<Line>, RunFault> {
     Ok(lines)
 }
 
-/// Gives a drive the steps up to each `used` and those up to the end, each time all at once.
+/// Gives a drive the steps up to each `used` and each cut, and those up to the end, each time all at
+/// once.
 fn tell_lines(
     alloc: Global,
     drive: &mut Drive<PlainStore<Version>>,
@@ -72,9 +73,27 @@ fn tell_lines(
                 steps.clear();
                 writeln!(told, "{}", UsedText(drive.used()))?;
             }
+            Line::Cut(moment) => {
+                tell_steps(drive, &steps, told)?;
+                steps.clear();
+                tell_cut(drive, moment, told)?;
+            }
         }
     }
     tell_steps(drive, &steps, told)
+}
+
+/// Cuts a drive at a moment.
+fn tell_cut(
+    drive: &mut Drive<PlainStore<Version>>,
+    moment: Moment,
+    told: &mut String,
+) -> Result<(), RunFault> {
+    if moment > drive.horizon() {
+        return Err(RunFault::CutAboveHorizon(0));
+    }
+    let went = drive.cut(moment)?;
+    Ok(writeln!(told, "{}", CutText(went))?)
 }
 
 /// Gives a drive these steps all at once. Each request leaves a record.

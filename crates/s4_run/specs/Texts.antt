@@ -7,6 +7,7 @@ use Rattle.s4_run.specs.declared.fault.RunFault.TheVariants as fault
 abbrev pub fault_text : RunFault → List ℕ
 fault_text (fault.BadLine number) = codes "line " ++ decimal number ++ codes ": bad line"
 fault_text (fault.MomentGoesBack number) = codes "line " ++ decimal number ++ codes ": moment goes back"
+fault_text (fault.CutAboveHorizon number) = codes "line " ++ decimal number ++ codes ": cut above horizon"
 fault_text (fault.LoginsLine number) = codes "logins line " ++ decimal number
 fault_text fault.CannotReadLogins = codes "cannot read logins"
 fault_text fault.CannotRead = codes "cannot read"

@@ -31,7 +31,8 @@ impl Model for Arrivals {
 
     ghost view = { λ a. record { window = a.window; steps = a.steps.items } };
 
-    ghost invariant = { λ a. NeverDown 0 a.steps.items × (a.newest ≡ list.newest_of a.steps.items) };
+    ghost invariant = { λ a. NeverDown 0 a.steps.items
+        × (a.newest ≡ list.newest_of a.steps.items) };
 }
 
 impl Arrivals {
@@ -67,10 +68,13 @@ impl Arrivals {
 
     /// Adds what the line of that number tells, unless its moment goes back.
     fn add(&mut self, line: ArrivalLine, number: usize) -> Result<(), RunFault>
-        ensures added { OnOk result (self.new ≡ record self.old { steps = self.old.steps ++ step_of line ∷ [] }) }
-        ensures back { goes_back line self.old.steps ≡ true → result ≡ Err (fault.MomentGoesBack number) }
+        ensures added { OnOk result
+            (self.new ≡ record self.old { steps = self.old.steps ++ step_of line ∷ [] }) }
+        ensures back { goes_back line self.old.steps ≡ true
+            → result ≡ Err (fault.MomentGoesBack number) }
         ensures unchanged { OnErr result (self.new ≡ self.old) }
-        ensures refused { goes_back line self.old.steps ≡ false → IfErr result (λ why. why ≡ fault.NoMemory) }
+        ensures refused { goes_back line self.old.steps ≡ false
+            → IfErr result (λ why. why ≡ fault.NoMemory) }
     {
         match line {
             ArrivalLine::Arrive {
@@ -97,7 +101,8 @@ impl Arrivals {
 
     /// What a fresh hall of these logins sends on each connection where it takes the steps.
     pub fn run(&self, alloc: Global, logins: Logins) -> Result<Vec<(u32, Vec<u8>)>, NoMemory>
-        ensures { IfOk result (λ sent. IsSent (opened self.now.window) logins self.now.steps (lists_of sent.items)) }
+        ensures { IfOk result
+            (λ sent. IsSent (opened self.now.window) logins self.now.steps (lists_of sent.items)) }
     {
         Hall::open(alloc, self.window, logins).run(&self.steps)
     }

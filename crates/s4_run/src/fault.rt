@@ -20,6 +20,8 @@ pub enum RunFault {
     BadLine(usize),
     /// The moment of this line is before one above it.
     MomentGoesBack(usize),
+    /// The moment of this line's cut is above the horizon.
+    CutAboveHorizon(usize),
     /// This line of the logins isn't one, or names a principal again.
     LoginsLine(usize),
     /// The logins can't be read.
@@ -84,6 +86,7 @@ impl fmt::Display for RunFault {
         match self {
             RunFault::BadLine(number) => write!(f, "line {number}: bad line"),
             RunFault::MomentGoesBack(number) => write!(f, "line {number}: moment goes back"),
+            RunFault::CutAboveHorizon(number) => write!(f, "line {number}: cut above horizon"),
             RunFault::LoginsLine(number) => write!(f, "logins line {number}"),
             RunFault::CannotReadLogins => write!(f, "cannot read logins"),
             RunFault::CannotRead => write!(f, "cannot read"),

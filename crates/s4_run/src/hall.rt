@@ -39,8 +39,8 @@ fn logins_in(alloc: Global, text: &[u8]) -> Result<Logins, RunFault>
     Logins::read(alloc, text).map_err(RunFault::logins)
 }
 
-/// Runs arrivals on a fresh hall of these logins, and writes what each connection is sent, by rising
-/// number. What is written of the arrivals is said by docs/SCRIPTS.md, "Arrivals".
+/// Runs arrivals on a fresh hall of these logins, and writes what each connection is sent, by
+/// rising number. What is written of the arrivals is said by docs/SCRIPTS.md, "Arrivals".
 pub fn run_hall<R: Read + Drop, W: Write>(
     alloc: Global,
     logins: Logins,

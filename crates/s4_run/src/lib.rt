@@ -1,5 +1,5 @@
-//! Runs from a reader to a writer: of scripts on a fresh drive, and of arrivals on a fresh hall; and
-//! scripts without what a principal's strangers ask.
+//! Runs from a reader to a writer: of scripts on a fresh drive, and of arrivals on a fresh hall;
+//! and scripts without what a principal's strangers ask.
 #![tactic(auto)]
 
 mod arrivals;

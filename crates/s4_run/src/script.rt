@@ -1,16 +1,18 @@
 //! Scripts: a line that opens the drive, and then a line for each request.
 
-ghost use Rattle.std.specs.Prelude.{◌≡◌, ◌<◌, ◌≤◌, ◌↔◌, IsNone, IfSome};
-ghost use Rattle.s4_types.specs.Log.{fresh_log};
+ghost use Rattle.std.specs.Prelude.{◌≡◌, ◌<◌, ◌≤◌, ◌↔◌, length, IsNone, IfSome, IfOk, OnOk, OnErr};
+ghost use Rattle.s4_types.specs.Log.{fresh_log, horizon_in};
 ghost use Rattle.s4_types.specs.Play.{last_of};
+ghost use Rattle.s4_cuts.specs.Cut.{before};
+ghost use Rattle.s4_state.specs.CutLog.{IsCut};
 ghost use Rattle.s4_drive.specs.Step.{Steps};
 
 use crate::fault::RunFault;
 use crate::text;
 use s4_arena::Arena;
 use s4_drive::Drive;
-use s4_script::{Line, NumberedLines, ReplyText, UsedText, parse_line, parse_window};
-use s4_types::{Caller, Moment, Reply, Request, Step, Version};
+use s4_script::{CutText, Line, NumberedLines, ReplyText, UsedText, parse_line, parse_window};
+use s4_types::{Caller, Moment, NoMemory, Refusal, Reply, Request, Step, Version};
 use std::alloc::Global;
 use std::io::{Read, Write};
 
@@ -82,7 +84,20 @@ fn execute_line<W: Write>(
             Ok(())
         }
         Line::Used => writeln!(writer, "{}", UsedText(run.drive.used())).map_err(RunFault::writing),
+        Line::Cut(moment) => {
+            let went = run.cut(*moment).ok_or(RunFault::CutAboveHorizon(number))?;
+            write_cut(writer, went)
+        }
     }
+}
+
+/// Writes how many records went by a cut, or that there wasn't enough memory for it.
+fn write_cut<W: Write>(writer: &mut W, went: Result<u64, NoMemory>) -> Result<(), RunFault> {
+    match went {
+        Ok(count) => writeln!(writer, "{}", CutText(count)),
+        Err(_) => writeln!(writer, "{}", ReplyText(&Reply::Refused(Refusal::NoMemory))),
+    }
+    .map_err(RunFault::writing)
 }
 
 /// A script that is being run. A request that met want of memory leaves no record, so the newest
@@ -110,7 +125,8 @@ impl ScriptRun {
     fn reply(&mut self, moment: Moment, caller: Caller, request: &Request) -> Option<Reply>
         ensures back { IsNone result ↔ (moment < self.old.moment) }
         ensures unchanged { IsNone result → self.new ≡ self.old }
-        ensures reply { IfSome result (Steps self.old.drive self.new.drive moment caller request.now) }
+        ensures reply { IfSome result
+            (Steps self.old.drive self.new.drive moment caller request.now) }
         ensures moment { IfSome result (λ reply. self.new.moment ≡ moment) }
     {
         if moment < self.moment {
@@ -118,5 +134,22 @@ impl ScriptRun {
         }
         self.moment = moment;
         Some(self.drive.step(moment, caller, request))
+    }
+
+    /// How many records went by a cut at the moment, or that memory was refused to it, which leaves
+    /// the drive uncut. None where the moment is above the horizon.
+    fn cut(&mut self, moment: Moment) -> Option<Result<u64, NoMemory>>
+        ensures above { IsNone result ↔ (horizon_in self.old.drive < moment) }
+        ensures unchanged { IsNone result → self.new ≡ self.old }
+        ensures cut { IfSome result (λ went. OnOk went (IsCut moment self.old.drive self.new.drive)) }
+        ensures went { IfSome result (λ went. IfOk went
+            (λ count. count ≡ length (before moment self.old.drive.history))) }
+        ensures err { IfSome result (λ went. OnErr went (self.new.drive ≡ self.old.drive)) }
+        ensures moment { self.new.moment ≡ self.old.moment }
+    {
+        if moment > self.drive.horizon() {
+            return None;
+        }
+        Some(self.drive.cut(moment))
     }
 }

@@ -14,10 +14,10 @@ use s4_types::{Moment, NoMemory, Principal, Step};
 use std::alloc::Global;
 use std::io::{Read, Write};
 
-/// Reads a whole script, and writes it without the requests of the principal's strangers: the line of
-/// its window and the lines of the requests that stay, as they stood, each with a line feed. Lines that
-/// sweep or ask what is held are left out (docs/SCRIPTS.md, "Striking out strangers"). Nothing is run,
-/// and nothing is written at a fault in a line.
+/// Reads a whole script, and writes it without the requests of the principal's strangers: the line
+/// of its window and the lines of the requests that stay, as they stood, each with a line feed.
+/// Lines that sweep or ask what is held are left out (docs/SCRIPTS.md, "Striking out strangers").
+/// Nothing is run, and nothing is written at a fault in a line.
 pub fn run_strike<R: Read + Drop, W: Write>(
     alloc: Global,
     who: Principal,
@@ -92,8 +92,10 @@ impl<'a> Script<'a> {
     /// Takes the line of that number, where it makes a request, unless its moment goes back.
     fn add(&mut self, told: Line, line: &'a [u8], number: usize) -> Result<(), RunFault>
         ensures who { self.new.who ≡ self.old.who }
-        ensures back { is_before self.old.newest told ≡ true → result ≡ Err (fault.MomentGoesBack number) }
-        ensures refused { is_before self.old.newest told ≡ false → IfErr result (λ why. why ≡ fault.NoMemory) }
+        ensures back { is_before self.old.newest told ≡ true
+            → result ≡ Err (fault.MomentGoesBack number) }
+        ensures refused { is_before self.old.newest told ≡ false
+            → IfErr result (λ why. why ≡ fault.NoMemory) }
     {
         let Line::Step(step) = told else {
             return Ok(());
@@ -112,8 +114,10 @@ impl<'a> Script<'a> {
 
     /// Keeps a request and its line, and sees what it makes near.
     fn keep(&mut self, step: Step, line: &'a [u8]) -> Result<(), NoMemory>
-        ensures steps { OnOk result (steps_of self.new.requests.items ≡ steps_of self.old.requests.items ++ step ∷ []) }
-        ensures texts { OnOk result (texts_of self.new.requests.items ≡ texts_of self.old.requests.items ++ line.now ∷ []) }
+        ensures steps { OnOk result
+            (steps_of self.new.requests.items ≡ steps_of self.old.requests.items ++ step ∷ []) }
+        ensures texts { OnOk result
+            (texts_of self.new.requests.items ≡ texts_of self.old.requests.items ++ line.now ∷ []) }
         ensures who { self.new.who ≡ self.old.who }
         ensures window { self.new.window.now ≡ self.old.window.now }
         ensures newest { self.new.newest ≡ self.old.newest }
@@ -127,7 +131,8 @@ impl<'a> Script<'a> {
     /// Writes the line of the window, and the lines of the requests that stay.
     fn write_struck<W: Write>(&self, writer: &mut W) -> Result<(), RunFault>
         ensures written { OnOk result (Appends (W.contents writer.old) (W.contents writer.new)
-            (line_text self.now.window.now ++ lines_text (struck_lines self.now.who self.now.requests.items))) }
+            (line_text self.now.window.now
+            ++ lines_text (struck_lines self.now.who self.now.requests.items))) }
     {
         write_line(writer, self.window)?;
         for request in &self.requests {
@@ -141,7 +146,8 @@ impl<'a> Script<'a> {
 
 /// Writes the line, and a line feed.
 fn write_line<W: Write>(writer: &mut W, line: &[u8]) -> Result<(), RunFault>
-    ensures written { OnOk result (Appends (W.contents writer.old) (W.contents writer.new) (line_text line.now)) }
+    ensures written { OnOk result
+        (Appends (W.contents writer.old) (W.contents writer.new) (line_text line.now)) }
 {
     writer.write_all(line).map_err(RunFault::writing)?;
     writer.write_all(b"\n").map_err(RunFault::writing)

@@ -13,7 +13,8 @@ const TEXT_LIMIT: u32 = 268435456;
 
 /// All bytes of the reader.
 pub fn read_text<R: Read>(alloc: Global, reader: &mut R) -> Result<Vec<u8>, RunFault>
-    ensures whole { IfOk result (λ text. IfSome (R.remaining reader.old) (λ bytes. text.items ≡ bytes)) }
+    ensures whole { IfOk result
+        (λ text. IfSome (R.remaining reader.old) (λ bytes. text.items ≡ bytes)) }
 {
     Ok(read_up_to(alloc, reader, TEXT_LIMIT)?)
 }

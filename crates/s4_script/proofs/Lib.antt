@@ -2,3 +2,9 @@ pub mod Hexadecimal
 pub mod Spelling
 pub mod Cutting
 pub mod Reading
+pub mod Numbers
+pub mod Dots
+pub mod Spaces
+pub mod WordsBack
+pub mod RequestsBack
+pub mod FewWords

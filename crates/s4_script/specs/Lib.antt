@@ -1,2 +1,5 @@
 pub mod Texts
 pub mod Lines
+pub mod Requests
+pub mod Readings
+pub mod Scripted

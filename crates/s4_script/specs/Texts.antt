@@ -124,6 +124,10 @@ reply_text (reply.Refused why) = refusal_text why
 abbrev pub used_text : ℕ → List ℕ
 used_text count = codes "used " ++ decimal count
 
+-- how many records went
+abbrev pub cut_text : ℕ → List ℕ
+cut_text count = codes "cut " ++ decimal count
+
 -- what was sent on a connection as its line: its number, and the bytes
 abbrev pub sent_text : ℕ → List ℕ → List ℕ
 sent_text connection bytes = decimal connection ++ codes " " ++ bytes_text bytes

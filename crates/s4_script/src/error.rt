@@ -29,9 +29,9 @@ impl fmt::Display for ParseError {
 }
 
 impl From<AllocError> for ParseError {
-    fn from(_: AllocError) -> ParseError
-        ensures { result ≡ parse_error.NoMemory }
-    {
+    ghost from_gives = { λ _ why. why ≡ parse_error.NoMemory };
+
+    fn from(_: AllocError) -> ParseError {
         ParseError::NoMemory
     }
 }

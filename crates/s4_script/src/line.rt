@@ -1,8 +1,10 @@
 //! The lines of a script.
 
+ghost use Rattle.s4_script.specs.Readings.{asked_in, counted_in, line_in, line_in_text, texts, used_in, window_in, window_in_text, Gives};
+
 use crate::error::ParseError;
 use crate::{requests, words};
-use s4_types::{Caller, Principal, Step, WireVersion};
+use s4_types::{Caller, Moment, Principal, Step, WireVersion};
 use std::alloc::Global;
 
 /// A line after the first.
@@ -12,17 +14,34 @@ pub enum Line {
     Step(Step),
     /// It asks how many values and bindings the drive holds.
     Used,
+    /// The records before the moment are to go.
+    Cut(Moment),
 }
 
-/// The window that the first line opens the drive with.
-pub fn parse_window(alloc: Global, line: &[u8]) -> Result<u64, ParseError> {
-    match words::of_line(alloc, line)?.as_slice() {
-        ["window", ticks] => words::number(ticks),
-        _ => Err(ParseError::Bad),
+/// The window that the first line opens the drive with (docs/SCRIPTS.md, "The first line").
+///
+/// `Bad` where it opens none: it is no text, or its words spell no window; `NoMemory` where its
+/// words don't fit in memory.
+pub fn parse_window(alloc: Global, line: &[u8]) -> Result<u64, ParseError>
+    ensures { Gives result (window_in_text line.now) }
+{
+    window(words::of_line(alloc, line)?.as_slice())
+}
+
+fn window(words: &[&str]) -> Result<u64, ParseError>
+    ensures { Gives result (window_in (texts words.now)) }
+{
+    let [word, ticks] = words else {
+        return Err(ParseError::Bad);
+    };
+    if *word != "window" {
+        return Err(ParseError::Bad);
     }
+    words::number_u64(ticks)
 }
 
-/// The number that a word spells in decimal digits, without leading zeros and in the range of its type.
+/// The number that a word spells in decimal digits, without leading zeros and in the range of its
+/// type.
 pub fn parse_number<T: TryFrom<u64>>(word: &str) -> Result<T, ParseError>
 where
     T::Error: Drop,
@@ -35,20 +54,47 @@ pub fn parse_principal(word: &str) -> Result<Principal, ParseError> {
     words::principal(word)
 }
 
-/// What a line after the first asks for.
-pub fn parse_line(alloc: Global, line: &[u8]) -> Result<Line, ParseError> {
-    match words::of_line(alloc, line)?.as_slice() {
-        ["used"] => Ok(Line::Used),
-        ["sweep", most] => sweep(most),
+/// What a line after the first asks for (docs/SCRIPTS.md, "Requests").
+///
+/// `Bad` where it asks for nothing: it is no text, or its words spell nothing; `NoMemory` where its
+/// words or its bytes don't fit in memory.
+pub fn parse_line(alloc: Global, line: &[u8]) -> Result<Line, ParseError>
+    ensures { Gives result (line_in_text line.now) }
+{
+    of_words(alloc, words::of_line(alloc, line)?.as_slice())
+}
+
+fn of_words(alloc: Global, words: &[&str]) -> Result<Line, ParseError>
+    ensures { Gives result (line_in (texts words.now)) }
+{
+    match words {
+        [word] => used(word),
+        [word, number] => counted(word, number),
         [moment, who, verb, words @ ..] => request(alloc, moment, who, verb, words),
+        [] => Err(ParseError::Bad),
+    }
+}
+
+fn used(word: &str) -> Result<Line, ParseError>
+    ensures { Gives result (used_in word.now) }
+{
+    match word {
+        "used" => Ok(Line::Used),
         _ => Err(ParseError::Bad),
     }
 }
 
-fn sweep(most: &str) -> Result<Line, ParseError> {
-    Ok(Line::Step(Step::Sweep {
-        n: words::number(most)?,
-    }))
+// A line of a word and a number: a cut or a sweep.
+fn counted(word: &str, number: &str) -> Result<Line, ParseError>
+    ensures { Gives result (counted_in word.now number.now) }
+{
+    match word {
+        "cut" => Ok(Line::Cut(words::moment(number)?)),
+        "sweep" => Ok(Line::Step(Step::Sweep {
+            n: words::number_u64(number)?,
+        })),
+        _ => Err(ParseError::Bad),
+    }
 }
 
 fn request(
@@ -57,7 +103,9 @@ fn request(
     who: &str,
     verb: &str,
     words: &[&str],
-) -> Result<Line, ParseError> {
+) -> Result<Line, ParseError>
+    ensures { Gives result (asked_in moment.now who.now verb.now (texts words.now)) }
+{
     Ok(Line::Step(Step::Request {
         moment: words::moment(moment)?,
         caller: Caller {

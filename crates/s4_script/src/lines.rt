@@ -6,8 +6,8 @@ ghost use Rattle.s4_script.specs.Lines.{first_line, lines, text_behind};
 
 use std::marker::Model;
 
-/// The lines of a text that are yet to be told, each with its number, which counts from 1. Each line
-/// ends with a line feed, which the last may lack; a line is told without it.
+/// The lines of a text that are yet to be told, each with its number, which counts from 1. Each
+/// line ends with a line feed, which the last may lack; a line is told without it.
 #[derive(Drop)]
 pub struct NumberedLines<'a> {
     left: &'a [u8],

@@ -3,7 +3,7 @@
 ghost use Rattle.std.specs.Prelude.{◌≡◌, Some};
 ghost use Rattle.std.specs.Fmt.{DisplaysOnOk};
 ghost use Rattle.hex.specs.Hex.{encode_lower};
-ghost use Rattle.s4_script.specs.Texts.{bytes_text, grant_text, line_text, lines_text, names_text, object_text, refusal_text, reply_text, right_text, used_text, user_text};
+ghost use Rattle.s4_script.specs.Texts.{bytes_text, cut_text, grant_text, line_text, lines_text, names_text, object_text, refusal_text, reply_text, right_text, used_text, user_text};
 
 use crate::records::AuditText;
 use s4_types::{Grant, Name, NameLine, ObjectId, Refusal, Reply, Right, User};
@@ -68,9 +68,21 @@ impl fmt::Display for UsedText {
     }
 }
 
+/// How many records went, as a line.
+#[derive(Clone, Copy)]
+pub struct CutText(pub u64);
+
+impl fmt::Display for CutText {
+    ghost output = { λ t. Some (cut_text t.0) };
+
+    fn fmt<W: fmt::Write>(&self, f: &mut fmt::Formatter<W>) -> fmt::Result {
+        write!(f, "cut {}", self.0)
+    }
+}
+
 /// An object as `7.0.1`.
 #[derive(Clone, Copy)]
-struct ObjectText(ObjectId);
+pub(crate) struct ObjectText(pub(crate) ObjectId);
 
 impl fmt::Display for ObjectText {
     ghost output = { λ t. Some (object_text t.0) };
@@ -86,7 +98,7 @@ impl fmt::Display for ObjectText {
 
 /// Whom an entry of an ACL is for: a principal's number, or the word `everyone`.
 #[derive(Clone, Copy)]
-struct UserText(User);
+pub(crate) struct UserText(pub(crate) User);
 
 impl fmt::Display for UserText {
     ghost output = { λ t. Some (user_text t.0) };
@@ -167,7 +179,7 @@ impl fmt::Display for LineText<'_> {
 }
 
 /// The name as text, which its bytes always are.
-fn text_of_name(name: &Name) -> &str
+pub(crate) fn text_of_name(name: &Name) -> &str
     ensures { result.now ≡ name.now }
 {
     match std::str::from_utf8(name.as_slice()) {

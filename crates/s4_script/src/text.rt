@@ -59,7 +59,8 @@ pub fn read_file<R: Files + AllocGlobal>(
 /// `CannotRead` where there are more, or the reader fails; `NoMemory` where they don't fit in
 /// memory.
 pub fn read_up_to<R: Read>(alloc: Global, reader: &mut R, limit: u32) -> Result<Vec<u8>, TextFault>
-    ensures whole { IfOk result (λ text. IfSome (R.remaining reader.old) (λ bytes. text.items ≡ bytes)) }
+    ensures whole { IfOk result
+        (λ text. IfSome (R.remaining reader.old) (λ bytes. text.items ≡ bytes)) }
     ensures short { IfOk result (λ text. length text.items ≤ limit) }
 {
     let mut text = Vec::new(alloc);
@@ -87,7 +88,8 @@ impl<R: Read> Read for Patient<R> {
 
     fn read(&mut self, buf: &mut [u8]) -> io::Result<usize>
         ensures bound { ReadsAtMost result buf.new }
-        ensures bytes { ReadConsumes (R.remaining self.old.inner) (R.remaining self.new.inner) result buf.new }
+        ensures bytes { ReadConsumes
+            (R.remaining self.old.inner) (R.remaining self.new.inner) result buf.new }
         ensures counts { self.new.left ≡ self.old.left - 1 }
         ensures spent { self.old.left ≡ 0 → IsErr result }
     {

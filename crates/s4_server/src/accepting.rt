@@ -16,11 +16,11 @@ use std::sync::atomic::{AtomicBool, Ordering};
 use std::time::{Clock, Duration};
 use std::{io, thread};
 
-/// How long it waits before it tries again, in milliseconds, where no connection can be accepted, or
-/// all places of the queue are taken, or no worker is there.
+/// How long it waits before it tries again, in milliseconds, where no connection can be accepted,
+/// or all places of the queue are taken, or no worker is there.
 const PAUSE: u64 = 10;
 
-/// How long it waits for a connection before it looks whether the server is to end, in milliseconds.
+/// How many milliseconds it waits for a connection before it looks whether the server is to end.
 const LOOK: u64 = 100;
 
 /// Where connections come in: a listener that is watched, and which connections are let in.
@@ -58,8 +58,8 @@ impl<'a> Door<'a> {
         }
     }
 
-    /// Accepts a connection, and tries again where that fails or where there are too many; none once
-    /// the server is to end.
+    /// Accepts a connection, and tries again where that fails or where there are too many; none
+    /// once the server is to end.
     fn accept<R: Wait + Clock>(&mut self, rt: &R) -> Option<TcpStream> {
         for _ in rt.forever() {
             if self.over.load(Ordering::SeqCst) {
@@ -96,9 +96,9 @@ impl<'a> Door<'a> {
     }
 }
 
-/// Accepts so many connections, by their numbers from 1 on, or without end where that is 0. Each is put
-/// into the queue, and given to the worker with the fewest. Tells whether there were so many before the
-/// server was to end.
+/// Accepts so many connections, by their numbers from 1 on, or without end where that is 0. Each is
+/// put into the queue, and given to the worker with the fewest. Tells whether there were so many
+/// before the server was to end.
 pub fn accept_all<R: Wait + Clock>(
     rt: &R,
     door: &mut Door<'_>,

@@ -19,7 +19,7 @@ const DELAY: u64 = 1000;
 /// The time within which the third failed login, and each later one, is slowed, in milliseconds.
 const SPAN: u64 = 60000;
 
-/// The failed logins of a principal: how many there were, and when the last two came, in milliseconds.
+/// The failed logins of a principal: their count, and when the last two came, in milliseconds.
 #[derive(Clone, Copy, Debug, PartialEq, Eq)]
 pub struct Failures {
     pub count: u64,
@@ -35,8 +35,9 @@ impl Failures {
         before: 0,
     };
 
-    /// Counts a failed login that comes now. Tells for how many milliseconds its answer waits: none for
-    /// the first two, and a second where the failure before the last one was within the last minute.
+    /// Counts a failed login that comes now. Tells for how many milliseconds its answer waits: none
+    /// for the first two, and a second where the failure before the last one was within the last
+    /// minute.
     pub fn add(&mut self, now: u64) -> u64
         ensures delay { result ≡ delay_of self.old now }
         ensures next { IsNext self.old now self.new }

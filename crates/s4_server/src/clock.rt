@@ -33,8 +33,8 @@ impl<'a, R: Clock> Stopwatch<'a, R> {
 
 impl<R: Clock + Sync> Ticks for Stopwatch<'_, R> {
     /// The first moment, and the milliseconds since the start; the greatest moment stays. Where the
-    /// system's clock can't be read it is the first one, so a request is then carried out at the moment
-    /// of the newest record that its front has for it.
+    /// system's clock can't be read it is the first one, so a request is then carried out at the
+    /// moment of the newest record that its front has for it.
     fn moment(&self) -> Moment
         ensures since { self.now.first ≤ result }
     {

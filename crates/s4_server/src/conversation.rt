@@ -47,10 +47,12 @@ impl Conversation {
         reader: &mut I,
         writer: &mut O,
     ) -> TurnEnd
-        // The calls that the pass gains are those that the bytes which were read ask for, each once and in order.
+        // The pass gains the calls that the bytes which were read ask for, each once and in order.
         ensures turns { Turns (is_whole result) (arc_value self.old.logins)
-            (scene (I.remaining reader.old) (O.contents writer.old) (calls_told desk.old.pass.calls) self.old.talking)
-            (scene (I.remaining reader.new) (O.contents writer.new) (calls_told desk.new.pass.calls) self.new.talking) }
+            (scene (I.remaining reader.old) (O.contents writer.old)
+            (calls_told desk.old.pass.calls) self.old.talking)
+            (scene (I.remaining reader.new) (O.contents writer.new)
+            (calls_told desk.new.pass.calls) self.new.talking) }
         ensures so { TurnsSo result (I.remaining reader.new) self.new.talking }
         ensures table { self.new.logins ≡ self.old.logins }
     {
@@ -87,9 +89,9 @@ impl Conversation {
         self.edition == edition
     }
 
-    /// Meets a newer table. Tells whether the peer may stay: where they were welcomed their secret has to
-    /// be the same there. `is_fresh` says that nothing was heard of the peer: then it begins anew, with the
-    /// newer table. One in the middle of a Hello may not stay.
+    /// Meets a newer table. Tells whether the peer may stay: where they were welcomed their secret
+    /// has to be the same there. `is_fresh` says that nothing was heard of the peer: then it begins
+    /// anew, with the newer table. One in the middle of a Hello may not stay.
     pub fn meets(&mut self, newer: Table, is_fresh: bool) -> bool
         // A talk in which something was heard keeps its table.
         ensures anew { IsTrue is_fresh → self.new.talking ≡ fresh_talk }

@@ -24,11 +24,12 @@ impl Leaving {
         Leaving { reads: READS }
     }
 
-    /// Reads what the peer says now, and forgets it. Tells whether more may come that is to be read.
+    /// Reads what the peer says now, and forgets it. Tells whether more may come that is read.
     pub fn hear<R: Read>(&mut self, reader: &mut R) -> bool
         ensures more { result ≡ nat_lt 0 self.new.reads }
         ensures fewer { self.new.reads ≤ self.old.reads }
-        ensures drained { Drains (1024 * (self.old.reads - self.new.reads)) (R.remaining reader.old) (R.remaining reader.new) }
+        ensures drained { Drains (1024 * (self.old.reads - self.new.reads))
+            (R.remaining reader.old) (R.remaining reader.new) }
     {
         self.reads = drain(reader, self.reads);
         self.reads > 0
@@ -50,7 +51,8 @@ pub enum Drained {
 /// nothing more comes.
 fn drain<R: Read>(reader: &mut R, reads: u32) -> u32
     ensures left { result ≤ reads }
-    ensures drained { Drains (1024 * (reads - result)) (R.remaining reader.old) (R.remaining reader.new) }
+    ensures drained { Drains (1024 * (reads - result))
+        (R.remaining reader.old) (R.remaining reader.new) }
 {
     for done in 0..reads {
         match drain_some(reader) {
@@ -66,7 +68,8 @@ fn drain<R: Read>(reader: &mut R, reads: u32) -> u32
 #[tactic(auto, using(crate::proofs::Drained::Drains_kept, crate::proofs::Drained::Drains_taken))]
 pub fn drain_some<R: Read>(reader: &mut R) -> Drained
     ensures drained { Drains 1024 (R.remaining reader.old) (R.remaining reader.new) }
-    ensures waits { result ≡ Drained.Waits → Drains 0 (R.remaining reader.old) (R.remaining reader.new) }
+    ensures waits { result ≡ Drained.Waits
+        → Drains 0 (R.remaining reader.old) (R.remaining reader.new) }
 {
     let mut piece = [0; PIECE];
     match reader.read(&mut piece) {

@@ -8,9 +8,9 @@ use crate::opening::Opening;
 use std::io;
 use std::io::{ErrorKind, Read, Write};
 
-/// Reads a stream, and notes how its connection begins, and whether its last read gave fewer bytes than
-/// it could have: then nothing more is there, and what comes later is told as an event of its own. A
-/// gauge that is shut reads nothing.
+/// Reads a stream, and notes how its connection begins, and whether its last read gave fewer bytes
+/// than it could have: then nothing more is there, and what comes later is told as an event of its
+/// own. A gauge that is shut reads nothing.
 #[derive(Drop)]
 pub struct Gauge<R> {
     stream: R,
@@ -52,8 +52,10 @@ impl<R: Read> Read for Gauge<R> {
 
     fn read(&mut self, buf: &mut [u8]) -> io::Result<usize>
         ensures bound { ReadsAtMost result buf.new }
-        ensures bytes { ReadConsumes (R.remaining self.old.stream) (R.remaining self.new.stream) result buf.new }
-        ensures shut { IsTrue self.old.shut → R.remaining self.new.stream ≡ R.remaining self.old.stream }
+        ensures bytes { ReadConsumes
+            (R.remaining self.old.stream) (R.remaining self.new.stream) result buf.new }
+        ensures shut { IsTrue self.old.shut
+            → R.remaining self.new.stream ≡ R.remaining self.old.stream }
         ensures short { IfOk result (λ count. self.new.short ≡ nat_lt count (length buf.new)) }
     {
         if self.shut {
@@ -66,7 +68,7 @@ impl<R: Read> Read for Gauge<R> {
     }
 }
 
-/// Writes to a stream, and notes whether that took bytes. A tap that is closed has nothing taken now.
+/// Writes to a stream, and notes whether that took bytes. A closed tap has nothing taken now.
 #[derive(Drop)]
 pub struct Tap<W> {
     stream: W,
@@ -99,8 +101,10 @@ impl<W: Write> Write for Tap<W> {
 
     fn write(&mut self, buf: &[u8]) -> io::Result<usize>
         ensures bound { WritesAtMost result buf.now }
-        ensures bytes { WriteAppends (W.contents self.old.stream) (W.contents self.new.stream) result buf.now }
-        ensures closed { IsTrue self.old.closed → W.contents self.new.stream ≡ W.contents self.old.stream }
+        ensures bytes { WriteAppends
+            (W.contents self.old.stream) (W.contents self.new.stream) result buf.now }
+        ensures closed { IsTrue self.old.closed
+            → W.contents self.new.stream ≡ W.contents self.old.stream }
     {
         if self.closed {
             return Err(io::Error::from(ErrorKind::WouldBlock));

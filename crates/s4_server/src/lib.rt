@@ -1,5 +1,5 @@
-//! A server over sockets: workers that serve connections, each with a pass of its own, one thread that
-//! accepts them, and one that sweeps the cells (docs/ARCHITECTURE.md, "The server").
+//! A server over sockets: workers that serve connections, each with a pass of its own, one thread
+//! that accepts them, and one that sweeps the cells (docs/ARCHITECTURE.md, "The server").
 #![tactic(auto)]
 
 mod accepting;

@@ -132,10 +132,10 @@ impl Peer {
         Next::GoesOn
     }
 
-    /// Takes a turn with the peer, where it is told replies. Once the server is to end it isn't read. Until
-    /// it is welcomed nothing is written in the turn that reads: so the answer to a failed login can wait.
-    /// There is no more to read where a read was shorter than it could have been, but for the end, of which
-    /// no further event may tell.
+    /// Takes a turn with the peer, where it is told replies. Once the server is to end it isn't
+    /// read. Until it is welcomed nothing is written in the turn that reads: so the answer to a
+    /// failed login can wait. There is no more to read where a read was shorter than it could have
+    /// been, but for the end, of which no further event may tell.
     fn talk<R: Wait, C: Ticks>(
         &mut self,
         shared: &Shared<'_, R, C>,
@@ -177,8 +177,9 @@ impl Peer {
         }
     }
 
-    /// Says that no more is sent, and hears out the peer, within bounds: a close with bytes that nobody
-    /// read would reset the connection, and the peer could lose the frame that tells the fault.
+    /// Says that no more is sent, and hears out the peer, within bounds: a close with bytes that
+    /// nobody read would reset the connection, and the peer could lose the frame that tells the
+    /// fault.
     fn leave(&mut self, now: u64) -> Next {
         // Where this fails the connection is lost already.
         let _ = self.stream.shutdown(Shutdown::Write);
@@ -187,9 +188,9 @@ impl Peer {
         self.hear_out()
     }
 
-    /// Says that no more is sent, where nothing waits to be written for the peer. What it still says is
-    /// read from then on: else a close could reset the connection, and the peer lose what it was sent.
-    /// Tells whether it is to go on at once for that.
+    /// Says that no more is sent, where nothing waits to be written for the peer. What it still
+    /// says is read from then on: else a close could reset the connection, and the peer lose what
+    /// it was sent. Tells whether it is to go on at once for that.
     pub fn ends(&mut self, now: u64) -> bool {
         let is_told = match &self.stage {
             Stage::Talks(talk) => talk.waiting() == 0,
@@ -221,8 +222,8 @@ impl Peer {
         }
     }
 
-    /// Whether the peer was silent, or took nothing of what waits for it, for too long, or isn't welcomed
-    /// yet and should be.
+    /// Whether the peer was silent, or took nothing of what waits for it, for too long, or isn't
+    /// welcomed yet and should be.
     pub fn is_idle(&self, now: u64, patience: &Patience) -> bool {
         let passed = now.saturating_sub(self.since);
         match &self.stage {
@@ -269,8 +270,8 @@ fn is_past(passed: u64, most: u64) -> bool {
     most > 0 && passed >= most
 }
 
-/// Until when the answer to a peer's first words waits, if it does: that to a failed login is slowed,
-/// where such logins of that principal were many.
+/// Until when the answer to a peer's first words waits, if it does: that to a failed login is
+/// slowed, where such logins of that principal were many.
 fn answered_at<R: Wait, C>(
     shared: &Shared<'_, R, C>,
     talk: &Conversation,

@@ -56,7 +56,7 @@ impl Peers {
         self.places.is_empty()
     }
 
-    /// How long a wait may be: not at all where some go on at once, and else until something is told.
+    /// How long a wait may be: not at all where some go on at once, else until something is told.
     pub fn patience(&self) -> Option<Duration> {
         if self.eager.is_empty() {
             None
@@ -130,9 +130,9 @@ impl Peers {
         places.retain(|place, peer| !peer.ends(now) || eager.push_back(place).is_ok());
     }
 
-    /// Looks after all, once at each time: closes those that were idle for too long, or whose login isn't
-    /// in the newest table any more, and has those go on whose answer had to wait and is due. Tells whether
-    /// it was time for that.
+    /// Looks after all, once at each time: closes those that were idle for too long, or whose login
+    /// isn't in the newest table any more, and has those go on whose answer had to wait and is due.
+    /// Tells whether it was time for that.
     pub fn look<R: Wait, C>(&mut self, shared: &Shared<'_, R, C>, now: u64) -> bool {
         if now == self.looked {
             return false;

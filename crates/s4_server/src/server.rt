@@ -76,9 +76,9 @@ impl Model for Server {
 }
 
 impl Server {
-    /// A server of these settings: its cells, a pass, a seat and a watch for each worker, and the queue
-    /// of connections. `NoMemory` where a growth was refused, and `NoWatch` where the system gives no
-    /// watch.
+    /// A server of these settings: its cells, a pass, a seat and a watch for each worker, and the
+    /// queue of connections. `NoMemory` where a growth was refused, and `NoWatch` where the system
+    /// gives no watch.
     pub fn open<N: Net>(net: &N, alloc: Global, settings: Settings) -> Result<Server, ServerFault>
         ensures { IfOk result (λ server. server ≡ settings) }
     {
@@ -106,8 +106,8 @@ impl Server {
         })
     }
 
-    /// Carries out a request before connections are served, at the moment that the clock tells. Its call is
-    /// one of the first pass.
+    /// Carries out a request before connections are served, at the moment that the clock tells. Its
+    /// call is one of the first pass.
     pub fn ask<R: Wait, C: Ticks>(
         &mut self,
         rt: &R,
@@ -124,12 +124,12 @@ impl Server {
         }
     }
 
-    /// Serves the connections of the listener, each by one worker until it ends, while one thread more
-    /// sweeps the cells in turn. Where the settings name a number of connections it ends after so many:
-    /// they are served to their ends, the workers are joined, and the front is closed. What it then gives
-    /// is what the closing of a front gives (docs/ARCHITECTURE.md, "Fronts"). Once the file that ends it is there it
-    /// ends too: no connection is accepted or read any more, and each is closed once all that it was
-    /// answered is written. It waits.
+    /// Serves the connections of the listener, each by one worker until it ends, while one thread
+    /// more sweeps the cells in turn. Where the settings name a number of connections it ends after
+    /// so many: they are served to their ends, the workers are joined, and the front is closed.
+    /// What it then gives is what the closing of a front gives (docs/ARCHITECTURE.md, "Fronts").
+    /// Once the file that ends it is there it ends too: no connection is accepted or read any more,
+    /// and each is closed once all that it was answered is written. It waits.
     pub fn run<'x, R: Threads + Wait + Clock + Eprint + Sync, C: Ticks>(
         self,
         rt: &'x R,
@@ -140,10 +140,13 @@ impl Server {
     ) -> Result<Closed, ServerFault>
         ensures there { IfOk result (λ closed. HasAll self.workers closed.passes.items) }
         ensures whole { IfOk result (λ closed. AreWhole self.window closed.cells.items) }
-        ensures history { IfOk result (λ closed. IsClosing self.window closed.cells.items closed.passes.items closed.history.items) }
+        ensures history { IfOk result
+            (λ closed. IsClosing self.window closed.cells.items closed.passes.items
+            closed.history.items) }
         ensures isolated { IfOk result (λ closed. (who : ℕ) → (who == 0) ≡ false
             → replies (records_of who closed.history.items)
-            ≡ replies_without_strangers (opened self.window) who (requests_in closed.history.items)) }
+            ≡ replies_without_strangers (opened self.window) who
+            (requests_in closed.history.items)) }
     {
         let Server {
             alloc,

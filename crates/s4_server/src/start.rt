@@ -10,8 +10,8 @@ const LOOKS: u32 = 5000;
 /// How long it rests in between, in milliseconds.
 const REST: u64 = 1;
 
-/// Where the threads of a server wait for each other. A thread that the system doesn't give is run when
-/// another one has ended, so it would never be there.
+/// Where the threads of a server wait for each other. A thread that the system doesn't give is run
+/// when another one has ended, so it would never be there.
 #[derive(Drop)]
 pub struct Start {
     wanted: u64,
@@ -29,8 +29,8 @@ impl Start {
         }
     }
 
-    /// Waits until all threads have come here. Tells whether they have: it waits for five seconds at most,
-    /// and once one thread has given up, all others do.
+    /// Waits until all threads have come here. Tells whether they have: it waits for five seconds
+    /// at most, and once one thread has given up, all others do.
     pub fn is_made<R: Clock>(&self, rt: &R) -> bool {
         self.here.fetch_add(1, Ordering::SeqCst);
         for _ in 0..LOOKS {

@@ -37,8 +37,8 @@ impl<'a> Telling<'a> {
         }
     }
 
-    /// Tells how the server is, where there is a file for that and it is time. Where it can't, it says so on
-    /// standard error, once until it can again.
+    /// Tells how the server is, where there is a file for that and it is time. Where it can't, it
+    /// says so on standard error, once until it can again.
     pub fn tell<R: Wait + Eprint, C: Ticks>(&mut self, shared: &Shared<'_, R, C>, cells: usize) {
         let now = shared.time.load(Ordering::SeqCst);
         let is_told = self
@@ -59,7 +59,8 @@ impl<'a> Telling<'a> {
         self.failed = written.is_err();
     }
 
-    /// Writes how the server is into a file beside the one that is wanted, and has it take that one's place.
+    /// Writes how the server is into a file beside the one that is wanted, and has it take that
+    /// one's place.
     fn write<R: Wait, C: Ticks>(
         &self,
         shared: &Shared<'_, R, C>,

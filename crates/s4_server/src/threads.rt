@@ -57,8 +57,8 @@ pub struct Shared<'a, R, C> {
     pub patience: Patience,
 }
 
-/// How many threads a server has beside its workers: one that accepts, one that sweeps, and one that looks
-/// after files.
+/// How many threads a server has beside its workers: one that accepts, one that sweeps, and one
+/// that looks after files.
 pub const OTHERS: u64 = 3;
 
 /// Serves connections, sweeps and looks after files meanwhile, until the last connection has ended.
@@ -156,8 +156,8 @@ fn work_all<R: Threads + Wait + Clock + Sync, C: Ticks>(
     }
 }
 
-/// Sweeps the cells in turn, round by round, until the end. At each round it tells the time, and has the
-/// workers look after their peers.
+/// Sweeps the cells in turn, round by round, until the end. At each round it tells the time, and
+/// has the workers look after their peers.
 fn sweep_to_the_end<R: Wait + Clock, C: Ticks>(
     shared: &Shared<'_, R, C>,
     cells: usize,
@@ -182,8 +182,8 @@ fn sweep_to_the_end<R: Wait + Clock, C: Ticks>(
     }
 }
 
-/// Looks after the server's files, round by round, until the end: whether it is to end, whether the logins
-/// have changed, and what is told of it.
+/// Looks after the server's files, round by round, until the end: whether it is to end, whether the
+/// logins have changed, and what is told of it.
 fn keep_to_the_end<R: Wait + Clock + Eprint, C: Ticks>(
     shared: &Shared<'_, R, C>,
     cells: usize,
@@ -207,7 +207,7 @@ fn keep_to_the_end<R: Wait + Clock + Eprint, C: Ticks>(
     }
 }
 
-/// Reads the logins again where it is time and they have changed, and tells where they can't be had.
+/// Reads the logins again where it is time and they changed, and tells where they can't be had.
 fn reload<R: Wait + Eprint, C>(shared: &Shared<'_, R, C>, reloading: &mut Reloading<'_>) {
     let now = shared.time.load(Ordering::SeqCst);
     if reloading.is_due(now) {

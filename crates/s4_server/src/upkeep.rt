@@ -14,7 +14,7 @@ use std::time::SystemTime;
 /// The files of a server that serves (docs/OPERATIONS.md, "Flags").
 #[derive(Drop)]
 pub struct Upkeep<'a> {
-    /// The files of the machine. They aren't those of a type parameter, since a thread looks at them.
+    /// The machine's files. They aren't those of a type parameter, since a thread looks at them.
     pub files: &'a HostRuntime,
     /// The path of the file whose being there ends the server; none where no file does.
     pub until: Option<&'a str>,
@@ -66,7 +66,7 @@ pub struct Reloading<'a> {
 }
 
 impl<'a> Reloading<'a> {
-    /// Begins with the table that was read before the server listened, and with the file as it is now.
+    /// Begins with the table that was read before the server listened, and the file as it is now.
     pub fn new(
         alloc: Global,
         upkeep: &'a Upkeep<'a>,
@@ -95,8 +95,8 @@ impl<'a> Reloading<'a> {
         has_changed
     }
 
-    /// Reads the logins, which are the newest table from now on. Where they can't be had, the old table
-    /// stays, and it is told why.
+    /// Reads the logins, which are the newest table from now on. Where they can't be had, the old
+    /// table stays, and it is told why.
     pub fn read<R: Wait>(&mut self, rt: &R, tables: &Tables) -> Result<(), RunFault> {
         self.renew(open_logins(self.upkeep.files, self.upkeep.logins))?;
         tables.replace(rt, Arc::try_clone(&self.table)?);

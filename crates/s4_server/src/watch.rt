@@ -49,7 +49,7 @@ impl Watch {
             .register(&mut source, token, Interest::READABLE)
     }
 
-    /// Waits until something is told, and for so long at most. Where the system can't tell, nothing is.
+    /// Waits until something is told, and for so long at most. Where the system can't, nothing is.
     pub fn wait(&mut self, most: Option<Duration>) -> &Events {
         let Watch { poll, events } = self;
         // Where it fails no event is left there.

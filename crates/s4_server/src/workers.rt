@@ -19,8 +19,8 @@ use std::sync::Wait;
 use std::sync::atomic::Ordering;
 use std::time::Clock;
 
-/// A worker's place: where it takes connections, where it waits for what their peers say, and where it
-/// answers their requests.
+/// A worker's place: where it takes connections, where it waits for what their peers say, and where
+/// it answers their requests.
 #[derive(Drop)]
 pub struct Worker<'a, R, C> {
     jobs: &'a Jobs<Connection>,
@@ -97,8 +97,8 @@ impl<R: Wait + Clock, C: Ticks> Worker<'_, R, C> {
         }
     }
 
-    /// Takes in the connections that it was given. One for which there is no memory, or that can't be
-    /// watched, is closed.
+    /// Takes in the connections that it was given. One for which there is no memory, or that can't
+    /// be watched, is closed.
     fn take(&mut self, shared: &Shared<'_, R, C>) {
         for _ in self.taken..self.post.given() {
             let Worker {

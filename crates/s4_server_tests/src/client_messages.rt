@@ -31,7 +31,7 @@ fn write_of(alloc: Global, count: usize) -> Result<Request, Fail> {
     Ok(Request::Write {
         object,
         offset: 0,
-        bytes: Bytes::new(Vec::from_elem(alloc, 0x61, count)?),
+        bytes: Bytes::from_vec(Vec::from_elem(alloc, 0x61, count)?)?,
     })
 }
 

@@ -22,7 +22,7 @@ pub const ADDRESS: &str = "127.0.0.1:47104";
 
 /// How often it is tried to have the port, which another run may have, and how long it waits in
 /// between, in milliseconds.
-pub const TRIES: u32 = 200;
+pub const TRIES: u32 = 1000;
 
 pub const PAUSE: u64 = 100;
 
@@ -72,7 +72,7 @@ pub enum Scene {
     Trickle,
     /// As many as may be open are silent, and another one comes until it is served.
     Strangers,
-    /// One guesses the secret of 7 thrice.
+    /// The secret of 7 is guessed until an answer waits while others are welcomed.
     Guess,
     /// The logins are changed.
     Reload,
@@ -120,7 +120,7 @@ pub fn play<
         Scene::Dribble => one(alloc, dribble(rt, alloc)),
         Scene::Trickle => one(alloc, trickle(rt, alloc)),
         Scene::Strangers => one(alloc, come_after_strangers(rt, alloc)),
-        Scene::Guess => guess(rt, alloc),
+        Scene::Guess => guess(rt, files, alloc, paths.end),
         Scene::Reload => reload(rt, files, alloc, paths),
         Scene::Status => read_status(rt, files, alloc, paths),
     }
@@ -217,30 +217,31 @@ fn ask_among<R: Net<Listener = TcpListener, Stream = TcpStream>>(
     tell(rt, alloc, CALL)
 }
 
-/// The connection of a peer that asks for more than the system keeps for it, and reads none of it.
-fn deaf<R: Net<Listener = TcpListener, Stream = TcpStream>>(
-    rt: &R,
-    alloc: Global,
-) -> io::Result<TcpStream> {
+/// Asks for more than the system keeps for a peer, and reads none of it.
+fn ask_for_much(stream: &mut TcpStream, alloc: Global) -> io::Result<()> {
     let written = Vec::from_elem(alloc, b'a', 4000)?;
-    let mut deaf = connect(rt)?;
     for piece in [HELLO, CREATE, LONG_WRITE, written.as_slice()] {
-        deaf.write_all(piece)?;
+        stream.write_all(piece)?;
     }
     for _ in 0..ASKED {
-        deaf.write_all(LONG_READ)?;
+        stream.write_all(LONG_READ)?;
     }
-    Ok(deaf)
+    Ok(())
 }
 
-/// The connection of such a peer, and what another one is sent meanwhile.
+/// The connection of a peer that asks for that much, and what another one is sent meanwhile.
 fn ask_without_hearing<R: Net<Listener = TcpListener, Stream = TcpStream>>(
     rt: &R,
     alloc: Global,
 ) -> io::Result<Heard> {
-    let open = Some(deaf(rt, alloc)?);
+    let mut deaf = connect(rt)?;
+    // Its connection may end before it has asked for all.
+    let _ = ask_for_much(&mut deaf, alloc);
     let sent = Vec::from_array(alloc, [tell(rt, alloc, CALL)?])?;
-    Ok(Heard { sent, open })
+    Ok(Heard {
+        sent,
+        open: Some(deaf),
+    })
 }
 
 /// What a silent peer is sent until its connection ends.
@@ -311,7 +312,8 @@ fn hear_late<R: Net<Listener = TcpListener, Stream = TcpStream> + Clock>(
     alloc: Global,
     end: &str,
 ) -> io::Result<Vec<u8>> {
-    let mut stream = deaf(rt, alloc)?;
+    let mut stream = connect(rt)?;
+    ask_for_much(&mut stream, alloc)?;
     let mut sent = Vec::from_elem(alloc, 0, BEGUN)?;
     stream.read_exact(sent.as_mut_slice())?;
     fs::write(files, end, "")?;

@@ -22,7 +22,8 @@ pub fn answer_all(
 ) -> Result<Vec<u8>, NoMemory>
     requires later { last_of drive.old.history ≤ moment }
     requires first { All NamesFirst events.now }
-    ensures answered { IfOk result (λ sent. Answered moment events.now drive.old drive.new [] sent.items) }
+    ensures answered { IfOk result
+        (λ sent. Answered moment events.now drive.old drive.new [] sent.items) }
     ensures last { last_of drive.new.history ≤ moment }
 {
     let mut sent = BytesMut::new(alloc);
@@ -40,7 +41,8 @@ fn answer(
 ) -> Result<(), NoMemory>
     requires later { last_of drive.old.history ≤ moment }
     requires first { NamesFirst event.now }
-    ensures answered { OnOk result (Answered moment (event.now ∷ []) drive.old drive.new out.old.items out.new.items) }
+    ensures answered { OnOk result
+        (Answered moment (event.now ∷ []) drive.old drive.new out.old.items out.new.items) }
     ensures last { last_of drive.new.history ≤ moment }
 {
     match event {

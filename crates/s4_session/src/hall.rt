@@ -18,8 +18,8 @@ use s4_types::{Moment, NoMemory, Version};
 use std::alloc::{AllocError, Global};
 use std::marker::Model;
 
-/// One drive, and the connections on which its callers log in. What comes on them, and when, is told
-/// to the hall; what it answers is what is sent on them.
+/// One drive, and the connections on which its callers log in. What comes on them, and when, is
+/// told to the hall; what it answers is what is sent on them.
 #[derive(Drop)]
 pub struct Hall {
     alloc: Global,
@@ -37,7 +37,13 @@ impl Model for Hall {
 
     ghost Value = { halls.Hall };
 
-    ghost view = { λ h. record { logins = h.logins; log = h.drive; sessions = h.sessions; last = h.last; failed = h.failed } };
+    ghost view = { λ h. record {
+      logins = h.logins;
+      log = h.drive;
+      sessions = h.sessions;
+      last = h.last;
+      failed = h.failed;
+    } };
 
     ghost invariant = { λ h. last_of h.drive.history ≤ h.last };
 }
@@ -46,7 +52,13 @@ impl Hall {
     /// A hall without connections over a fresh drive, whose window has so many ticks. Takes no
     /// memory.
     pub fn open(alloc: Global, window: u64, logins: Logins) -> Hall
-        ensures { result ≡ record { logins = logins; log = fresh_log window; sessions = []; last = 0; failed = false } }
+        ensures { result ≡ record {
+          logins = logins;
+          log = fresh_log window;
+          sessions = [];
+          last = 0;
+          failed = false;
+        } }
     {
         Hall {
             alloc,
@@ -66,15 +78,17 @@ impl Hall {
     }
 
     /// Hears a piece that comes on a connection at a moment that isn't before the last arrival's,
-    /// and gives the bytes that are sent on that connection. The first arrival on a connection opens
-    /// it, and one that a fault ended is sent nothing. Where a growth was refused outside a reply,
-    /// it answers `NoMemory`, then and from then on.
+    /// and gives the bytes that are sent on that connection. The first arrival on a connection
+    /// opens it, and one that a fault ended is sent nothing. Where a growth was refused outside a
+    /// reply, it answers `NoMemory`, then and from then on.
     pub fn arrive(&mut self, conn: u32, moment: Moment, piece: &[u8]) -> Result<Vec<u8>, NoMemory>
         requires { self.old.last ≤ moment }
         // What the session hears in the piece is answered by the drive.
-        ensures takes { IfOk result (λ sent. Takes conn moment piece.now self.old self.new sent.items) }
+        ensures takes { IfOk result
+            (λ sent. Takes conn moment piece.now self.old self.new sent.items) }
         // So the bytes are what the arrival adds to those of all arrivals before it.
-        ensures adds { IfOk result (λ sent. Arrives conn moment piece.now self.old self.new sent.items) }
+        ensures adds { IfOk result
+            (λ sent. Arrives conn moment piece.now self.old self.new sent.items) }
         ensures fails { OnErr result (self.new.failed ≡ true) }
         ensures stays_failed { self.old.failed ≡ true → IsErr result }
     {
@@ -90,7 +104,9 @@ impl Hall {
     fn try_arrive(&mut self, conn: u32, moment: Moment, piece: &[u8]) -> Result<Vec<u8>, NoMemory>
         requires { self.old.last ≤ moment }
         // The hall that `arrive` leaves is this one, not failed.
-        ensures takes { IfOk result (λ sent. Takes conn moment piece.now self.old (record self.new { failed = false }) sent.items) }
+        ensures takes { IfOk result
+            (λ sent. Takes conn moment piece.now self.old (record self.new { failed = false })
+            sent.items) }
         ensures failed { self.new.failed ≡ self.old.failed }
     {
         self.last = moment;
@@ -98,9 +114,9 @@ impl Hall {
         answer_all(self.alloc, &mut self.drive, moment, events.as_slice())
     }
 
-    /// Has the drive free at most so many of the values and bindings that are expired at the horizon
-    /// of its newest record and still held, and tells how many: the smaller of the two numbers. It
-    /// takes no memory, and changes nothing of what is sent.
+    /// Has the drive free at most so many of the values and bindings that are expired at the
+    /// horizon of its newest record and still held, and tells how many: the smaller of the two
+    /// numbers. It takes no memory, and changes nothing of what is sent.
     pub fn sweep(&mut self, most: u64) -> u64
         ensures freed { result ≡ min most (expired_in self.old.log) }
         ensures swept { self.new ≡ record self.old { log = swept most self.old.log } }
@@ -116,9 +132,9 @@ impl Hall {
         self.drive.used()
     }
 
-    /// Takes the steps in turn on a fresh hall, and gives all that is sent, by connection. The hall is
-    /// then as `arrive` and `sweep` leave it. Where it answers `NoMemory`, `arrive` does so from then
-    /// on.
+    /// Takes the steps in turn on a fresh hall, and gives all that is sent, by connection. The hall
+    /// is then as `arrive` and `sweep` leave it. Where it answers `NoMemory`, `arrive` does so from
+    /// then on.
     ///
     /// For each principal other than the administrator, and where no request met want of memory,
     /// the bytes sent on its connections are those that the plain log gives once all strangers'
@@ -126,9 +142,13 @@ impl Hall {
     pub fn run(&mut self, steps: &[HallStep]) -> Result<Vec<(u32, Vec<u8>)>, NoMemory>
         requires fresh { IsFresh self.old }
         requires moments { NeverDown 0 steps.now }
-        ensures sent { IfOk result (λ sent. IsSent (opened self.old.log.opened) self.old.logins steps.now (lists_of sent.items)) }
+        ensures sent { IfOk result
+            (λ sent. IsSent (opened self.old.log.opened) self.old.logins steps.now
+            (lists_of sent.items)) }
         // The hall stands after the steps, with the replies that were sent, and hasn't failed.
-        ensures leaves { IfOk result (λ sent. Leaves self.old.log.opened self.old.logins steps.now (lists_of sent.items) self.new) }
+        ensures leaves { IfOk result
+            (λ sent. Leaves self.old.log.opened self.old.logins steps.now (lists_of sent.items)
+            self.new) }
         ensures fails { OnErr result (self.new.failed ≡ true) }
     {
         let sent = self.try_run(steps);
@@ -141,8 +161,12 @@ impl Hall {
     fn try_run(&mut self, steps: &[HallStep]) -> Result<Vec<(u32, Vec<u8>)>, NoMemory>
         requires fresh { IsFresh self.old }
         requires moments { NeverDown 0 steps.now }
-        ensures sent { IfOk result (λ sent. IsSent (opened self.old.log.opened) self.old.logins steps.now (lists_of sent.items)) }
-        ensures leaves { IfOk result (λ sent. Leaves self.old.log.opened self.old.logins steps.now (lists_of sent.items) self.new) }
+        ensures sent { IfOk result
+            (λ sent. IsSent (opened self.old.log.opened) self.old.logins steps.now
+            (lists_of sent.items)) }
+        ensures leaves { IfOk result
+            (λ sent. Leaves self.old.log.opened self.old.logins steps.now (lists_of sent.items)
+            self.new) }
     {
         let mut outbox = Outbox::new(self.alloc);
         for step in steps {

@@ -36,7 +36,9 @@ impl Outbox {
     /// Adds bytes to those sent on the connection, which there may be none of.
     pub fn add(&mut self, conn: u32, bytes: Vec<u8>) -> Result<(), NoMemory>
         ensures { OnOk result ((c : ℕ) → bytes_for c self.new
-            ≡ cond (conn == c) (Some (unwrap_or (bytes_for conn self.old) [] ++ bytes.items)) (bytes_for c self.old)) }
+            ≡ cond (conn == c)
+            (Some (unwrap_or (bytes_for conn self.old) [] ++ bytes.items))
+            (bytes_for c self.old)) }
     {
         if self.sent.contains_key(&conn) {
             let all = self.sent.get_mut(&conn).unwrap();

@@ -36,10 +36,11 @@ impl Sessions {
         }
     }
 
-    /// Feeds a piece to the connection's session, which is opened where nothing came before. After a
-    /// fault nothing is heard.
+    /// Feeds a piece to the connection's session, which is opened where nothing came before. After
+    /// a fault nothing is heard.
     pub fn feed(&mut self, logins: &Logins, conn: u32, piece: &[u8]) -> Result<Vec<Event>, NoMemory>
-        ensures events { IfOk result (λ events. events.items ≡ (heard_on logins.now conn self.old piece.now).events) }
+        ensures events { IfOk result
+            (λ events. events.items ≡ (heard_on logins.now conn self.old piece.now).events) }
         ensures first { IfOk result (λ events. All NamesFirst events.items) }
         ensures sessions { OnOk result (Feeds logins.now conn piece.now self.old self.new) }
     {
@@ -50,8 +51,10 @@ impl Sessions {
 
     /// Opens a connection, if it isn't open.
     fn open(&mut self, conn: u32) -> Result<(), NoMemory>
-        ensures open { OnOk result (session_of conn self.new ≡ Some (unwrap_or (session_of conn self.old) fresh)) }
-        ensures others { OnOk result ((d : ℕ) → (conn == d) ≡ false → session_of d self.new ≡ session_of d self.old) }
+        ensures open { OnOk result
+            (session_of conn self.new ≡ Some (unwrap_or (session_of conn self.old) fresh)) }
+        ensures others { OnOk result
+            ((d : ℕ) → (conn == d) ≡ false → session_of d self.new ≡ session_of d self.old) }
     {
         if self.sessions.contains_key(&conn) {
             return Ok(());

@@ -28,7 +28,7 @@ fn write_of(alloc: Global, length: usize) -> Result<Request, Fail> {
     Ok(Request::Write {
         object: object()?,
         offset: 0,
-        bytes: Bytes::new(vec![in alloc; 97; length]?),
+        bytes: Bytes::from_vec(vec![in alloc; 97; length]?)?,
     })
 }
 
@@ -36,7 +36,7 @@ fn write_of(alloc: Global, length: usize) -> Result<Request, Fail> {
 fn data_of(alloc: Global, length: usize) -> Result<Reply, Fail> {
     Ok(Reply::Data {
         grant: Grant::Admin,
-        bytes: Bytes::new(vec![in alloc; 97; length]?),
+        bytes: Bytes::from_vec(vec![in alloc; 97; length]?)?,
     })
 }
 

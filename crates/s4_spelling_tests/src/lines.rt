@@ -1,7 +1,7 @@
 //! What the lines of scripts and arrivals ask for, told with the names of all fields, and lines
 //! that ask for nothing.
 
-use s4_script::{ParseError, parse_arrival, parse_line, parse_window};
+use s4_script::{ArrivalLine, ParseError, parse_arrival, parse_line, parse_window};
 use std::alloc::Global;
 use std::test::Fail;
 
@@ -12,8 +12,12 @@ const FIRST_LINES: [(&str, u64); 2] = [
 ];
 
 /// Lines after the first.
-const LINES: [(&str, &str); 9] = [
+const LINES: [(&str, &str); 10] = [
     ("used", "Used"),
+    (
+        "cut 18446744073709551615",
+        "Cut(Moment { tick: 18446744073709551615 })",
+    ),
     (
         "sweep 18446744073709551615",
         "Step(Sweep { n: 18446744073709551615 })",
@@ -74,25 +78,19 @@ const LINES: [(&str, &str); 9] = [
     ),
 ];
 
-/// Lines of arrivals.
-const ARRIVALS: [(&str, &str); 3] = [
+/// Lines of arrivals, and the moment, the connection and the bytes that they tell.
+const ARRIVALS: [(&str, u64, u32, &[u8]); 2] = [
     (
         "18446744073709551615 4294967295 0A00fF",
-        "Arrive { moment: Moment { tick: 18446744073709551615 }, conn: 4294967295, \
-         piece: Bytes { bytes: [10, 0, 255] } }",
+        18446744073709551615,
+        4294967295,
+        &[10, 0, 255],
     ),
-    (
-        "5 0 empty",
-        "Arrive { moment: Moment { tick: 5 }, conn: 0, piece: Bytes { bytes: [] } }",
-    ),
-    (
-        "sweep 18446744073709551615",
-        "Sweep { n: 18446744073709551615 }",
-    ),
+    ("5 0 empty", 5, 0, &[]),
 ];
 
 /// Lines after the first that spell nothing.
-const BAD_LINES: [&str; 138] = [
+const BAD_LINES: [&str; 144] = [
     "0",
     "0 7",
     "0 7 ",
@@ -229,6 +227,12 @@ const BAD_LINES: [&str; 138] = [
     "0 sweep 1",
     "0 0 sweep 1",
     "used 1",
+    "cut",
+    "cut -1",
+    "cut 18446744073709551616",
+    "cut 1 1",
+    "cut at 1",
+    "0 0 cut 1",
     "0 used",
     "0 0 used",
 ];
@@ -265,10 +269,22 @@ fn fields_of_line(alloc: Global, line: &str) -> Result<String, Fail> {
     Ok(format!(in alloc; "{line:?}")?)
 }
 
-/// The fields of what a line of arrivals tells.
-fn fields_of_arrival(alloc: Global, line: &str) -> Result<String, Fail> {
-    let line = parse_arrival(alloc, line.as_bytes())?;
-    Ok(format!(in alloc; "{line:?}")?)
+/// That a line of arrivals tells of these bytes.
+fn is_piece(
+    alloc: Global,
+    line: &str,
+    tick: u64,
+    connection: u32,
+    bytes: &[u8],
+) -> Result<bool, Fail> {
+    match parse_arrival(alloc, line.as_bytes())? {
+        ArrivalLine::Arrive {
+            moment,
+            conn,
+            piece,
+        } => Ok(moment.tick() == tick && conn == connection && piece.as_slice() == bytes),
+        ArrivalLine::Sweep { .. } => Ok(false),
+    }
 }
 
 #[test]
@@ -286,12 +302,20 @@ fn lines_ask_for_these_fields(rt: HostRuntime) -> Result<(), Fail> {
             "at {line}"
         );
     }
-    for (line, fields) in &ARRIVALS {
+    Ok(())
+}
+
+#[test]
+fn arrivals_tell_of_these_bytes(rt: HostRuntime) -> Result<(), Fail> {
+    let alloc = rt.alloc();
+    for (line, tick, connection, bytes) in &ARRIVALS {
         assert!(rt;
-            fields_of_arrival(alloc, line)?.as_str() == *fields,
+            is_piece(alloc, line, *tick, *connection, bytes)?,
             "at {line}"
         );
     }
+    let sweep = parse_arrival(alloc, b"sweep 18446744073709551615");
+    assert!(rt; sweep == Ok(ArrivalLine::Sweep { n: u64::MAX }));
     Ok(())
 }
 

@@ -16,13 +16,13 @@ use Rattle.s4_types.specs.Outcome.{◌>>◌, refuse_if, reply_of}
 use Rattle.s4_types.proofs.Outcomes.{passes_test}
 use Rattle.s4_types.specs.declared.record.Record.{Record}
 use Rattle.s4_types.specs.Names.{same_purse, same_object, object_in}
-use Rattle.s4_types.specs.Kinds.{is_refused, only_reads, is_create, is_wide, is_about, concerns}
+use Rattle.s4_types.specs.Kinds.{is_refused, only_reads, is_create, is_wide, is_about, concerns, purse_of}
 use Rattle.s4_types.specs.Base.{Base}
 use Rattle.s4_types.specs.Serials.{drawn}
 use Rattle.s4_types.specs.Spending.{sum_to, binding_cost}
-use Rattle.s4_types.specs.Answer.{value_or_empty, made_past, data_of, attributes_of, acl_of}
+use Rattle.s4_types.specs.Answer.{value_or_empty, made_past}
 use Rattle.s4_types.specs.Acl.{acl_with}
-use Rattle.s4_types.specs.Versions.{Track, Value, Span, when, span_of, is_made, is_deleted, makes, deletes, lives_at, begun, value_at, versions, data_track, attribute_track, acl_track, data_effect, attribute_effect, acl_effect, written, of_length}
+use Rattle.s4_types.specs.Versions.{Track, Value, Span, span_of, is_made, is_deleted, makes, deletes, lives_at, begun, value_at, versions, data_track, attribute_track, acl_track, data_effect, attribute_effect, acl_effect, written, of_length}
 use Rattle.s4_types.specs.Erased.{span_by}
 use Rattle.s4_types.proofs.Booleans.{by_test, &&-false, &&-true, not_both}
 use Rattle.s4_types.proofs.Erasing.{flushed-whole, versions-idle}
@@ -36,6 +36,8 @@ use Rattle.s4_state.proofs.Current.{Current, current, untouched, unchanged, made
 use Rattle.s4_state.proofs.Granting.{told-accepted, accepted-by-kind, changed_by, changed-lives, IsNextOf, made_is}
 use Rattle.s4_state.proofs.Rebinding.{names-idle, names-move}
 use Rattle.s4_state.proofs.Weighing.{sum_to-cong, sum_to-zero, first-weight, end-weight, put-weight, unbinding_weight, unbound_weight, OnlyErases, Moves, object-freed-none, erases-moves, moves-one, share-sum, freed_weight-none, purse-moves, purse-made}
+use Rattle.s4_types.specs.Contents.{data_of, attributes_of, acl_of}
+use Rattle.std.specs.Bool.{then_some}
 
 -- what the record makes past weighs what its charge tells, and what it erases is taken back
 abbrev pub Charges : Base → (ℕ → ℕ → ℕ) → List Record → Record → Type 0
@@ -74,8 +76,8 @@ module _ (f : ℕ → ℕ → ℕ) (base : Base) (h : List Record) (m : ℕ) (ca
     abbrev r : Record
     r = by request
 
-    concerned : (p : Purse) → concerns p r ≡ (not (only_reads request) && (is_wide caller request || is_about p caller request))
-    concerned p = ap (λ b. (not b && not (only_reads request)) && (is_wide caller request || is_about p caller request)) granted
+    concerned : (p : Purse) → concerns p r ≡ (not (only_reads request) && (is_wide caller request || is_about p (purse_of caller request)))
+    concerned p = ap (λ b. (not b && not (only_reads request)) && (is_wide caller request || is_about p (purse_of caller request))) granted
 
     binding-none : unbinding_weight f m request ≡ 0 → (p : Purse) → unbound_weight f p r ≡ 0
     binding-none none p = ap (λ d. cond (concerns p r) d 0) none ∙ either (concerns p r) 0
@@ -112,9 +114,9 @@ module _ (f : ℕ → ℕ → ℕ) (base : Base) (h : List Record) (m : ℕ) (ca
           omega (arith, moved, parts, binding)
 
       -- a request that changes or deletes one object
-      module _ (o : ObjectId) (of_o : changed_by request ≡ Some o) (changes : only_reads request ≡ false) (about : (p : Purse) → (is_wide caller request || is_about p caller request) ≡ same_purse o.purse p) (plain : (q : ObjectId) → span_of q request ≡ None) where
+      module _ (o : ObjectId) (of_o : changed_by request ≡ Some o) (changes : only_reads request ≡ false) (about : (p : Purse) → (is_wide caller request || is_about p (purse_of caller request)) ≡ same_purse o.purse p) (plain : (q : ObjectId) → span_of q request ≡ None) where
         concerned-o : (p : Purse) → concerns p r ≡ same_purse o.purse p
-        concerned-o p = concerned p ∙ ap (λ b. not b && (is_wide caller request || is_about p caller request)) changes ∙ about p
+        concerned-o p = concerned p ∙ ap (λ b. not b && (is_wide caller request || is_about p (purse_of caller request))) changes ∙ about p
 
         here : concerns o.purse r ≡ true
         here = concerned-o o.purse ∙ purse_self o.purse
@@ -172,46 +174,46 @@ module _ (f : ℕ → ℕ → ℕ) (base : Base) (h : List Record) (m : ℕ) (ca
         one cost = let whole : sum_by (f m) (cost ∷ []) ≡ f m cost + 0 = sum_by-cons (f m) cost [] in omega (arith, whole)
 
         -- it puts other data in their place
-        data-charges : (new : List ℕ → List ℕ) → ((q : ObjectId) → is_deleted q request ≡ false) → ((q : ObjectId) (old : List ℕ) → data_effect q request old ≡ when (same_object o q) (new old))
+        data-charges : (new : List ℕ → List ℕ) → ((q : ObjectId) → is_deleted q request ≡ false) → ((q : ObjectId) (old : List ℕ) → data_effect q request old ≡ then_some (same_object o q) (new old))
             → ((q : ObjectId) (old : List ℕ) → attribute_effect q request old ≡ None) → ((q : ObjectId) (old : List AclEntry) → acl_effect q request old ≡ None)
             → unbinding_weight f m request ≡ 0 → made_past base h m request ≡ data_track.cost (data_of base o m h) ∷ [] → Charges base f h r
         data-charges new undeleted does on-attributes on-acl unbinding past =
             one-charges unbinding
-            (let a = put-adds data_track data-now (undeleted o) (new data-now.newest.value) (does o data-now.newest.value ∙ ap (λ b. when b (new data-now.newest.value)) (object_self o)) in
+            (let a = put-adds data_track data-now (undeleted o) (new data-now.newest.value) (does o data-now.newest.value ∙ ap (λ b. then_some b (new data-now.newest.value)) (object_self o)) in
             let b = keeps attribute_track (undeleted o) (on-attributes o) in
             let c = keeps acl_track (undeleted o) (on-acl o) in
             let freed = freed-nothing in
             let charge = ap (sum_by (f m)) past ∙ one (data_track.cost (data_of base o m h)) in
             omega (arith, a, b, c, freed, charge))
-            (λ q e. apart q (undeleted q) (λ old. does q old ∙ ap (λ b. when b (new old)) e) (on-attributes q) (on-acl q))
+            (λ q e. apart q (undeleted q) (λ old. does q old ∙ ap (λ b. then_some b (new old)) e) (on-attributes q) (on-acl q))
 
         -- or other attributes
         attribute-charges : (bytes : List ℕ) → ((q : ObjectId) → is_deleted q request ≡ false) → ((q : ObjectId) (old : List ℕ) → data_effect q request old ≡ None)
-            → ((q : ObjectId) (old : List ℕ) → attribute_effect q request old ≡ when (same_object o q) bytes) → ((q : ObjectId) (old : List AclEntry) → acl_effect q request old ≡ None)
+            → ((q : ObjectId) (old : List ℕ) → attribute_effect q request old ≡ then_some (same_object o q) bytes) → ((q : ObjectId) (old : List AclEntry) → acl_effect q request old ≡ None)
             → unbinding_weight f m request ≡ 0 → made_past base h m request ≡ attribute_track.cost (attributes_of base o m h) ∷ [] → Charges base f h r
         attribute-charges bytes undeleted on-data does on-acl unbinding past =
             one-charges unbinding
             (let a = keeps data_track (undeleted o) (on-data o) in
-            let b = put-adds attribute_track attributes-now (undeleted o) bytes (does o attributes-now.newest.value ∙ ap (λ b. when b bytes) (object_self o)) in
+            let b = put-adds attribute_track attributes-now (undeleted o) bytes (does o attributes-now.newest.value ∙ ap (λ b. then_some b bytes) (object_self o)) in
             let c = keeps acl_track (undeleted o) (on-acl o) in
             let freed = freed-nothing in
             let charge = ap (sum_by (f m)) past ∙ one (attribute_track.cost (attributes_of base o m h)) in
             omega (arith, a, b, c, freed, charge))
-            (λ q e. apart q (undeleted q) (on-data q) (λ old. does q old ∙ ap (λ b. when b bytes) e) (on-acl q))
+            (λ q e. apart q (undeleted q) (on-data q) (λ old. does q old ∙ ap (λ b. then_some b bytes) e) (on-acl q))
 
         -- or another ACL
         acl-charges : (new : List AclEntry → List AclEntry) → ((q : ObjectId) → is_deleted q request ≡ false) → ((q : ObjectId) (old : List ℕ) → data_effect q request old ≡ None)
-            → ((q : ObjectId) (old : List ℕ) → attribute_effect q request old ≡ None) → ((q : ObjectId) (old : List AclEntry) → acl_effect q request old ≡ when (same_object o q) (new old))
+            → ((q : ObjectId) (old : List ℕ) → attribute_effect q request old ≡ None) → ((q : ObjectId) (old : List AclEntry) → acl_effect q request old ≡ then_some (same_object o q) (new old))
             → unbinding_weight f m request ≡ 0 → made_past base h m request ≡ acl_track.cost (acl_of base o m h) ∷ [] → Charges base f h r
         acl-charges new undeleted on-data on-attributes does unbinding past =
             one-charges unbinding
             (let a = keeps data_track (undeleted o) (on-data o) in
             let b = keeps attribute_track (undeleted o) (on-attributes o) in
-            let c = put-adds acl_track acl-now (undeleted o) (new acl-now.newest.value) (does o acl-now.newest.value ∙ ap (λ b. when b (new acl-now.newest.value)) (object_self o)) in
+            let c = put-adds acl_track acl-now (undeleted o) (new acl-now.newest.value) (does o acl-now.newest.value ∙ ap (λ b. then_some b (new acl-now.newest.value)) (object_self o)) in
             let freed = freed-nothing in
             let charge = ap (sum_by (f m)) past ∙ one (acl_track.cost (acl_of base o m h)) in
             omega (arith, a, b, c, freed, charge))
-            (λ q e. apart q (undeleted q) (on-data q) (on-attributes q) (λ old. does q old ∙ ap (λ b. when b (new old)) e))
+            (λ q e. apart q (undeleted q) (on-data q) (on-attributes q) (λ old. does q old ∙ ap (λ b. then_some b (new old)) e))
 
         -- it ends the object
         delete-charges : ((q : ObjectId) → is_deleted q request ≡ same_object o q) → ((q : ObjectId) (old : List ℕ) → data_effect q request old ≡ None) → ((q : ObjectId) (old : List ℕ) → attribute_effect q request old ≡ None)
@@ -313,7 +315,7 @@ module _ (f : ℕ → ℕ → ℕ) (base : Base) (h : List Record) (m : ℕ) (ca
 
 pub charges : (f : ℕ → ℕ → ℕ) {base : Base} {h : List Record} {r : Record} → IsSound base h → IsNext base h r → Charges base f h r
 charges f {base} {h} {r} s n = by_test (is_refused r.reply)
-    (λ e. idle-charges f base h r.moment r.caller r.reply r.request (λ p. ap (λ b. (not b && not (only_reads r.request)) && (is_wide r.caller r.request || is_about p r.caller r.request)) e))
+    (λ e. idle-charges f base h r.moment r.caller r.reply r.request (λ p. ap (λ b. (not b && not (only_reads r.request)) && (is_wide r.caller r.request || is_about p (purse_of r.caller r.request))) e))
     (λ e. by-kind f base h r.moment r.caller r.reply s e r.request n)
 
 -- WHAT IS TAKEN BACK
@@ -356,5 +358,5 @@ one-freed f {base} {h} r s o from to asked p = by_test (nat_le o.serial (drawn b
     part q = by_test (same_object o q)
         (λ e. ap (object_freed base f h r) (sym (object_is o q e)) ∙ sym (ap (λ b. cond b (object_freed base f h r o) 0) e))
         (λ e. object-freed-none f base h r q (ap (λ (request : Request). cond (concerns q.purse r) (span_of q request) None) asked
-        ∙ ap (λ b. cond (concerns q.purse r) (when b (record { from = from; to = to })) None) e ∙ either (concerns q.purse r) None)
+        ∙ ap (λ b. cond (concerns q.purse r) (then_some b (record { from = from; to = to })) None) e ∙ either (concerns q.purse r) None)
         ∙ sym (ap (λ b. cond b (object_freed base f h r o) 0) e))

@@ -7,7 +7,7 @@ use Rattle.s4_types.specs.declared.object.ObjectId.{ObjectId}
 use Rattle.s4_types.specs.declared.record.Record.{Record}
 use Rattle.s4_types.specs.declared.version.Version.{Version}
 use Rattle.s4_types.specs.declared.version.Item.TheVariants as item
-use Rattle.s4_types.specs.Answer.{value_or_empty, data_of, attributes_of, acl_of}
+use Rattle.s4_types.specs.Answer.{value_or_empty}
 use Rattle.s4_types.specs.Play.{last_of}
 use Rattle.s4_types.specs.Versions.{Track, Value, versions, value_at, lives_at, data_track, attribute_track, acl_track}
 use Rattle.s4_types.proofs.Booleans.{by_test}
@@ -19,6 +19,7 @@ use Rattle.s4_state.specs.Weights.{cost_now}
 use Rattle.s4_state.proofs.Living.{in_force-now, lives-now, live-track, live-fits}
 use Rattle.s4_state.proofs.Fitting.{acl-entries}
 use Rattle.s4_state.proofs.Reading.{data-in-force, attributes-in-force, acl-in-force}
+use Rattle.s4_types.specs.Contents.{data_of, attributes_of, acl_of}
 
 -- the cost of a version that is there
 abbrev pub cost_in : Option Version → ℕ

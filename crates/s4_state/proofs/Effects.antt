@@ -1,5 +1,5 @@
 -- What an accepted request puts, ends and makes.
-use Rattle.std.proofs.Common.{◌≡◌, ℕ, ◌+◌, ◌≤◌, Bool, true, false, cond, Option, Some, None, List, [], ◌∷◌, ◌++◌, length, refl, sym, ◌∙◌, ap, subst}
+use Rattle.std.proofs.Common.{◌≡◌, ℕ, ◌+◌, Bool, true, false, cond, Option, Some, None, List, [], ◌∷◌, ◌++◌, length, refl, sym, ◌∙◌, ap, subst}
 use Rattle.std.specs.Prelude.{◌&&◌, ◌==◌, nat_le, is_ok, Ok, if◌then◌else◌}
 use Rattle.s4_types.specs.declared.principal.Caller.{Caller}
 use Rattle.s4_types.specs.declared.object.Purse.{Purse}
@@ -15,13 +15,13 @@ use Rattle.s4_types.specs.declared.version.Item.{Item}
 use Rattle.s4_types.specs.declared.version.Item.TheVariants as item
 use Rattle.s4_types.specs.Names.{same_purse, same_object, object_in}
 use Rattle.s4_types.specs.Kinds.{is_refused, is_create, concerns}
-use Rattle.s4_types.specs.Versions.{Track, Value, versions, span_of, on_current, with_effect, with_value, makes, deletes, is_made, is_deleted, lives_at, when, data_track, attribute_track, acl_track, of_length, written}
+use Rattle.s4_types.specs.Versions.{Track, Value, versions, span_of, on_current, with_effect, with_value, makes, deletes, is_made, is_deleted, lives_at, data_track, attribute_track, acl_track, of_length, written}
 use Rattle.s4_types.specs.Versions as model
 use Rattle.s4_types.specs.Bindings.{rebound, named_by}
 use Rattle.s4_types.specs.Outcome.{◌>>◌, refuse_if, reply_of}
 use Rattle.s4_types.specs.Base.{Base}
 use Rattle.s4_types.specs.Acl.{acl_with}
-use Rattle.s4_types.specs.Answer.{data_of, attributes_of, acl_of, settable}
+use Rattle.s4_types.specs.Answer.{settable}
 use Rattle.s4_types.specs.Serials.{drawn}
 use Rattle.s4_types.specs.Judgement.{judge}
 use Rattle.s4_types.specs.declared.rights.Right.TheVariants as right
@@ -38,10 +38,12 @@ use Rattle.s4_objects.specs.Chains.{same_which}
 use Rattle.s4_state.specs.Laid.{item_of, version_of, laid, versions_on}
 use Rattle.s4_state.specs.Sound.{IsSound, IsNext, DataFits}
 use Rattle.s4_state.specs.Stands.{MakesNone, RebindsNone, Counts, PutsOn, EndsAll}
-use Rattle.s4_state.proofs.Granting.{told, told-asked, accepted-asked, changed_by, changed-lives, changed-done, write-low, data-fit}
+use Rattle.s4_state.proofs.Granting.{told, told-asked, accepted-asked, changed_by, changed-lives, changed-done, data-fit}
 use Rattle.s4_state.proofs.Living.{IsLive, live-track, live-fits}
 use Rattle.s4_state.proofs.Reading.{data-in-force, attributes-in-force, acl-in-force}
 use Rattle.s4_state.proofs.Standing.{MakesOnly}
+use Rattle.std.specs.Bool.{then_some}
+use Rattle.s4_types.specs.Contents.{data_of, attributes_of, acl_of}
 
 pub either-same : {A : Type 0} (b : Bool) (x y : A) → x ≡ y → cond b x y ≡ y
 either-same true x y e = e
@@ -112,14 +114,14 @@ module _ (base : Base) (h : List Record) (r : Record) (o : ObjectId) (about : (p
 
     module _ {V : Type 0} (track : Track V) (wrap : V → Item) (cost : (x : V) → cost_of (wrap x) ≡ track.cost x) (live : IsLive (versions base track o h)) where
       -- a value is put in the place of another
-      module _ (f : V → V) (undeleted : (q : ObjectId) → is_deleted q r.request ≡ false) (does : (q : ObjectId) (old : V) → track.effect q r.request old ≡ when (same_object o q) (f old)) where
+      module _ (f : V → V) (undeleted : (q : ObjectId) → is_deleted q r.request ≡ false) (does : (q : ObjectId) (old : V) → track.effect q r.request old ≡ then_some (same_object o q) (f old)) where
         put-here : laid track wrap (versions base track o (h ++ r ∷ [])) ≡ with_put r.moment (wrap (f live.newest.value)) (laid track wrap (versions base track o h))
         put-here =
             let next : versions base track o (h ++ r ∷ []) ≡ model.begun r.moment (f live.newest.value) ∷ model.ended r.moment live.newest ∷ live.past
             = effected track o (undeleted o)
             ∙ ap (λ b. cond b (with_effect r.moment (track.effect o r.request) (versions base track o h)) (versions base track o h)) (purse_self o.purse)
             ∙ ap (λ effect. with_effect r.moment effect (versions base track o h)) (λ i old. does o old i)
-            ∙ ap (λ b. with_effect r.moment (λ old. when b (f old)) (versions base track o h)) (object_self o)
+            ∙ ap (λ b. with_effect r.moment (λ old. then_some b (f old)) (versions base track o h)) (object_self o)
             ∙ ap (with_effect r.moment (λ old. Some (f old))) live.whole
             ∙ ap (λ e. with_value r.moment (on_current (λ old. Some (f old)) e live.newest.value) live.newest live.past) live.current in
             ap (laid track wrap) next ∙ laid-put track wrap cost r.moment (f live.newest.value) live.newest live.past live.current
@@ -129,7 +131,7 @@ module _ (base : Base) (h : List Record) (r : Record) (o : ObjectId) (about : (p
         put-typed q = by_test (same_object o q)
             (λ e. subst (λ p. laid track wrap (versions base track p (h ++ r ∷ [])) ≡ with_put r.moment (wrap (f live.newest.value)) (laid track wrap (versions base track p h))) (object_is o q e) put-here
             ∙ sym (ap (λ b. if b then with_put r.moment (wrap (f live.newest.value)) (laid track wrap (versions base track q h)) else laid track wrap (versions base track q h)) e))
-            (λ e. ap (laid track wrap) (idle track q (undeleted q) (λ old. does q old ∙ ap (λ b. when b (f old)) e))
+            (λ e. ap (laid track wrap) (idle track q (undeleted q) (λ old. does q old ∙ ap (λ b. then_some b (f old)) e))
             ∙ sym (ap (λ b. if b then with_put r.moment (wrap (f live.newest.value)) (laid track wrap (versions base track q h)) else laid track wrap (versions base track q h)) e))
 
       -- the object ends
@@ -199,7 +201,7 @@ module _ (base : Base) (h : List Record) (t : ℕ) (caller : Caller) (o : Object
 
   puts-data : (request : Request) (f : List ℕ → List ℕ) (live : IsLive (versions base data_track o h))
       → ((p : Purse) → concerns p (done request) ≡ same_purse o.purse p) → is_create request ≡ false → ((q : ObjectId) → span_of q request ≡ None) → ((q : ObjectId) → is_deleted q request ≡ false)
-      → ((q : ObjectId) (old : List ℕ) → model.data_effect q request old ≡ when (same_object o q) (f old))
+      → ((q : ObjectId) (old : List ℕ) → model.data_effect q request old ≡ then_some (same_object o q) (f old))
       → ((q : ObjectId) (old : List ℕ) → model.attribute_effect q request old ≡ None) → ((q : ObjectId) (old : List AclEntry) → model.acl_effect q request old ≡ None)
       → RebindsNone (done request) → Counts (done request) 1 1 0
       → PutsOn base h (done request) o which.Data (item.Data (f live.newest.value))
@@ -243,17 +245,13 @@ module _ {base : Base} {h : List Record} {r : Record} (s : IsSound base h) (n : 
       (puts-data base h r.moment r.caller o (Write o offset bytes) (written offset bytes) live (λ p. refl) refl (λ q. refl) (λ q. refl) (λ q old. refl) (λ q old. refl) (λ q old. refl)
       (rebinds-none (done base h r.moment r.caller o (Write o offset bytes)) (λ p n m old. refl) (λ p old. refl)) (record { made = refl; values = refl; bindings = refl })))
 
-  -- it ends by the limit
-  pub write_low : (offset : ℕ) (bytes : List ℕ) → r.request ≡ Write o offset bytes → offset + length bytes ≤ 65536
-  write_low offset bytes asked = write-low base h r.moment r.caller o offset bytes (accepted-asked n granted (Write o offset bytes) asked)
-
-  -- and what it leaves fits
+  -- what it leaves fits
   pub write_fits : (offset : ℕ) (bytes : List ℕ) → r.request ≡ Write o offset bytes → DataFits (written offset bytes (data_of base o r.moment h))
   write_fits offset bytes asked =
       let live = live-data s n granted o (Write o offset bytes) asked refl in
       let is = current-data s n granted o (Write o offset bytes) asked refl in
       data-fit base h r.moment r.caller (Write o offset bytes) o (accepted-asked n granted (Write o offset bytes) asked)
-      (data_of base o r.moment h) (written offset bytes (data_of base o r.moment h)) (ap (λ b. when b (written offset bytes (data_of base o r.moment h))) (object_self o)) refl (subst DataFits is (live-fits DataFits live (s.values o which.Data)))
+      (data_of base o r.moment h) (written offset bytes (data_of base o r.moment h)) (ap (λ b. then_some b (written offset bytes (data_of base o r.moment h))) (object_self o)) refl (subst DataFits is (live-fits DataFits live (s.values o which.Data)))
 
   pub append_puts : (bytes : List ℕ) → r.request ≡ Append o bytes → PutsOn base h r o which.Data (item.Data (data_of base o r.moment h ++ bytes))
   append_puts bytes asked =

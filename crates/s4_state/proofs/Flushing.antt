@@ -17,7 +17,7 @@ use Rattle.s4_types.specs.declared.version.Item.TheVariants as item
 use Rattle.s4_types.specs.Names.{same_object}
 use Rattle.s4_types.specs.Kinds.{is_refused, concerns}
 use Rattle.s4_types.specs.Base.{Base}
-use Rattle.s4_types.specs.Versions.{when, Track, Value, Span, versions, flushed_by, data_track, attribute_track, acl_track}
+use Rattle.s4_types.specs.Versions.{Track, Value, Span, versions, flushed_by, data_track, attribute_track, acl_track}
 use Rattle.s4_types.specs.Versions as model
 use Rattle.s4_types.proofs.Booleans.{&&-false}
 use Rattle.s4_types.proofs.Erasing.{versions-flush, versions-flush-one}
@@ -41,6 +41,7 @@ use Rattle.s4_state.proofs.Granting.{told, told-asked, accepted-asked, flush-don
 use Rattle.s4_state.proofs.Naming.{names_with, names_over}
 use Rattle.s4_state.proofs.Standing.{agrees_if, horizon_up, objects_next, none-made, stands_on, tidy_beside}
 use Rattle.s4_state.proofs.Waiting.{no-more}
+use Rattle.std.specs.Bool.{then_some}
 
 -- VALUES AND VERSIONS
 
@@ -72,11 +73,11 @@ module _ {V : Type 0} (track : Track V) (wrap : V → Item) (from to : ℕ) wher
       ∙ sym (flushed-append (laid track wrap past) (version_of track wrap v ∷ []))
 
   -- where the object is asked for
-  flushed-if : (asked : Bool) (values : List (Value V)) → laid track wrap (flushed_by (when asked span) true values) ≡ (if asked then flushed from to (laid track wrap values) else laid track wrap values)
+  flushed-if : (asked : Bool) (values : List (Value V)) → laid track wrap (flushed_by (then_some asked span) true values) ≡ (if asked then flushed from to (laid track wrap values) else laid track wrap values)
   flushed-if true values = flushed-laid values
   flushed-if false values = refl
 
-  kept-if : (asked : Bool) (values : List (Value V)) → laid track wrap (flushed_by (when asked span) false values) ≡ (if asked then laid track wrap values else laid track wrap values)
+  kept-if : (asked : Bool) (values : List (Value V)) → laid track wrap (flushed_by (then_some asked span) false values) ≡ (if asked then laid track wrap values else laid track wrap values)
   kept-if true values = refl
   kept-if false values = refl
 

@@ -1,6 +1,6 @@
 -- What an accepted request tells of the object that it is about.
 use Rattle.std.proofs.Common.{◌≡◌, ℕ, ◌+◌, ◌≤◌, ◌<◌, Bool, true, false, not, cond, Option, Some, None, List, [], ◌∷◌, ◌++◌, refl, sym, ◌∙◌, ap, subst, arith, length, take, drop, length-append, length-drop}
-use Rattle.std.specs.Prelude.{◌==◌, nat_le, nat_lt, min, is_ok, is_some, Result, Ok, Err, slice_get}
+use Rattle.std.specs.Prelude.{◌==◌, nat_le, nat_lt, min, is_ok, is_some, Result, Ok, Err, slice_get, ok_or}
 use Rattle.std.specs.Option.{option_map}
 use Rattle.std.proofs.lemmas.List.{length-take, length-replicate}
 use Rattle.s4_types.specs.declared.principal.Caller.{Caller}
@@ -13,7 +13,6 @@ use Rattle.s4_types.specs.declared.rights.Right.{Right}
 use Rattle.s4_types.specs.declared.rights.Right.TheVariants as right
 use Rattle.s4_types.specs.declared.request.Request.{Request}
 use Rattle.s4_types.specs.declared.request.Request.TheVariants.{Create, Delete, Read, Write, Append, Truncate, GetAttr, SetAttr, GetAclByUser, GetAclByIndex, SetAcl, PCreate, PDelete, PList, PMount, Flush, FlushO, SetWindow, SetBudget, ReadAudit}
-use Rattle.s4_types.specs.declared.reply.Grant.{Grant}
 use Rattle.s4_types.specs.declared.reply.Refusal.{Refusal}
 use Rattle.s4_types.specs.declared.reply.Refusal.TheVariants.{Denied, Flushed, TooLong, AclFull, NoEntry, NamesSpent, Exists, PartsFull, Named, BadRange}
 use Rattle.s4_types.specs.declared.reply.Reply.{Reply}
@@ -21,12 +20,12 @@ use Rattle.s4_types.specs.declared.reply.Reply.TheVariants.{Done, Made, Data, At
 use Rattle.s4_types.specs.declared.record.Record.{Record}
 use Rattle.s4_types.specs.Names.{same_object, object_in}
 use Rattle.s4_types.specs.Kinds.{is_refused, is_create}
-use Rattle.s4_types.specs.Versions.{Value, value_at, is_made, is_deleted, lives_at, of_length, written, when, data_track, attribute_track, acl_track, data_effect, attribute_effect, acl_effect}
+use Rattle.s4_types.specs.Versions.{Value, value_at, is_made, is_deleted, lives_at, of_length, written, data_track, attribute_track, acl_track, data_effect, attribute_effect, acl_effect}
 use Rattle.s4_types.specs.Acl.{names, without_entry, replaced, acl_with}
 use Rattle.s4_types.specs.Limits.{data_limit}
-use Rattle.s4_types.specs.Judgement.{Found, entry_of, judge, judge_now, held_of}
+use Rattle.s4_types.specs.Judgement.{entry_of, judge, judge_now, held_of}
 use Rattle.s4_types.specs.Outcome.{◌>>=◌, ◌>>◌, refuse_if, reply_of}
-use Rattle.s4_types.specs.Answer.{outcome_by_kind, administered, flushed, moment_of, is_gone, data_of, attributes_of, acl_of, entry_by_user, entry_by_index, settable, found_bound}
+use Rattle.s4_types.specs.Answer.{outcome_by_kind, administered, flushed, moment_of, is_gone, settable, found_bound, mountable}
 use Rattle.s4_types.specs.Serials.{drawn}
 use Rattle.s4_types.specs.Bindings.{bound_at, bound_count, has_name}
 use Rattle.s4_types.proofs.SameNames.{object_is}
@@ -34,6 +33,8 @@ use Rattle.s4_types.proofs.Outcomes.{passes_test, passes_judgement, answer-by-ki
 use Rattle.s4_acl.proofs.Acls.{is_acl-without, is_acl-replaced, is_acl-more}
 use Rattle.s4_types.specs.Base.{Base}
 use Rattle.s4_state.specs.Sound.{IsNext, DataFits, AttributesFit, AclFits}
+use Rattle.std.specs.Bool.{then_some}
+use Rattle.s4_types.specs.Contents.{data_of, attributes_of, acl_of}
 
 -- what the request is told by its kind, the time and the budget aside
 abbrev pub told : Base → List Record → ℕ → Caller → Request → Reply
@@ -71,13 +72,9 @@ nothing-made o (Ok (Audit lines more)) e = refl
 nothing-made o (Ok (Refused r)) e = refl
 nothing-made o (Err r) e = refl
 
-nothing-user : (g : Grant) (user : ℕ) (found : Option Found) → makes_nothing (entry_by_user g user found) ≡ true
-nothing-user g user None = refl
-nothing-user g user (Some found) = refl
-
-nothing-index : (g : Grant) (index : ℕ) (entry : Option AclEntry) → makes_nothing (entry_by_index g index entry) ≡ true
-nothing-index g index None = refl
-nothing-index g index (Some entry) = refl
+nothing-found : {A : Type 0} (found : Option A) (next : A → Result Reply Refusal) → ((x : A) → makes_nothing (next x) ≡ true) → makes_nothing (ok_or found NoEntry >>= next) ≡ true
+nothing-found None next e = refl
+nothing-found (Some x) next e = e x
 
 pub makes_nothing-outcome : (base : Base) (h : List Record) (t : ℕ) (caller : Caller) (request : Request) → is_create request ≡ false → makes_nothing (outcome_by_kind base h t caller request) ≡ true
 makes_nothing-outcome base h t caller (Create number) e = cc
@@ -98,9 +95,11 @@ makes_nothing-outcome base h t caller (GetAttr p at) e =
 makes_nothing-outcome base h t caller (SetAttr p bytes) e =
     nothing-then (refuse_if (nat_lt 256 (length bytes)) TooLong) _ (nothing-then (judge base h t caller p right.Write None) (Ok Done) refl)
 makes_nothing-outcome base h t caller (GetAclByUser p user at) e =
-    nothing-bind (judge base h t caller p right.Read at) (λ g. entry_by_user g user (entry_of user (acl_of base p (moment_of t at) h))) (λ g. nothing-user g user (entry_of user (acl_of base p (moment_of t at) h)))
+    nothing-bind (judge base h t caller p right.Read at) (λ g. ok_or (entry_of user (acl_of base p (moment_of t at) h)) NoEntry >>= λ x. Ok (Entry g x.index user x.rights))
+    (λ g. nothing-found (entry_of user (acl_of base p (moment_of t at) h)) (λ x. Ok (Entry g x.index user x.rights)) (λ x. refl))
 makes_nothing-outcome base h t caller (GetAclByIndex p index at) e =
-    nothing-bind (judge base h t caller p right.Read at) (λ g. entry_by_index g index (slice_get (acl_of base p (moment_of t at) h) index)) (λ g. nothing-index g index (slice_get (acl_of base p (moment_of t at) h) index))
+    nothing-bind (judge base h t caller p right.Read at) (λ g. ok_or (slice_get (acl_of base p (moment_of t at) h) index) NoEntry >>= λ x. Ok (Entry g index x.who x.rights))
+    (λ g. nothing-found (slice_get (acl_of base p (moment_of t at) h) index) (λ x. Ok (Entry g index x.who x.rights)) (λ x. refl))
 makes_nothing-outcome base h t caller (SetAcl p user rights) e =
     nothing-then (judge base h t caller p right.Control None) _ (nothing-then (settable user rights (acl_of base p t h)) (Ok Done) refl)
 makes_nothing-outcome base h t caller (PCreate name p) e =
@@ -112,8 +111,7 @@ makes_nothing-outcome base h t caller (PDelete purse name) e =
 makes_nothing-outcome base h t caller (PList range after at) e =
     refl
 makes_nothing-outcome base h t caller (PMount purse name at) e =
-    nothing-bind (found_bound caller purse right.Read (bound_at base purse name (moment_of t at) h)) (λ serial. judge base h t caller (object_in purse serial) right.Read at >>= λ g. Ok (Mounted g (object_in purse serial)))
-    (λ serial. nothing-bind (judge base h t caller (object_in purse serial) right.Read at) (λ g. Ok (Mounted g (object_in purse serial))) (λ g. refl))
+    nothing-bind (mountable base h t caller purse name at) (λ line. Ok (Mounted line.grant line.object)) (λ line. refl)
 makes_nothing-outcome base h t caller (Flush from to) e = nothing-then (refuse_if (nat_lt to from) BadRange) (administered caller) (nothing-then (refuse_if (not (caller.who == 0)) (Denied right.Admin)) (Ok Done) refl)
 makes_nothing-outcome base h t caller (FlushO p from to) e = nothing-then (refuse_if (nat_lt to from) BadRange) (administered caller) (nothing-then (refuse_if (not (caller.who == 0)) (Denied right.Admin)) (Ok Done) refl)
 makes_nothing-outcome base h t caller (SetWindow ticks) e = nothing-then (refuse_if (not (caller.who == 0)) (Denied right.Admin)) (Ok Done) refl
@@ -199,9 +197,9 @@ changed-lives base h t caller (SetAcl p user rights) o e f =
     subst (λ q. lives_at base t q h ≡ true) is (granted-lives p t base h caller right.Control (passes_judgement (judge base h t caller p right.Control None) (settable user rights (acl_of base p t h) >> Ok Done) e).0)
 changed-lives base h t caller _ o e f = cc
 
-some-when : {A : Type 0} (b : Bool) (x y : A) → when b x ≡ Some y → (b ≡ true) × (x ≡ y)
-some-when true x y e = (refl, cc)
-some-when false x y e = cc
+some-then_some : {A : Type 0} (b : Bool) (x y : A) → then_some b x ≡ Some y → (b ≡ true) × (x ≡ y)
+some-then_some true x y e = (refl, cc)
+some-then_some false x y e = cc
 
 same-changed : (p o : ObjectId) → same_object p o ≡ true → Some p ≡ Some o
 same-changed p o e = ap (λ q. Some q) (object_is p o e)
@@ -211,17 +209,17 @@ deleted-changed (Delete p) o e = same-changed p o e
 deleted-changed _ o e = cc
 
 pub data-changed : (request : Request) (o : ObjectId) (old new : List ℕ) → data_effect o request old ≡ Some new → changed_by request ≡ Some o
-data-changed (Write p offset bytes) o old new e = same-changed p o (some-when (same_object p o) (written offset bytes old) new e).0
-data-changed (Append p bytes) o old new e = same-changed p o (some-when (same_object p o) (old ++ bytes) new e).0
-data-changed (Truncate p length) o old new e = same-changed p o (some-when (same_object p o) (of_length length old) new e).0
+data-changed (Write p offset bytes) o old new e = same-changed p o (some-then_some (same_object p o) (written offset bytes old) new e).0
+data-changed (Append p bytes) o old new e = same-changed p o (some-then_some (same_object p o) (old ++ bytes) new e).0
+data-changed (Truncate p length) o old new e = same-changed p o (some-then_some (same_object p o) (of_length length old) new e).0
 data-changed _ o old new e = cc
 
 pub attributes-changed : (request : Request) (o : ObjectId) (old new : List ℕ) → attribute_effect o request old ≡ Some new → changed_by request ≡ Some o
-attributes-changed (SetAttr p bytes) o old new e = same-changed p o (some-when (same_object p o) bytes new e).0
+attributes-changed (SetAttr p bytes) o old new e = same-changed p o (some-then_some (same_object p o) bytes new e).0
 attributes-changed _ o old new e = cc
 
 pub acl-changed : (request : Request) (o : ObjectId) (old new : List AclEntry) → acl_effect o request old ≡ Some new → changed_by request ≡ Some o
-acl-changed (SetAcl p user rights) o old new e = same-changed p o (some-when (same_object p o) (acl_with user rights old) new e).0
+acl-changed (SetAcl p user rights) o old new e = same-changed p o (some-then_some (same_object p o) (acl_with user rights old) new e).0
 acl-changed _ o old new e = cc
 
 -- LENGTHS
@@ -238,7 +236,7 @@ limit-most : (version : WireVersion) → data_limit version ≤ 65536
 limit-most One = let low : 4096 ≤ 65536 = omega arith in low
 limit-most Two = let low : 65536 ≤ 65536 = omega arith in low
 
-pub write-low : (base : Base) (h : List Record) (t : ℕ) (caller : Caller) (o : ObjectId) (offset : ℕ) (bytes : List ℕ) → is_refused (told base h t caller (Write o offset bytes)) ≡ false → offset + length bytes ≤ 65536
+write-low : (base : Base) (h : List Record) (t : ℕ) (caller : Caller) (o : ObjectId) (offset : ℕ) (bytes : List ℕ) → is_refused (told base h t caller (Write o offset bytes)) ≡ false → offset + length bytes ≤ 65536
 write-low base h t caller o offset bytes e =
     let short : nat_lt (data_limit caller.version) (offset + length bytes) ≡ false = (passes_test (nat_lt (data_limit caller.version) (offset + length bytes)) TooLong (judge base h t caller o right.Write None >> Ok Done) e).0 in
     let most : data_limit caller.version ≤ 65536 = limit-most caller.version in
@@ -248,13 +246,13 @@ write-low base h t caller o offset bytes e =
 pub data-fit : (base : Base) (h : List Record) (t : ℕ) (caller : Caller) (request : Request) (o : ObjectId) → is_refused (told base h t caller request) ≡ false
     → (old new : List ℕ) → data_effect o request old ≡ Some new → old ≡ data_of base o t h → DataFits old → DataFits new
 data-fit base h t caller (Write p offset bytes) o e old new f is fits =
-    subst DataFits (some-when (same_object p o) (written offset bytes old) new f).1 (length-written offset bytes old (write-low base h t caller p offset bytes e) fits)
+    subst DataFits (some-then_some (same_object p o) (written offset bytes old) new f).1 (length-written offset bytes old (write-low base h t caller p offset bytes e) fits)
 data-fit base h t caller (Append p bytes) o e old new f is fits =
     let rest : Result Reply Refusal = refuse_if (nat_lt (data_limit caller.version) (length (data_of base p t h) + length bytes)) TooLong >> Ok Done in
     let short : nat_lt (data_limit caller.version) (length (data_of base p t h) + length bytes) ≡ false
     = (passes_test (nat_lt (data_limit caller.version) (length (data_of base p t h) + length bytes)) TooLong (Ok Done)
     (passes_judgement (judge base h t caller p right.Write None) rest (passes_test (nat_lt (data_limit caller.version) (length bytes)) TooLong (judge base h t caller p right.Write None >> rest) e).1).1).0 in
-    let both' = some-when (same_object p o) (old ++ bytes) new f in
+    let both' = some-then_some (same_object p o) (old ++ bytes) new f in
     let same : length old ≡ length (data_of base p t h) = ap length is ∙ ap (λ q. length (data_of base q t h)) (sym (object_is p o both'.0)) in
     let most : data_limit caller.version ≤ 65536 = limit-most caller.version in
     let low : length (data_of base p t h) + length bytes ≤ 65536 = grind arith in
@@ -263,7 +261,7 @@ data-fit base h t caller (Truncate p n) o e old new f is fits =
     let short : nat_lt (data_limit caller.version) n ≡ false = (passes_test (nat_lt (data_limit caller.version) n) TooLong (judge base h t caller p right.Write None >> Ok Done) e).0 in
     let most : data_limit caller.version ≤ 65536 = limit-most caller.version in
     let low : n ≤ 65536 = grind arith in
-    subst DataFits (some-when (same_object p o) (of_length n old) new f).1 (rw (length-of_length n old) low)
+    subst DataFits (some-then_some (same_object p o) (of_length n old) new f).1 (rw (length-of_length n old) low)
 data-fit base h t caller _ o e old new f is fits = cc
 
 pub attributes-fit : (base : Base) (h : List Record) (t : ℕ) (caller : Caller) (request : Request) (o : ObjectId) → is_refused (told base h t caller request) ≡ false
@@ -271,7 +269,7 @@ pub attributes-fit : (base : Base) (h : List Record) (t : ℕ) (caller : Caller)
 attributes-fit base h t caller (SetAttr p bytes) o e old new f =
     let short : nat_lt 256 (length bytes) ≡ false = (passes_test (nat_lt 256 (length bytes)) TooLong (judge base h t caller p right.Write None >> Ok Done) e).0 in
     let low : length bytes ≤ 256 = grind arith in
-    subst AttributesFit (some-when (same_object p o) bytes new f).1 low
+    subst AttributesFit (some-then_some (same_object p o) bytes new f).1 low
 attributes-fit base h t caller _ o e old new f = cc
 
 -- the entries that a SetAcl leaves, where it may be carried out
@@ -297,7 +295,7 @@ entries-fit user rights acl e fits = of (rights == 0) (names user acl) (nat_le 1
 pub acl-fit : (base : Base) (h : List Record) (t : ℕ) (caller : Caller) (request : Request) (o : ObjectId) → is_refused (told base h t caller request) ≡ false
     → (old new : List AclEntry) → acl_effect o request old ≡ Some new → old ≡ acl_of base o t h → AclFits old → AclFits new
 acl-fit base h t caller (SetAcl p user rights) o e old new f is fits =
-    let both' = some-when (same_object p o) (acl_with user rights old) new f in
+    let both' = some-then_some (same_object p o) (acl_with user rights old) new f in
     let same : acl_of base p t h ≡ old = ap (λ q. acl_of base q t h) (object_is p o both'.0) ∙ sym is in
     let passes : is_ok (settable user rights (acl_of base p t h)) ≡ true
     = (passes_judgement (settable user rights (acl_of base p t h)) (Ok Done) (passes_judgement (judge base h t caller p right.Control None) (settable user rights (acl_of base p t h) >> Ok Done) e).1).0 in

@@ -13,7 +13,7 @@ use Rattle.s4_types.specs.declared.reply.Reply.TheVariants.{Done, Made}
 use Rattle.s4_types.specs.declared.record.Record.{Record}
 use Rattle.s4_types.specs.Base.{Base}
 use Rattle.s4_types.specs.Bindings.{bindings, bindings_after, rebound}
-use Rattle.s4_types.specs.Kinds.{is_accepted, is_wide, is_about, concerns}
+use Rattle.s4_types.specs.Kinds.{is_accepted, is_wide, is_about, concerns, purse_of}
 use Rattle.s4_types.specs.Name.{same_name}
 use Rattle.s4_types.specs.Names.{same_purse, same_object, object_in}
 use Rattle.s4_types.specs.Versions.{Value, begun, with_end, standing, makes, deletes, is_deleted}
@@ -90,7 +90,7 @@ module _ (base : Base) (early : List Record) where
       (ap (λ c. cond c (values_ended_by (change_of r.request)) 0 + cond c (bindings_ended_by (change_of r.request)) 0) e ∙ sym (ap (λ c. cond c (made_by (change_of r.request)) 0) e)) k
     where
       strange : (p : Purse) → concerns p r ≡ false
-      strange p = ap (λ b. b && (is_wide r.caller r.request || is_about p r.caller r.request)) e
+      strange p = ap (λ b. b && (is_wide r.caller r.request || is_about p (purse_of r.caller r.request))) e
 
   module _ (m : ℕ) (caller : Caller) {count : ℕ} (k : Leaves base early count) where
     abbrev by : Request → Reply → Record

@@ -27,6 +27,7 @@ pub mod Costs
 pub mod Stepped
 pub mod Once
 pub mod Keeping
+pub mod Listed
 pub mod Cutting
 pub mod Cuts
 pub mod Moments

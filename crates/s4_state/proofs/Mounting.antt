@@ -1,6 +1,7 @@
 -- The page of a drive's partitions is that of the definition.
 use Rattle.std.proofs.Common.{◌≡◌, ℕ, ◌≤◌, false, Option, Some, None, List, refl, sym, ◌∙◌, ap, filter, filter_map, flat_map}
-use Rattle.std.specs.Prelude.{Result, Ok, Err}
+use Rattle.std.specs.Prelude.{Result, Ok, Err, ok_or}
+use Rattle.std.specs.Result.{result_ok}
 use Rattle.std.specs.Option.{option_map}
 use Rattle.s4_types.specs.Base.{Base}
 use Rattle.s4_types.specs.declared.principal.Caller.{Caller}
@@ -15,7 +16,8 @@ use Rattle.s4_types.specs.declared.version.Version.{Version}
 use Rattle.s4_types.specs.Names.{object_in}
 use Rattle.s4_types.specs.Bindings.{bound_at, names_of}
 use Rattle.s4_types.specs.Judgement.{judge}
-use Rattle.s4_types.specs.Answer.{moment_of, is_after, line_where, line_of_bound, line_of, lines_in, purse_numbers}
+use Rattle.s4_types.specs.Answer.{moment_of, mountable, is_after, lines_in, purse_numbers}
+use Rattle.s4_types.specs.Outcome.{◌>>=◌}
 use Rattle.s4_types.specs.Play.{last_of}
 use Rattle.s4_store.specs.Chains.{Chains}
 use Rattle.s4_parts.specs.declared.parts.Parts.{Parts as Table}
@@ -23,24 +25,25 @@ use Rattle.s4_tracks.specs.Swept.{IsFrom}
 use Rattle.s4_parts.specs.Table.{bindings_in, names_in, object_of}
 use Rattle.s4_parts.specs.Page as page
 use Rattle.s4_objects.specs.declared.objects.Objects.{Objects}
-use Rattle.s4_state.specs.Shown.{granted, grant_of}
+use Rattle.s4_state.specs.Shown.{granted}
 use Rattle.s4_state.specs.Stands.{horizon_now, is_lasting, StandsFor}
 use Rattle.s4_state.proofs.Binding.{bound-in}
 use Rattle.s4_types.proofs.Ordered.{lines-filter}
 use Rattle.s4_state.proofs.Left.{none-lasting}
 
-line-granted : (name : List ℕ) (o : ObjectId) (r : Result Grant Refusal) → page.line_with name o (grant_of r) ≡ line_where name o r
+line-granted : (name : List ℕ) (o : ObjectId) (r : Result Grant Refusal) → page.line_with name o (result_ok r) ≡ result_ok (r >>= λ grant. Ok (record { name = name; object = o; grant = grant }))
 line-granted name o (Ok grant) = refl
 line-granted name o (Err refusal) = refl
 
-line-bound : (base : Base) (h : List Record) (t : ℕ) (caller : Caller) (at : Option ℕ) (purse : Purse) (name : List ℕ) (found : Option ℕ)
-    → page.line_to (granted base h t caller at) name (option_map (object_in purse) found) ≡ line_of_bound base h t caller at purse name found
-line-bound base h t caller at purse name None = refl
-line-bound base h t caller at purse name (Some serial) = line-granted name (object_in purse serial) (judge base h t caller (object_in purse serial) right.Read at)
+line-bound : (base : Base) (h : List Record) (t : ℕ) (caller : Caller) (at : Option ℕ) (purse : Purse) (name : List ℕ) (found : Option ℕ) (r : Refusal)
+    → page.line_to (granted base h t caller at) name (option_map (object_in purse) found)
+    ≡ result_ok (ok_or found r >>= λ serial. judge base h t caller (object_in purse serial) right.Read at >>= λ grant. Ok (record { name = name; object = object_in purse serial; grant = grant }))
+line-bound base h t caller at purse name None r = refl
+line-bound base h t caller at purse name (Some serial) r = line-granted name (object_in purse serial) (judge base h t caller (object_in purse serial) right.Read at)
 
 module _ {base : Base} {size : ℕ} {chains : Chains Version} {kept : Objects} {serials : Purse → ℕ} {table : Table} {h : List Record} (s : StandsFor base size chains kept serials table h) (t : ℕ) (later : last_of h ≤ t) (caller : Caller) where
-  line-is : (at : Option ℕ) → IsFrom (horizon_now base h) at → (purse : Purse) (name : List ℕ) → page.line_of (granted base h t caller at) at name (bindings_in chains table purse name) ≡ line_of base h t caller at purse name
-  line-is at from purse name = ap (page.line_to (granted base h t caller at) name) (bound-in s purse name t later at from) ∙ line-bound base h t caller at purse name (bound_at base purse name (moment_of t at) h)
+  line-is : (at : Option ℕ) → IsFrom (horizon_now base h) at → (purse : Purse) (name : List ℕ) → page.line_of (granted base h t caller at) at name (bindings_in chains table purse name) ≡ result_ok (mountable base h t caller purse name at)
+  line-is at from purse name = ap (page.line_to (granted base h t caller at) name) (bound-in s purse name t later at from) ∙ line-bound base h t caller at purse name (bound_at base purse name (moment_of t at) h) _
 
   -- a name of which all bindings are expired has no line
   line-none : (at : Option ℕ) → IsFrom (horizon_now base h) at → (purse : Purse) (name : List ℕ) → is_lasting (horizon_now base h) chains table purse name ≡ false → page.line_of (granted base h t caller at) at name (bindings_in chains table purse name) ≡ None

@@ -12,9 +12,9 @@ use Rattle.s4_types.specs.declared.record.Record.{Record}
 use Rattle.s4_types.specs.declared.version.Version.{Version}
 use Rattle.s4_types.specs.declared.version.Item.{Item}
 use Rattle.s4_types.specs.declared.version.Item.TheVariants as item
-use Rattle.s4_types.specs.Versions.{when, Track, Value, versions, value_at, lives_at, ends_by, in_force_by, unended, standing, data_track, attribute_track, acl_track}
+use Rattle.s4_types.specs.Versions.{Track, Value, versions, value_at, lives_at, ends_by, in_force_by, unended, standing, data_track, attribute_track, acl_track}
 use Rattle.s4_types.specs.Judgement.{held_of}
-use Rattle.s4_types.specs.Answer.{value_or_empty, is_gone, data_of, attributes_of, acl_of, moment_of}
+use Rattle.s4_types.specs.Answer.{value_or_empty, is_gone, moment_of}
 use Rattle.s4_types.specs.Play.{last_of}
 use Rattle.s4_types.specs.Erased.{is_whole}
 use Rattle.s4_types.proofs.Booleans.{both}
@@ -34,6 +34,8 @@ use Rattle.s4_state.specs.Laid.{item_of, version_by, laid_by, version_of, laid, 
 use Rattle.s4_state.specs.Sound.{IsSoundBy, IsSound, ValuesStand}
 use Rattle.s4_state.specs.Stands.{horizon_now, StandsFor}
 use Rattle.s4_state.proofs.Living.{newest-now, in_force-now, lives-now}
+use Rattle.std.specs.Bool.{then_some}
+use Rattle.s4_types.specs.Contents.{data_of, attributes_of, acl_of}
 
 -- FROM VALUES TO VERSIONS
 
@@ -128,14 +130,14 @@ module _ {base : Base} {size : ℕ} {chains : Chains Version} {kept : Objects} {
 
 -- what a version holds is the definition's value
 module _ (wrap : List ℕ → Item) (bytes : (x : List ℕ) → bytes_of_item (Some (wrap x)) ≡ Some x) (track : Track (List ℕ)) where
-  bytes-left : (x : Option (Value (List ℕ))) → bytes_in (option_map (version_of track wrap) x) ≡ when (not (is_gone x)) (value_or_empty x)
+  bytes-left : (x : Option (Value (List ℕ))) → bytes_in (option_map (version_of track wrap) x) ≡ then_some (not (is_gone x)) (value_or_empty x)
   bytes-left None = refl
-  bytes-left (Some v) = elim v.is_erased as (λ b. bytes_of_item (if b then None else Some (wrap v.value)) ≡ when (not b) v.value) [ true ↦ refl | false ↦ bytes v.value ]
+  bytes-left (Some v) = elim v.is_erased as (λ b. bytes_of_item (if b then None else Some (wrap v.value)) ≡ then_some (not b) v.value) [ true ↦ refl | false ↦ bytes v.value ]
 
-pub bytes_in-data : (o : ObjectId) (m : ℕ) (base : Base) (h : List Record) → bytes_in (version_at base which.Data o m h) ≡ when (not (is_gone (value_at base data_track o m h))) (data_of base o m h)
+pub bytes_in-data : (o : ObjectId) (m : ℕ) (base : Base) (h : List Record) → bytes_in (version_at base which.Data o m h) ≡ then_some (not (is_gone (value_at base data_track o m h))) (data_of base o m h)
 bytes_in-data o m base h = bytes-left item.Data (λ x. refl) data_track (value_at base data_track o m h)
 
-pub bytes_in-attributes : (o : ObjectId) (m : ℕ) (base : Base) (h : List Record) → bytes_in (version_at base which.Attributes o m h) ≡ when (not (is_gone (value_at base attribute_track o m h))) (attributes_of base o m h)
+pub bytes_in-attributes : (o : ObjectId) (m : ℕ) (base : Base) (h : List Record) → bytes_in (version_at base which.Attributes o m h) ≡ then_some (not (is_gone (value_at base attribute_track o m h))) (attributes_of base o m h)
 bytes_in-attributes o m base h = bytes-left item.Attr (λ x. refl) attribute_track (value_at base attribute_track o m h)
 
 -- a value that is found among whole ones is whole
@@ -179,7 +181,7 @@ pub current-data-whole : {base : Base} {h : List Record} → IsSound base h → 
 current-data-whole {base} {h} s o t later = current-whole data_track o base h (s.tracks o which.Data) t later
 
 -- what is told of what isn't gone
-pub told-whole : {A B : Type 0} (f : A → B) (r : Option A) (gone : Bool) (x : B) → option_map f r ≡ when (not gone) x → gone ≡ false → is_some r ≡ true
+pub told-whole : {A B : Type 0} (f : A → B) (r : Option A) (gone : Bool) (x : B) → option_map f r ≡ then_some (not gone) x → gone ≡ false → is_some r ≡ true
 told-whole f None true x e g = cc
 told-whole f None false x e g = cc
 told-whole f (Some y) gone x e g = refl

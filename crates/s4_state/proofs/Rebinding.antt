@@ -11,7 +11,7 @@ use Rattle.s4_types.specs.declared.request.Request.{Request}
 use Rattle.s4_types.specs.declared.request.Request.TheVariants.{PCreate, PDelete}
 use Rattle.s4_types.specs.declared.record.Record.{Record}
 use Rattle.s4_types.specs.Bindings.{bindings, bindings_after, rebound, bound_at, with_name, in_order, named_by, names_after, names_of}
-use Rattle.s4_types.specs.Kinds.{is_refused, only_reads, is_accepted, is_wide, is_about, concerns}
+use Rattle.s4_types.specs.Kinds.{is_refused, only_reads, is_accepted, is_wide, is_about, concerns, purse_of}
 use Rattle.s4_types.specs.Name.{same_name, name_cmp}
 use Rattle.s4_types.specs.Names.{same_purse}
 use Rattle.s4_types.specs.Spending.{binding_cost}
@@ -169,8 +169,8 @@ module _ (f : ℕ → ℕ → ℕ) (base : Base) (h : List Record) (r : Record) 
       where
         parts : (not (is_refused r.reply) ≡ true) × (same_purse place p ≡ true)
         parts =
-            let tests = both (is_accepted r) (is_wide r.caller r.request || is_about p r.caller r.request) here in
-            ((both (not (is_refused r.reply)) (not (only_reads r.request)) tests.0).0, sym (ap (λ request. is_wide r.caller request || is_about p r.caller request) asked) ∙ tests.1)
+            let tests = both (is_accepted r) (is_wide r.caller r.request || is_about p (purse_of r.caller r.request)) here in
+            ((both (not (is_refused r.reply)) (not (only_reads r.request)) tests.0).0, sym (ap (λ request. is_wide r.caller request || is_about p (purse_of r.caller request)) asked) ∙ tests.1)
 
         granted : is_refused r.reply ≡ false
         granted = turned (is_refused r.reply) parts.0

@@ -12,7 +12,7 @@ use Rattle.s4_types.specs.declared.version.Version.{Version}
 use Rattle.s4_types.specs.declared.version.Item.{Item}
 use Rattle.s4_types.specs.declared.version.Item.TheVariants as item
 use Rattle.s4_types.specs.Names.{same_object, object_in}
-use Rattle.s4_types.specs.Kinds.{is_refused, is_create, only_reads, is_wide, is_about, concerns}
+use Rattle.s4_types.specs.Kinds.{is_refused, is_create, only_reads, is_wide, is_about, concerns, purse_of}
 use Rattle.s4_types.specs.Answer.{made_past}
 use Rattle.s4_types.specs.Base.{Base}
 use Rattle.s4_types.specs.Serials.{drawn}
@@ -158,4 +158,4 @@ module _ {base : Base} {h : List Record} {r : Record} (s : IsSound base h) (n : 
 
   -- nor does one that was refused
   pub refused_charged : is_refused r.reply ≡ true → IsCharged base f p h r refunds
-  refused_charged refused = freed-none-charged (idle-frees-none f p base h r (ap (λ b. (not b && not (only_reads r.request)) && (is_wide r.caller r.request || is_about p r.caller r.request)) refused))
+  refused_charged refused = freed-none-charged (idle-frees-none f p base h r (ap (λ b. (not b && not (only_reads r.request)) && (is_wide r.caller r.request || is_about p (purse_of r.caller r.request))) refused))

@@ -13,7 +13,7 @@ use Rattle.s4_types.specs.declared.version.Item.{Item}
 use Rattle.s4_types.specs.declared.version.Item.TheVariants as item
 use Rattle.s4_types.specs.Acl.{first_acl}
 use Rattle.s4_types.specs.Names.{same_purse, same_object}
-use Rattle.s4_types.specs.Kinds.{is_accepted, is_wide, is_about, concerns, is_create}
+use Rattle.s4_types.specs.Kinds.{is_accepted, is_wide, is_about, concerns, is_create, purse_of}
 use Rattle.s4_types.specs.Versions.{Track, versions, span_of, after_change, makes, deletes, is_made, is_deleted, data_effect, attribute_effect, acl_effect, data_track, attribute_track, acl_track, begun as begins}
 use Rattle.s4_types.specs.Base.{Base}
 use Rattle.s4_types.specs.Bindings.{rebound, named_by}
@@ -184,7 +184,7 @@ module _ {base : Base} {size : ℕ} {chains : Chains Version} {kept : Objects} {
       nothing count = ap (λ b. if b then count (change_of r.request) else 0) idle
 
       strange : (p : Purse) → concerns p r ≡ false
-      strange p = ap (λ b. b && (is_wide r.caller r.request || is_about p r.caller r.request)) idle
+      strange p = ap (λ b. b && (is_wide r.caller r.request || is_about p (purse_of r.caller r.request))) idle
 
       none : MakesNone r
       none = record { makes_none = λ q. ap (λ b. b && is_made q r.reply) (strange q.purse); draws_none = λ p. ap (λ b. b && is_create r.request) (strange p) }

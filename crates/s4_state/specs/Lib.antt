@@ -1,9 +1,11 @@
 pub mod Held
 pub mod Laid
 pub mod Sound
+pub mod Stored
 pub mod Current
 pub mod Flushes
 pub mod Shown
 pub mod Told
 pub mod Weights
 pub mod Stands
+pub mod CutLog

@@ -12,11 +12,12 @@ use Rattle.s4_types.specs.declared.version.Item.{Item}
 use Rattle.s4_types.specs.Names.{same_object}
 use Rattle.s4_types.specs.Versions.{Value, makes}
 use Rattle.s4_types.specs.Base.{Base}
-use Rattle.s4_types.specs.Lists.{fresh_lists, base_of_lists}
+use Rattle.s4_types.specs.Lists.{base_of_lists}
 use Rattle.s4_types.specs.Bindings.{bindings_after, names_after, names_of}
 use Rattle.s4_types.specs.Horizon.{horizon_at}
 use Rattle.s4_types.specs.Serials.{drawn, draws}
 use Rattle.s4_types.specs.Play.{last_of}
+use Rattle.s4_base.specs.Changes.{CanFollowAll}
 use Rattle.s4_names.specs.Drawn.{drawn_in}
 use Rattle.s4_tracks.specs.Chain.{with_put, with_end}
 use Rattle.s4_tracks.specs.Swept.{unexpired, AgreesWith}
@@ -31,7 +32,7 @@ use Rattle.s4_parts.specs.Table.{Holds, names_in, bindings_in, chain_at, is_any,
 use Rattle.s4_parts.specs.Waiting.{waiting_in, Waits}
 use Rattle.s4_state.specs.declared.parts.Parts.{Parts}
 use Rattle.s4_types.specs.Log.{Log, is_ready_for}
-use Rattle.s4_types.specs.Counts.{made_by, values_ended_by, bindings_ended_by, counted, made_count, object_ends, binding_ends}
+use Rattle.s4_types.specs.Counts.{held_by_lists, made_by, values_ended_by, bindings_ended_by, counted, made_count, object_ends, binding_ends}
 use Rattle.s4_state.specs.Current.{Keeps}
 use Rattle.s4_state.specs.Laid.{versions_on, bindings_on}
 use Rattle.s4_state.specs.Sound.{IsSound}
@@ -103,13 +104,17 @@ pub record StandsFor (base : Base) (size : ℕ) (chains : Chains Version) (kept 
 
 -- what the history starts from
 abbrev pub base_in : {S : Type 0} → Parts S → Base
-base_in parts = base_of_lists (fresh_lists parts.window)
+base_in parts = base_of_lists parts.start.base
+
+-- how many values and bindings that keeps
+abbrev pub begun_by : {S : Type 0} → Parts S → ℕ
+begun_by parts = held_by_lists parts.start.base
 
 -- what callers see, where it is made ready for those
 abbrev pub log_where : {S : Type 0} → Readiness → (S → Chains Version) → Parts S → Log
 log_where ready chains parts = record {
-  opened = parts.window;
-  base = fresh_lists parts.window;
+  opened = parts.start.opened;
+  base = parts.start.base;
   history = parts.history.records;
   held = item_count (chains parts.store);
   ready = ready;
@@ -139,11 +144,20 @@ StandsStill chains old new = Stands chains new (size_in chains old) old.history.
 abbrev pub IsKept : {S : Type 0} → (S → Chains Version) → Parts S → Type 0
 IsKept chains parts = Stands chains parts (size_in chains parts) parts.history.records
 
--- what is kept stands for the history beside it, of which no record was cut off, and where it was made
+-- the base goes on from the records that went to those that are left
+pub record GoesOn {S : Type 0} (parts : Parts S) : Type 0 where
+  -- as many records went as the base tells
+  pub places : parts.history.first ≡ parts.start.base.count
+  -- it can follow those that are left, so that these can go too
+  pub follows : CanFollowAll (base_in parts) parts.history.records
+  -- its lists have each object and each name once
+  pub keeps : Keeps (base_in parts) (begun_by parts)
+
+-- what is kept stands for the history beside it, its base goes on to the history, and where it was made
 -- ready for a request there is room for the next record
 pub record StateStands {S : Type 0} (chains : S → Chains Version) (parts : Parts S) (ready : Readiness) : Type 0 where
   pub kept : IsKept chains parts
-  pub whole : parts.history.first ≡ 0
+  pub goes_on : GoesOn parts
   pub room : (request : Request) → is_ready_for ready request ≡ true → parts.history.has_room ≡ true
 
 -- the record makes no object, and draws no serial

@@ -8,7 +8,7 @@ use Rattle.s4_types.specs.Base.{Base}
 use Rattle.s4_types.specs.Bindings.{bindings, names_of}
 use Rattle.s4_types.specs.Serials.{drawn}
 use Rattle.s4_types.specs.Spending.{sum_to, binding_cost}
-use Rattle.s4_types.specs.Answer.{data_of, attributes_of, acl_of}
+use Rattle.s4_types.specs.Contents.{data_of, attributes_of, acl_of}
 use Rattle.s4_objects.specs.declared.kept.Which.{Which}
 use Rattle.s4_objects.specs.declared.kept.Which.TheVariants as which
 use Rattle.s4_types.specs.Versions.{Track, Value, versions, data_track, attribute_track, acl_track}

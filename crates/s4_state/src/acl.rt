@@ -12,9 +12,11 @@ use s4_acl::set;
 use s4_objects::Which;
 use s4_store::Store;
 use s4_types::{Item, NoMemory, ObjectId, Record, Rights, User, Version};
+use std::alloc::Global;
 
 /// Carries out the SetAcl that the record tells of.
 pub fn apply<S: Store<Version>>(
+    alloc: Global,
     parts: &mut Parts<S>,
     added: &Record,
     object: &ObjectId,
@@ -29,8 +31,8 @@ pub fn apply<S: Store<Version>>(
     ensures ok { OnOk result (StandsWith S.chains parts.old parts.new added.now) }
     ensures err { OnErr result (StandsStill S.chains parts.old parts.new) }
     ensures history { parts.new.history ≡ parts.old.history }
-    ensures window { parts.new.window ≡ parts.old.window }
+    ensures start { parts.new.start ≡ parts.old.start }
 {
-    let acl = set(&parts.acl(object, None), user, rights).unwrap();
+    let acl = set(alloc, parts.acl(object, None), user, rights)?;
     put(parts, added, object, Which::Acl, Item::Acl(acl))
 }

@@ -13,12 +13,18 @@ use s4_store::Store;
 use s4_types::{Bytes, Item, NoMemory, ObjectId, Record, Version};
 use std::alloc::Global;
 
-fn joined(alloc: Global, front: &[u8], back: &[u8]) -> Result<Vec<u8>, NoMemory>
-    ensures { IfOk result (λ new. new.items ≡ front.now ++ back.now) }
+// The bytes, and the others behind them. Where there are none before them, those are shared.
+fn joined(alloc: Global, front: &[u8], back: &Bytes) -> Result<Bytes, NoMemory>
+    ensures { IfOk result (λ new. new ≡ front.now ++ back.now) }
 {
-    let mut new = Vec::from_slice(alloc, front)?;
-    new.extend_from_slice(back)?;
-    Ok(new)
+    if front.is_empty() {
+        return back.copy();
+    }
+    let more = back.as_slice();
+    let mut new = Vec::with_capacity(alloc, front.len() + more.len())?;
+    new.extend_from_slice(front)?;
+    new.extend_from_slice(more)?;
+    Bytes::from_vec(new)
 }
 
 /// Carries out the Append that the record tells of.
@@ -37,9 +43,8 @@ pub fn apply<S: Store<Version>>(
     ensures ok { OnOk result (StandsWith S.chains parts.old parts.new added.now) }
     ensures err { OnErr result (StandsStill S.chains parts.old parts.new) }
     ensures history { parts.new.history ≡ parts.old.history }
-    ensures window { parts.new.window ≡ parts.old.window }
+    ensures start { parts.new.start ≡ parts.old.start }
 {
-    let new = joined(alloc, parts.current_data(object), bytes.as_slice())?;
-    let item = Item::Data(Bytes::new(new));
-    put(parts, added, object, Which::Data, item)
+    let new = joined(alloc, parts.current_data(object), bytes)?;
+    put(parts, added, object, Which::Data, Item::Data(new))
 }

@@ -27,7 +27,7 @@ pub fn set<S: Store<Version>>(
     ensures ok { OnOk result (StandsWith S.chains parts.old parts.new added.now) }
     ensures err { OnErr result (StandsStill S.chains parts.old parts.new) }
     ensures history { parts.new.history ≡ parts.old.history }
-    ensures window { parts.new.window ≡ parts.old.window }
+    ensures start { parts.new.start ≡ parts.old.start }
 {
     let item = Item::Attr(bytes.copy()?);
     put(parts, added, object, Which::Attributes, item)

@@ -21,14 +21,16 @@ pub fn put<S: Store<Version>>(
 ) -> Result<(), NoMemory>
     requires kept { IsKept S.chains parts.old }
     requires next { IsNext (base_in parts.old) parts.old.history.records added.now }
-    requires lives { lives_at (base_in parts.old) added.now.moment object.now parts.old.history.records ≡ true }
+    requires lives { lives_at (base_in parts.old) added.now.moment object.now
+        parts.old.history.records ≡ true }
     requires small { IsSmall item }
-    requires puts { PutsOn (base_in parts.old) parts.old.history.records added.now object.now which item }
+    requires puts { PutsOn (base_in parts.old) parts.old.history.records
+        added.now object.now which item }
     requires sound { IsSound (base_in parts.old) (parts.old.history.records ++ added.now ∷ []) }
     ensures ok { OnOk result (StandsWith S.chains parts.old parts.new added.now) }
     ensures err { OnErr result (StandsStill S.chains parts.old parts.new) }
     ensures history { parts.new.history ≡ parts.old.history }
-    ensures window { parts.new.window ≡ parts.old.window }
+    ensures start { parts.new.start ≡ parts.old.start }
 {
     parts.store.reserve(1)?;
     parts.objects.reserve(1)?;

@@ -14,8 +14,8 @@ use s4_objects::Refund;
 use s4_store::Store;
 use s4_types::{Moment, NoMemory, ObjectId, Record, Version};
 
-/// Carries out the Flush that the record tells of, and puts what it takes back of charges into a list
-/// that is empty.
+/// Carries out the Flush that the record tells of, and puts what it takes back of charges into a
+/// list that is empty.
 pub fn apply<S: Store<Version>>(
     parts: &mut Parts<S>,
     added: &Record,
@@ -32,20 +32,22 @@ pub fn apply<S: Store<Version>>(
     ensures ok { OnOk result (StandsWith S.chains parts.old parts.new added.now) }
     ensures charged { OnOk result ((weight : ℕ → ℕ → ℕ) (p : Purse)
         → IsNothingBy (horizon_now (base_in parts.old) parts.old.history.records) weight
-        → IsCharged (base_in parts.old) weight p parts.old.history.records added.now refunds.new.items) }
+        → IsCharged (base_in parts.old) weight p parts.old.history.records
+        added.now refunds.new.items) }
     ensures err { OnErr result (StandsStill S.chains parts.old parts.new) }
     ensures none { OnErr result (refunds.new.items ≡ []) }
     ensures capacity { vec_capacity refunds.old ≤ vec_capacity refunds.new }
-    ensures enough { item_count (S.chains parts.old.store) ≤ vec_capacity refunds.old → IsOk result }
+    ensures enough { item_count (S.chains parts.old.store) ≤ vec_capacity refunds.old
+        → IsOk result }
     ensures history { parts.new.history ≡ parts.old.history }
-    ensures window { parts.new.window ≡ parts.old.window }
+    ensures start { parts.new.start ≡ parts.old.start }
 {
     let store = &mut parts.store;
     parts.objects.flush(store, from, to, refunds)
 }
 
-/// Carries out the FlushO that the record tells of, and puts what it takes back of charges into a list
-/// that is empty.
+/// Carries out the FlushO that the record tells of, and puts what it takes back of charges into a
+/// list that is empty.
 pub fn apply_to_one<S: Store<Version>>(
     parts: &mut Parts<S>,
     added: &Record,
@@ -63,12 +65,13 @@ pub fn apply_to_one<S: Store<Version>>(
     ensures ok { OnOk result (StandsWith S.chains parts.old parts.new added.now) }
     ensures charged { OnOk result ((weight : ℕ → ℕ → ℕ) (p : Purse)
         → IsNothingBy (horizon_now (base_in parts.old) parts.old.history.records) weight
-        → IsCharged (base_in parts.old) weight p parts.old.history.records added.now refunds.new.items) }
+        → IsCharged (base_in parts.old) weight p parts.old.history.records
+        added.now refunds.new.items) }
     ensures err { OnErr result (StandsStill S.chains parts.old parts.new) }
     ensures none { OnErr result (refunds.new.items ≡ []) }
     ensures capacity { vec_capacity refunds.old ≤ vec_capacity refunds.new }
     ensures history { parts.new.history ≡ parts.old.history }
-    ensures window { parts.new.window ≡ parts.old.window }
+    ensures start { parts.new.start ≡ parts.old.start }
 {
     let store = &mut parts.store;
     parts.objects.flush_object(store, object, from, to, refunds)

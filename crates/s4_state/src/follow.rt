@@ -15,10 +15,10 @@ use s4_store::Store;
 use s4_types::{NoMemory, Record, Request, Version};
 use std::alloc::Global;
 
-/// Brings what is kept of objects and names to where the record leaves it, and puts what a flush takes
-/// back of charges into a list that is empty. Every growth comes before any change that a call tells.
-/// A wide request's record takes no memory, if for a flush the list has room for as many as the store
-/// holds.
+/// Brings what is kept of objects and names to where the record leaves it, and puts what a flush
+/// takes back of charges into a list that is empty. Every growth comes before any change that a
+/// call tells. A wide request's record takes no memory, if for a flush the list has room for as
+/// many as the store holds.
 pub fn follow<S: Store<Version>>(
     alloc: Global,
     parts: &mut Parts<S>,
@@ -32,16 +32,18 @@ pub fn follow<S: Store<Version>>(
     ensures ok { OnOk result (StandsWith S.chains parts.old parts.new added.now) }
     ensures charged { OnOk result ((weight : ℕ → ℕ → ℕ) (p : Purse)
         → IsNothingBy (horizon_now (base_in parts.old) parts.old.history.records) weight
-        → IsCharged (base_in parts.old) weight p parts.old.history.records added.now refunds.new.items) }
+        → IsCharged (base_in parts.old) weight p parts.old.history.records
+        added.now refunds.new.items) }
     ensures refused { is_refused added.now.reply ≡ true → refunds.new.items ≡ [] }
     ensures err { OnErr result (StandsStill S.chains parts.old parts.new) }
     ensures none { OnErr result (refunds.new.items ≡ []) }
     ensures capacity { vec_capacity refunds.old ≤ vec_capacity refunds.new }
     ensures enough { is_wide added.now.caller added.now.request ≡ true
-        → (is_flush added.now.request ≡ true → item_count (S.chains parts.old.store) ≤ vec_capacity refunds.old)
+        → (is_flush added.now.request ≡ true
+        → item_count (S.chains parts.old.store) ≤ vec_capacity refunds.old)
         → IsOk result }
     ensures history { parts.new.history ≡ parts.old.history }
-    ensures window { parts.new.window ≡ parts.old.window }
+    ensures start { parts.new.start ≡ parts.old.start }
 {
     if added.reply.is_refused() {
         return Ok(());
@@ -70,7 +72,7 @@ fn change<S: Store<Version>>(
     ensures err { OnErr result (StandsStill S.chains parts.old parts.new) }
     ensures wide { is_wide added.now.caller added.now.request ≡ true → IsOk result }
     ensures history { parts.new.history ≡ parts.old.history }
-    ensures window { parts.new.window ≡ parts.old.window }
+    ensures start { parts.new.start ≡ parts.old.start }
 {
     match &added.request {
         Request::Create { number } => create::apply(alloc, parts, added, *number),
@@ -89,7 +91,7 @@ fn change<S: Store<Version>>(
             object,
             user,
             rights,
-        } => acl::apply(parts, added, object, *user, *rights),
+        } => acl::apply(alloc, parts, added, object, *user, *rights),
         Request::PCreate { name, object } => partitions::bind(parts, added, name, object),
         Request::PDelete { purse, name } => {
             partitions::unbind(parts, added, purse, name);

@@ -19,3 +19,4 @@ mod write;
 
 pub use s4_objects::Refund;
 pub use state::State;
+pub use values::Stored;

@@ -2,7 +2,6 @@
 
 ghost use Rattle.std.specs.Prelude.{◌≡◌, ◌≤◌, false, take, length, nat_lt, IfOk, OnOk, OnErr, ◌++◌, ◌∷◌, []};
 ghost use Rattle.s4_types.specs.declared.request.Request.TheVariants as request;
-ghost use Rattle.s4_types.specs.Answer.{lines_in, purse_numbers};
 ghost use Rattle.s4_types.specs.Kinds.{is_refused};
 ghost use Rattle.s4_types.specs.Play.{last_of};
 ghost use Rattle.s4_tracks.specs.Swept.{IsFrom};
@@ -34,7 +33,7 @@ pub fn bind<S: Store<Version>>(
     ensures ok { OnOk result (StandsWith S.chains parts.old parts.new added.now) }
     ensures err { OnErr result (StandsStill S.chains parts.old parts.new) }
     ensures history { parts.new.history ≡ parts.old.history }
-    ensures window { parts.new.window ≡ parts.old.window }
+    ensures start { parts.new.start ≡ parts.old.start }
 {
     parts.store.reserve(1)?;
     let store = &mut parts.store;
@@ -52,7 +51,7 @@ pub fn unbind<S: Store<Version>>(parts: &mut Parts<S>, added: &Record, purse: &P
     requires sound { IsSound (base_in parts.old) (parts.old.history.records ++ added.now ∷ []) }
     ensures stands { StandsWith S.chains parts.old parts.new added.now }
     ensures history { parts.new.history ≡ parts.old.history }
-    ensures window { parts.new.window ≡ parts.old.window }
+    ensures start { parts.new.start ≡ parts.old.start }
 {
     let store = &mut parts.store;
     parts.partitions.unbind(store, added.moment, purse, name);
@@ -73,7 +72,8 @@ pub fn page<S: Store<Version>>(
     ensures lines { IfOk result (λ page. page.lines
         ≡ take 64 (lines_told (log_in S.chains parts.now) moment caller range after.now at.now)) }
     ensures more { IfOk result (λ page. page.more
-        ≡ nat_lt 64 (length (lines_told (log_in S.chains parts.now) moment caller range after.now at.now))) }
+        ≡ nat_lt 64 (length (lines_told
+        (log_in S.chains parts.now) moment caller range after.now at.now))) }
 {
     let mountable = Mountable {
         parts,
@@ -95,9 +95,11 @@ struct Mountable<'a, S> {
 }
 
 impl<S: Store<Version>> Visible for Mountable<'_, S> {
-    ghost shown = { λ v o. granted (base_in v.parts.now) v.parts.now.history.records v.moment v.caller v.at o };
+    ghost shown = { λ v o. granted
+        (base_in v.parts.now) v.parts.now.history.records v.moment v.caller v.at o };
 
-    ghost is_ready = { λ v. IsKept S.chains v.parts.now × (last_of v.parts.now.history.records ≤ v.moment)
+    ghost is_ready = { λ v. IsKept S.chains v.parts.now
+        × (last_of v.parts.now.history.records ≤ v.moment)
         × IsFrom (horizon_now (base_in v.parts.now) v.parts.now.history.records) v.at };
 
     fn grant(&self, object: &ObjectId) -> Option<Grant> {

@@ -1,35 +1,47 @@
 //! What the drive keeps beside its history, and what it tells of the objects.
 
 ghost use Rattle.std.specs.Prelude.{◌≡◌, ℕ, ◌≤◌, ◌+◌, IfSome, is_some, nat_le, not};
-ghost use Rattle.std.specs.Option.{option_copied, option_map};
-ghost use Rattle.s4_types.specs.Answer.{moment_of, is_gone, data_of, attributes_of, acl_of};
-ghost use Rattle.s4_types.specs.Versions.{when, value_at, data_track, attribute_track};
+ghost use Rattle.std.specs.Option.{option_copied};
+ghost use Rattle.s4_types.specs.Acl.{IsAcl};
+ghost use Rattle.s4_types.specs.Answer.{moment_of};
 ghost use Rattle.s4_types.specs.Serials.{drawn};
-ghost use Rattle.s4_types.specs.Bindings.{bound_at, bound_count, has_name};
+ghost use Rattle.s4_types.specs.Bindings.{bound_count, has_name};
 ghost use Rattle.s4_types.specs.Judgement.{held_at, judge as judge_of};
 ghost use Rattle.s4_types.specs.Names.{object_in};
 ghost use Rattle.s4_types.specs.Play.{last_of};
 ghost use Rattle.s4_judge.specs.Held.{shown_held};
 ghost use Rattle.s4_tracks.specs.Swept.{IsFrom};
 ghost use Rattle.s4_state.specs.Laid.{version_at};
+ghost use Rattle.s4_state.specs.Stored.{told_bytes};
 ghost use Rattle.s4_state.specs.Weights.{cost_now};
+ghost use Rattle.s4_types.specs.Contents.{data_of, acl_of};
 
-use crate::values::{bytes_of, held_of};
+use crate::values::{Stored, held_of, stored_of};
 use s4_audit::Audit;
+use s4_base::Base;
 use s4_judge::{Held, judge_now, judge_past};
 use s4_names::Names;
 use s4_objects::{Objects, Which};
 use s4_store::Store;
-use s4_types::{Acl, Caller, Grant, Moment, Name, ObjectId, Purse, Refusal, Right, Version};
+use s4_types::{AclEntry, Caller, Grant, Moment, Name, ObjectId, Purse, Refusal, Right, Version};
 
 /// What a value without bytes or entries costs once it is past.
 const LEAST_COST: u32 = 64;
 
-/// The window at the opening, the values, the objects and the serials drawn, the partitions, and all
-/// records.
+/// What the history starts from.
+#[derive(Drop)]
+pub struct Start {
+    /// The window at the opening, in ticks.
+    pub opened: u64,
+    /// What the records that went have left.
+    pub base: Base,
+}
+
+/// What the history starts from, the values, the objects and the serials drawn, the partitions, and
+/// the records.
 #[derive(Drop)]
 pub struct Parts<S> {
-    pub window: u64,
+    pub start: Start,
     pub store: S,
     pub objects: Objects,
     pub names: Names,
@@ -44,8 +56,10 @@ impl<S: Store<Version>> Parts<S> {
     /// The object that the next Create in the purse makes, if a serial is left.
     pub fn next_object(&self, purse: &Purse) -> Option<ObjectId>
         requires { IsKept S.chains self.now }
-        ensures some { IfSome result (λ o. o ≡ object_in purse.now (drawn (base_in self.now) purse.now self.now.history.records + 1)) }
-        ensures left { is_some result ≡ not (nat_le 65535 (drawn (base_in self.now) purse.now self.now.history.records)) }
+        ensures some { IfSome result (λ o. o ≡ object_in purse.now
+            (drawn (base_in self.now) purse.now self.now.history.records + 1)) }
+        ensures left { is_some result
+            ≡ not (nat_le 65535 (drawn (base_in self.now) purse.now self.now.history.records)) }
     {
         self.names.next_object(purse)
     }
@@ -83,13 +97,14 @@ impl<S: Store<Version>> Parts<S> {
         requires kept { IsKept S.chains self.now }
         requires told { IsFrom (horizon_now (base_in self.now) self.now.history.records) at }
         ensures { (t : ℕ) → last_of self.now.history.records ≤ t
-            → option_copied result ≡ version_at (base_in self.now) which object.now (moment_of t at) self.now.history.records }
+            → option_copied result ≡ version_at (base_in self.now) which object.now
+            (moment_of t at) self.now.history.records }
     {
         self.objects.version(&self.store, object, which, at)
     }
 
-    /// What the current value of a track costs once it is past. Where the object doesn't live that is
-    /// the cost of a value without bytes or entries.
+    /// What the current value of a track costs once it is past. Where the object doesn't live that
+    /// is the cost of a value without bytes or entries.
     pub fn cost(&self, object: &ObjectId, which: Which) -> u32
         requires { IsKept S.chains self.now }
         ensures { (t : ℕ) → last_of self.now.history.records ≤ t
@@ -107,27 +122,27 @@ impl<S: Store<Version>> Parts<S> {
         ensures { (t : ℕ) → last_of self.now.history.records ≤ t
             → result.now ≡ data_of (base_in self.now) object.now t self.now.history.records }
     {
-        self.data(object, None).unwrap()
+        self.data(object, None).as_slice().unwrap()
     }
 
-    /// The data in force, nothing where the object doesn't live. None where a flush erased them.
-    pub fn data(&self, object: &ObjectId, at: Option<Moment>) -> Option<&[u8]>
+    /// The data in force, nothing where the object doesn't live.
+    pub fn data(&self, object: &ObjectId, at: Option<Moment>) -> Stored<'_>
         requires kept { IsKept S.chains self.now }
         requires told { IsFrom (horizon_now (base_in self.now) self.now.history.records) at }
         ensures { (t : ℕ) → last_of self.now.history.records ≤ t
-            → option_copied result ≡ data_told (log_in S.chains self.now) object.now at t }
+            → told_bytes result ≡ data_told (log_in S.chains self.now) object.now at t }
     {
-        bytes_of(self.version(object, Which::Data, at))
+        stored_of(self.version(object, Which::Data, at))
     }
 
-    /// The attributes in force, nothing where the object doesn't live. None where a flush erased them.
-    pub fn attributes(&self, object: &ObjectId, at: Option<Moment>) -> Option<&[u8]>
+    /// The attributes in force, nothing where the object doesn't live.
+    pub fn attributes(&self, object: &ObjectId, at: Option<Moment>) -> Stored<'_>
         requires kept { IsKept S.chains self.now }
         requires told { IsFrom (horizon_now (base_in self.now) self.now.history.records) at }
         ensures { (t : ℕ) → last_of self.now.history.records ≤ t
-            → option_copied result ≡ attributes_told (log_in S.chains self.now) object.now at t }
+            → told_bytes result ≡ attributes_told (log_in S.chains self.now) object.now at t }
     {
-        bytes_of(self.version(object, Which::Attributes, at))
+        stored_of(self.version(object, Which::Attributes, at))
     }
 
     /// The ACL in force and since when, where the object lives.
@@ -135,21 +150,24 @@ impl<S: Store<Version>> Parts<S> {
         requires kept { IsKept S.chains self.now }
         requires told { IsFrom (horizon_now (base_in self.now) self.now.history.records) at }
         ensures { (t : ℕ) → last_of self.now.history.records ≤ t
-            → shown_held result ≡ held_at (base_in self.now) object.now (moment_of t at) self.now.history.records }
+            → shown_held result ≡ held_at (base_in self.now) object.now
+            (moment_of t at) self.now.history.records }
     {
         held_of(self.version(object, Which::Acl, at))
     }
 
-    /// The ACL in force, without entries where the object doesn't live.
-    pub fn acl(&self, object: &ObjectId, at: Option<Moment>) -> Acl
+    /// The entries of the ACL in force, none where the object doesn't live.
+    pub fn acl(&self, object: &ObjectId, at: Option<Moment>) -> &[AclEntry]
         requires kept { IsKept S.chains self.now }
         requires told { IsFrom (horizon_now (base_in self.now) self.now.history.records) at }
-        ensures { (t : ℕ) → last_of self.now.history.records ≤ t
-            → result ≡ acl_of (base_in self.now) object.now (moment_of t at) self.now.history.records }
+        ensures value { (t : ℕ) → last_of self.now.history.records ≤ t
+            → result.now ≡ acl_of (base_in self.now) object.now
+            (moment_of t at) self.now.history.records }
+        ensures is_acl { IsAcl result.now }
     {
         match self.held(object, at) {
-            Some(held) => held.acl.copy(),
-            None => Acl::empty(),
+            Some(held) => held.acl.entries(),
+            None => &[],
         }
     }
 
@@ -164,7 +182,8 @@ impl<S: Store<Version>> Parts<S> {
         requires kept { IsKept S.chains self.now }
         requires told { IsFrom (horizon_now (base_in self.now) self.now.history.records) at }
         ensures { (t : ℕ) → last_of self.now.history.records ≤ t
-            → result ≡ judge_of (base_in self.now) self.now.history.records t caller object.now right at }
+            → result ≡ judge_of (base_in self.now) self.now.history.records
+            t caller object.now right at }
     {
         let names_a_moment = at.is_some();
         let held = self.held(object, at);

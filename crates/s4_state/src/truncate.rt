@@ -14,14 +14,15 @@ use s4_store::Store;
 use s4_types::{Bytes, Item, NoMemory, ObjectId, Record, Version};
 use std::alloc::Global;
 
-/// The bytes, and zeros up to the length.
-fn of_length(alloc: Global, old: &[u8], length: usize) -> Result<Vec<u8>, NoMemory>
-    ensures { IfOk result (λ new. new.items ≡ of_length_as length old.now) }
+// The bytes, and zeros up to the length.
+fn of_length(alloc: Global, old: &[u8], length: u32) -> Result<Bytes, NoMemory>
+    ensures { IfOk result (λ new. new ≡ of_length_as length old.now) }
 {
-    let kept = length.min(old.len());
-    let mut new = Vec::from_slice(alloc, &old[..kept])?;
+    let length = length as usize;
+    let mut new = Vec::with_capacity(alloc, length)?;
+    new.extend_from_slice(&old[..length.min(old.len())])?;
     new.resize(length, 0)?;
-    Ok(new)
+    Bytes::from_vec(new)
 }
 
 /// Carries out the Truncate that the record tells of.
@@ -40,9 +41,8 @@ pub fn apply<S: Store<Version>>(
     ensures ok { OnOk result (StandsWith S.chains parts.old parts.new added.now) }
     ensures err { OnErr result (StandsStill S.chains parts.old parts.new) }
     ensures history { parts.new.history ≡ parts.old.history }
-    ensures window { parts.new.window ≡ parts.old.window }
+    ensures start { parts.new.start ≡ parts.old.start }
 {
-    let new = of_length(alloc, parts.current_data(object), length as usize)?;
-    let item = Item::Data(Bytes::new(new));
-    put(parts, added, object, Which::Data, item)
+    let new = of_length(alloc, parts.current_data(object), length)?;
+    put(parts, added, object, Which::Data, Item::Data(new))
 }

@@ -4,24 +4,48 @@ ghost use Rattle.std.specs.Prelude.{◌≡◌};
 ghost use Rattle.std.specs.Option.{option_copied};
 ghost use Rattle.s4_judge.specs.Held.{shown_held};
 ghost use Rattle.s4_state.specs.Held.{bytes_in, held_in};
+ghost use Rattle.s4_state.specs.Stored.{told_bytes};
 
 use s4_judge::Held;
-use s4_types::{Item, Version};
+use s4_types::{Bytes, Item, Version};
 
-/// The bytes of a value of the data or of the attributes: an empty slice where there is no value, and
-/// None where it is erased.
-pub fn bytes_of(version: Option<&Version>) -> Option<&[u8]>
-    ensures { option_copied result ≡ bytes_in (option_copied version.entry) }
+/// What is told of a value of the data or of the attributes.
+#[derive(Clone, Copy, Debug)]
+pub enum Stored<'a> {
+    /// There is no value.
+    Nothing,
+    /// Its bytes.
+    Bytes(&'a Bytes),
+    /// A flush erased it.
+    Erased,
+}
+
+impl<'a> Stored<'a> {
+    /// The bytes: none where there is no value, and None where it is erased.
+    pub fn as_slice(self) -> Option<&'a [u8]>
+        ensures { option_copied result ≡ told_bytes self.entry }
+    {
+        match self {
+            Stored::Nothing => Some(&[]),
+            Stored::Bytes(bytes) => Some(bytes.as_slice()),
+            Stored::Erased => None,
+        }
+    }
+}
+
+/// What is told of a value of the data or of the attributes.
+pub fn stored_of(version: Option<&Version>) -> Stored<'_>
+    ensures { told_bytes result ≡ bytes_in (option_copied version.entry) }
 {
     match version {
-        None => Some(&[]),
+        None => Stored::Nothing,
         Some(
             Version {
                 item: Some(Item::Data(bytes) | Item::Attr(bytes)),
                 ..
             },
-        ) => Some(bytes.as_slice()),
-        Some(_) => None,
+        ) => Stored::Bytes(bytes),
+        Some(_) => Stored::Erased,
     }
 }
 

@@ -2,6 +2,7 @@
 use Rattle.std.specs.Prelude.{ℕ, ◌==◌, if◌then◌else◌, Option, Some, None, List, [], ◌∷◌}
 use Rattle.s4_types.specs.declared.principal.WireVersion.{WireVersion}
 use Rattle.s4_types.specs.declared.principal.WireVersion.TheVariants.{One, Two}
+use Rattle.s4_types.specs.Limits.{number_of_version}
 use Rattle.s4_codec.specs.Format.{Format, ◌&◌, byte, number, block, only, made, cases, whole}
 use Rattle.s4_codec.specs.Parts.{principal}
 use Rattle.s4_stream.specs.Logins.{Logins, is_login}
@@ -9,11 +10,6 @@ use Rattle.s4_stream.specs.declared.hello.Hello.{Hello}
 use Rattle.s4_stream.specs.declared.event.Event.{Event}
 use Rattle.s4_stream.specs.declared.event.Event.TheVariants.{Welcome, Fault}
 use Rattle.s4_stream.specs.declared.event.SessionFault.TheVariants as fault
-
--- the number of a version of the wire
-abbrev pub number_of_version : WireVersion → ℕ
-number_of_version One = 1
-number_of_version Two = 2
 
 -- the version of that number
 abbrev pub version_of : ℕ → WireVersion

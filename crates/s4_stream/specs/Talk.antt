@@ -1,5 +1,5 @@
 -- What is sent for a connection's events, and the order in which they stand.
-use Rattle.std.specs.Prelude.{ℕ, ◌+◌, Option, Some, None, List, [], ◌∷◌, ◌++◌, map, flat_map}
+use Rattle.std.specs.Prelude.{◌≡◌, ℕ, ◌+◌, Option, Some, None, List, [], ◌∷◌, ◌++◌, map, flat_map}
 use Rattle.s4_types.specs.declared.principal.Caller.{Caller}
 use Rattle.s4_types.specs.declared.request.Request as asked
 use Rattle.s4_types.specs.declared.reply.Reply.{Reply}
@@ -71,6 +71,10 @@ pub data IsTalk : List Event → Type 0 where
 abbrev pub fault_bytes : Option kinds.SessionFault → List ℕ
 fault_bytes None = []
 fault_bytes (Some fault) = fault_frame fault
+
+-- For events that are at most the fault no more than its frame is sent, whatever the replies.
+abbrev pub TellsFaultAlone : Option kinds.SessionFault → Type 0
+TellsFaultAlone fault = (replies : List Reply) → sent_for (ended_by fault) replies ≡ fault_bytes fault
 
 -- the Welcome, the replies in order, and the frame of the fault, if there is one
 abbrev pub told_in_order : List Reply → Option kinds.SessionFault → List ℕ

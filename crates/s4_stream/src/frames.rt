@@ -64,7 +64,7 @@ pub fn add_fault(out: &mut BytesMut, fault: SessionFault) -> Result<(), NoMemory
     add_frame(out, &[FAULT, fault.number()])
 }
 
-/// Adds the frame of a reply that is within the limits of version 1, so it is never too big for one.
+/// Adds the frame of a reply within the limits of version 1, so it is never too big for one.
 pub fn add_reply(out: &mut BytesMut, reply: &Reply) -> Result<(), NoMemory>
     requires { IsTrue (is_within_limits One reply.now) }
     ensures added { OnOk result (out.new.items ≡ out.old.items ++ reply_frame reply.now) }

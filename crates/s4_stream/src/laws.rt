@@ -8,7 +8,7 @@ ghost use Rattle.s4_codec.specs.Format.{IsPrefixFree, IsReadBack, IsSpelledAsRea
 ghost use Rattle.s4_stream.specs.Hello as hellos;
 ghost use Rattle.s4_stream.specs.Logins as table;
 ghost use Rattle.s4_stream.specs.Stream.{hear, events_of};
-ghost use Rattle.s4_stream.specs.Talk.{sent_for, IsTalk, ended_by, fault_bytes, talk_of, told_in_order};
+ghost use Rattle.s4_stream.specs.Talk.{sent_for, IsTalk, TellsFaultAlone, talk_of, told_in_order};
 ghost use Rattle.s4_stream.specs.Feeding.{after_events};
 ghost use Rattle.s4_stream.specs.declared.event.SessionFault as faults;
 ghost use Rattle.s4_stream.specs.declared.event.SessionState.{SessionState};
@@ -17,8 +17,8 @@ ghost use Rattle.s4_stream.specs.declared.event.SessionState.{SessionState};
 /// heard of the first, and then of what that left and the second. So a session that is fed pieces
 /// has the events of all of them joined.
 pub fn cuts_change_nothing()
-    ensures { (logins : table.Logins) (state : SessionState) (first second : List ℕ) → hear logins state (first ++ second)
-        ≡ after_events (hear logins state first).events
+    ensures { (logins : table.Logins) (state : SessionState) (first second : List ℕ)
+        → hear logins state (first ++ second) ≡ after_events (hear logins state first).events
         (hear logins (hear logins state first).state ((hear logins state first).left ++ second)) }
 {}
 
@@ -27,10 +27,11 @@ pub fn cuts_change_nothing()
 /// What is sent for it is the Welcome, the reply to each request in order, and the fault.
 pub fn connections_speak_in_order()
     ensures events { (logins : table.Logins) (stream : List ℕ) → IsTalk (events_of logins stream) }
-    ensures sent { (caller : callers.Caller) (requests : List asked.Request) (fault : Option faults.SessionFault)
-        (replies : List told.Reply) → length replies ≡ length requests
+    ensures sent { (caller : callers.Caller) (requests : List asked.Request)
+        (fault : Option faults.SessionFault) (replies : List told.Reply)
+        → length replies ≡ length requests
         → sent_for (talk_of caller requests fault) replies ≡ told_in_order replies fault }
-    ensures unwelcome { (fault : Option faults.SessionFault) (replies : List told.Reply) → sent_for (ended_by fault) replies ≡ fault_bytes fault }
+    ensures unwelcome { (fault : Option faults.SessionFault) → TellsFaultAlone fault }
 {}
 
 /// A Hello has one spelling, which begins no other one; it is read whatever follows it; and what is

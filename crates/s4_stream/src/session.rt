@@ -26,8 +26,8 @@ pub enum FeedError {
     NoMemory,
 }
 
-/// One connection: where it stands, and the bytes of the frame that isn't whole yet. Whoever calls on
-/// it speaks version 1 of the wire, as each Hello says.
+/// One connection: where it stands, and the bytes of the frame that isn't whole yet. Whoever calls
+/// on it speaks version 1 of the wire, as each Hello says.
 #[derive(Drop)]
 pub struct Session {
     alloc: Global,
@@ -46,7 +46,8 @@ impl Model for Session {
     ghost use Rattle.s4_stream.specs.First.{SpeaksFirst};
     ghost use Rattle.s4_stream.specs.declared.event.SessionState.TheVariants as states;
 
-    ghost invariant = { λ s. (s.state ≡ states.Closed → s.pending.items ≡ []) × SpeaksFirst s.state };
+    ghost invariant = { λ s. (s.state ≡ states.Closed → s.pending.items ≡ [])
+        × SpeaksFirst s.state };
 }
 
 impl Session {
@@ -112,9 +113,11 @@ impl Session {
 
     /// The same as `feed`, but after a fault a piece says nothing.
     pub fn hear(&mut self, logins: &Logins, piece: &[u8]) -> Result<Vec<Event>, NoMemory>
-        ensures events { IfOk result (λ events. events.items ≡ (hear_piece logins.now self.old piece.now).events) }
+        ensures events { IfOk result
+            (λ events. events.items ≡ (hear_piece logins.now self.old piece.now).events) }
         ensures first { IfOk result (λ events. All NamesFirst events.items) }
-        ensures session { OnOk result (self.new ≡ left_by (hear_piece logins.now self.old piece.now)) }
+        ensures session { OnOk result
+            (self.new ≡ left_by (hear_piece logins.now self.old piece.now)) }
     {
         match self.feed(logins, piece) {
             Ok(events) => Ok(events),
@@ -141,7 +144,9 @@ fn hear_all(
 ) -> Result<Hearing, NoMemory>
     requires { state.now ≡ states.Closed → ⊥ }
     ensures within { IfOk result (λ h. h.count ≤ length bytes.now) }
-    ensures heard { IfOk result (λ h. hear logins.now state.now bytes.now ≡ heard_so_far h.events.items h.state (drop h.count bytes.now)) }
+    ensures heard { IfOk result
+        (λ h. hear logins.now state.now bytes.now
+        ≡ heard_so_far h.events.items h.state (drop h.count bytes.now)) }
 {
     let mut hearing = Hearing {
         events: Vec::new(alloc),
@@ -169,7 +174,8 @@ fn hear_frame(
     ensures within { IfOk result (λ more. hearing.new.count ≤ length bytes.now) }
     ensures heard { IfOk result (λ more. HearsOne more logins.now
         (heard_so_far hearing.old.events.items hearing.old.state (drop hearing.old.count bytes.now))
-        (heard_so_far hearing.new.events.items hearing.new.state (drop hearing.new.count bytes.now))) }
+        (heard_so_far hearing.new.events.items hearing.new.state
+        (drop hearing.new.count bytes.now))) }
 {
     match read_frame(FRAME_LIMIT, &bytes[hearing.count..]) {
         Front::Whole { body, rest } => {

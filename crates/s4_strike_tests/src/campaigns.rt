@@ -226,7 +226,7 @@ pub fn principal(number: u32) -> Result<Principal, Fail> {
 fn step_of(alloc: Global, text: &str) -> Result<Step, Fail> {
     match parse_line(alloc, text.as_bytes())? {
         Line::Step(step) => Ok(step),
-        Line::Used => Err(Fail::from("a step")),
+        Line::Used | Line::Cut(_) => Err(Fail::from("a step")),
     }
 }
 

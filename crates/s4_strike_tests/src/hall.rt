@@ -41,7 +41,7 @@ fn joined(alloc: Global, pieces: &[&[u8]]) -> Result<Vec<u8>, AllocError> {
 fn framed(alloc: Global, body: &[u8]) -> Result<Bytes, Fail> {
     let length = u32::try_from(body.len()).map_err(|_| "a short body")?;
     let frame = joined(alloc, &[length.to_be_bytes().as_slice(), body])?;
-    Ok(Bytes::new(frame))
+    Ok(Bytes::from_vec(frame)?)
 }
 
 /// A good greeting of the principal, as client 0.

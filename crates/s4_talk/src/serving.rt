@@ -21,13 +21,14 @@ pub fn take_piece<A: Answer>(
     answer: &mut A,
 ) -> Result<(), NoMemory>
     ensures { Takes (is_ok result) logins.now piece.now (A.calls answer.old) (A.calls answer.new)
-        (told session.old fault.old waiting.old.items) (told session.new fault.new waiting.new.items) }
+        (told session.old fault.old waiting.old.items)
+        (told session.new fault.new waiting.new.items) }
 {
     let events = session.hear(logins, piece)?;
     serve_all(fault, waiting, events, answer)
 }
 
-/// Serves events in turn, until there is no memory for one. Their callers speak version 1 of the wire.
+/// Serves events in turn, until there is no memory for one. Their callers speak version 1.
 fn serve_all<A: Answer>(
     fault: &mut Option<SessionFault>,
     waiting: &mut BytesMut,

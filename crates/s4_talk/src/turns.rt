@@ -84,8 +84,9 @@ impl Talking {
         writer: &mut W,
         answer: &mut A,
     ) -> TurnEnd
-        // Of what was read a beginning is served, each frame once and in order, and what it is answered is
-        // written behind what waited, or waits. A beginning is all of it, but for want of memory.
+        // Of what was read a beginning is served, each frame once and in order, and what it is
+        // answered is written behind what waited, or waits. A beginning is all of it, but for want
+        // of memory.
         ensures turns { Turns (is_whole result) logins.now
             (scene (R.remaining reader.old) (W.contents writer.old) (A.calls answer.old) self.old)
             (scene (R.remaining reader.new) (W.contents writer.new) (A.calls answer.new) self.new) }
@@ -136,7 +137,8 @@ fn turn<R: Read, W: Write, A: Answer>(
         (told session.old fault.old waiting.old.items))
         (scene (R.remaining reader.new) (W.contents writer.new) (A.calls answer.new)
         (told session.new fault.new waiting.new.items)) }
-    ensures so { TurnsSo result (R.remaining reader.new) (told session.new fault.new waiting.new.items) }
+    ensures so { TurnsSo result
+        (R.remaining reader.new) (told session.new fault.new waiting.new.items) }
 {
     match send(waiting, writer) {
         Sending::All => {}
@@ -183,11 +185,14 @@ fn take_in<R: Read, A: Answer>(
     reader: &mut R,
     answer: &mut A,
 ) -> Intake
-    ensures takes { Intakes (is_served result) logins.now (R.remaining reader.old) (R.remaining reader.new)
+    ensures takes { Intakes (is_served result) logins.now
+        (R.remaining reader.old) (R.remaining reader.new)
         (A.calls answer.old) (A.calls answer.new)
-        (told session.old fault.old waiting.old.items) (told session.new fault.new waiting.new.items) }
+        (told session.old fault.old waiting.old.items)
+        (told session.new fault.new waiting.new.items) }
     ensures so { IntakesSo result (R.remaining reader.new)
-        (told session.old fault.old waiting.old.items) (told session.new fault.new waiting.new.items) }
+        (told session.old fault.old waiting.old.items)
+        (told session.new fault.new waiting.new.items) }
 {
     let mut piece = [0; PIECE];
     match reader.read(&mut piece) {
@@ -214,7 +219,8 @@ enum Sending {
 
 /// Writes what waits. A write that takes no byte has failed.
 fn send<W: Write>(waiting: &mut BytesMut, writer: &mut W) -> Sending
-    ensures sends { Sends (W.contents writer.old) (W.contents writer.new) waiting.old.items waiting.new.items }
+    ensures sends { Sends
+        (W.contents writer.old) (W.contents writer.new) waiting.old.items waiting.new.items }
     ensures all { result ≡ Sending.All → waiting.new.items ≡ [] }
 {
     for _ in 0..u64::MAX {

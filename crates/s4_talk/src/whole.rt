@@ -14,9 +14,9 @@ use std::sync::Wait;
 /// Hello, after a fault, or after a read or a write that failed.
 ///
 /// `PeerClosed` is the end of what the reader gives. `Faulted` tells which fault was told.
-/// `ReadFailed` and `WriteFailed` come where the reader or the writer failed, and where a write took
-/// no byte; `NoMemory` where a growth was refused outside a reply. What was carried out by then
-/// stays. It waits where the reader, the writer or the answer does.
+/// `ReadFailed` and `WriteFailed` come where the reader or the writer failed, and where a write
+/// took no byte; `NoMemory` where a growth was refused outside a reply. What was carried out by
+/// then stays. It waits where the reader, the writer or the answer does.
 pub fn talk<R: Read, W: Write, A: Answer, H: Wait>(
     rt: &H,
     alloc: Global,

@@ -14,10 +14,11 @@ use Rattle.s4_types.specs.Names.{same_purse, same_object}
 use Rattle.s4_types.specs.Kinds.{concerns}
 use Rattle.s4_types.specs.Base.{Base, Standing}
 use Rattle.std.specs.Option.{option_map}
-use Rattle.s4_types.specs.Versions.{when, Track, Value, Span, span_of, is_within, begun, end_at, on_current, only_kept, with_end, with_value, with_effect, erased, flushed_by, makes, deletes, after_mutation, after_change, versions_after, versions, acl_track}
+use Rattle.s4_types.specs.Versions.{Track, Value, Span, span_of, is_within, begun, end_at, on_current, only_kept, with_end, with_value, with_effect, erased, flushed_by, makes, deletes, after_mutation, after_change, versions_after, versions, acl_track}
 use Rattle.s4_types.specs.Erased.{is_whole, is_past_or_whole}
 use Rattle.s4_types.proofs.Booleans.{by_test, both, &&-false}
 use Rattle.s4_types.proofs.Snoc.{versions-snoc}
+use Rattle.std.specs.Bool.{then_some}
 
 -- WHAT IS CURRENT
 
@@ -193,14 +194,14 @@ module _ {V : Type 0} (track : Track V) (o : ObjectId) where
 
     -- a flush of one object
     pub versions-flush-one : (caller : Caller) (p : ObjectId) → ((old : V) → track.effect o (FlushO p from to) old ≡ None)
-        → versions base track o (h ++ done_by caller (FlushO p from to) ∷ []) ≡ flushed_by (when (same_object p o) the_span) track.is_flushed (versions base track o h)
+        → versions base track o (h ++ done_by caller (FlushO p from to) ∷ []) ≡ flushed_by (then_some (same_object p o) the_span) track.is_flushed (versions base track o h)
     versions-flush-one caller p none =
         versions-snoc base track o h (done_by caller (FlushO p from to))
         ∙ by_test (same_purse p.purse o.purse)
         (λ e. ap (λ b. if b then after_change track o (versions base track o h) (done_by caller (FlushO p from to)) else versions base track o h) e
         ∙ changed)
         (λ e. ap (λ b. if b then after_change track o (versions base track o h) (done_by caller (FlushO p from to)) else versions base track o h) e
-        ∙ sym (ap (λ b. flushed_by (when (b && (p.serial == o.serial)) the_span) track.is_flushed (versions base track o h)) e))
+        ∙ sym (ap (λ b. flushed_by (then_some (b && (p.serial == o.serial)) the_span) track.is_flushed (versions base track o h)) e))
       where
         made : makes o (done_by caller (FlushO p from to)) ≡ false
         made = &&-false (concerns o.purse (done_by caller (FlushO p from to)))
@@ -208,8 +209,8 @@ module _ {V : Type 0} (track : Track V) (o : ObjectId) where
         deleted : deletes o (done_by caller (FlushO p from to)) ≡ false
         deleted = &&-false (concerns o.purse (done_by caller (FlushO p from to)))
 
-        changed : after_change track o (versions base track o h) (done_by caller (FlushO p from to)) ≡ flushed_by (when (same_object p o) the_span) track.is_flushed (versions base track o h)
-        changed = ap (flushed_by (when (same_object p o) the_span) track.is_flushed)
+        changed : after_change track o (versions base track o h) (done_by caller (FlushO p from to)) ≡ flushed_by (then_some (same_object p o) the_span) track.is_flushed (versions base track o h)
+        changed = ap (flushed_by (then_some (same_object p o) the_span) track.is_flushed)
             (ap (λ b. if b then begun m (track.start o) ∷ versions base track o h else (if deletes o (done_by caller (FlushO p from to)) then with_end m (versions base track o h) else with_effect m (track.effect o (FlushO p from to)) (versions base track o h))) made
             ∙ ap (λ b. if b then with_end m (versions base track o h) else with_effect m (track.effect o (FlushO p from to)) (versions base track o h)) deleted
             ∙ ap (λ effect. with_effect m effect (versions base track o h)) (λ i old. none old i)

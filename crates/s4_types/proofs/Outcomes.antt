@@ -1,6 +1,6 @@
 -- What a reply that is no refusal tells of the tests before it, and that no answer is want of memory.
 use Rattle.std.proofs.Common.{◌≡◌, ℕ, Bool, true, false, not, Option, Some, None, List, refl, sym, ◌∙◌, ap}
-use Rattle.std.specs.Prelude.{Result, Ok, Err, nat_le, nat_lt, ◌+◌, length, min, ◌==◌, ◌&&◌, cond, is_ok, is_some, take, drop, slice_get}
+use Rattle.std.specs.Prelude.{Result, Ok, Err, nat_le, nat_lt, ◌+◌, length, min, ◌==◌, ◌&&◌, cond, is_ok, is_some, take, drop, slice_get, ok_or}
 use Rattle.s4_types.specs.declared.principal.Caller.{Caller}
 use Rattle.s4_types.specs.declared.object.Purse.{Purse}
 use Rattle.s4_types.specs.declared.object.ObjectId.{ObjectId}
@@ -27,10 +27,12 @@ use Rattle.s4_types.specs.Spending.{spent_at, budget_of}
 use Rattle.s4_types.specs.Acl.{names}
 use Rattle.s4_types.specs.Limits.{data_limit}
 use Rattle.s4_types.specs.Versions.{value_at, data_track, attribute_track}
-use Rattle.s4_types.specs.Answer.{answer, outcome, outcome_by_kind, affordable, charge_of, timely, moment_of, is_gone, data_of, attributes_of, acl_of, entry_by_user, entry_by_index, settable, found_bound, administered, flushed}
+use Rattle.s4_types.specs.Answer.{answer, outcome, outcome_by_kind, affordable, charge_of, timely, moment_of, is_gone, settable, found_bound, administered, flushed, mountable}
 use Rattle.s4_types.specs.Serials.{drawn}
 use Rattle.s4_types.specs.Bindings.{bound_at, bound_count, has_name}
 use Rattle.s4_types.specs.Play.{is_no_memory}
+use Rattle.s4_types.specs.Contents.{data_of, attributes_of, acl_of}
+use Rattle.s4_types.specs.declared.reply.NameLine.{NameLine}
 
 -- a test that lets a request pass
 pub passes_test : (b : Bool) (r : Refusal) (next : Result Reply Refusal) → is_refused (reply_of (refuse_if b r >> next)) ≡ false → (b ≡ false) × (is_refused (reply_of next) ≡ false)
@@ -74,11 +76,13 @@ plain-absent : (needed : Right) (b : Bool) → is_plain {A = Grant} (Err (cond b
 plain-absent needed true = refl
 plain-absent needed false = refl
 
+plain-then : {A B : Type 0} (first : Result A Refusal) (next : Result B Refusal) → is_plain first ≡ true → is_plain next ≡ true → is_plain (first >> next) ≡ true
+plain-then (Ok x) next e f = f
+plain-then (Err r) next e f = e
+
 plain-past : (held : Held) (found : Option Found) → is_plain (judge_past_by_entry held found) ≡ true
-plain-past held None = refl
-plain-past held (Some found) =
-    plain-either (not (has found.rights right.Read)) (Err (Denied right.Read)) (cond (has found.rights right.Recover) (Ok (grant.Entry found.index held.since)) (Err (Denied right.Recover))) refl
-    (plain-either (has found.rights right.Recover) (Ok (grant.Entry found.index held.since)) (Err (Denied right.Recover)) refl refl)
+plain-past held found =
+    plain-then (judge_by_entry held right.Read found) (judge_by_entry held right.Recover found) (plain-entry held right.Read found) (plain-entry held right.Recover found)
 
 plain-judge_past : (caller : Caller) (o : ObjectId) (held : Option Held) → is_plain (judge_past caller o held) ≡ true
 plain-judge_past caller o None = plain-absent right.Read (may_know caller o.purse.creator)
@@ -122,13 +126,9 @@ told-then : {A : Type 0} (first : Result A Refusal) (next : Result Reply Refusal
 told-then (Ok x) next e f = f
 told-then (Err r) next e f = e
 
-told-user : (g : Grant) (user : ℕ) (found : Option Found) → is_told (entry_by_user g user found) ≡ true
-told-user g user None = refl
-told-user g user (Some found) = refl
-
-told-index : (g : Grant) (index : ℕ) (entry : Option AclEntry) → is_told (entry_by_index g index entry) ≡ true
-told-index g index None = refl
-told-index g index (Some entry) = refl
+told-entry : {A : Type 0} (found : Option A) (entry : A → Reply) → ((x : A) → is_refused (entry x) ≡ false) → is_told (ok_or found NoEntry >>= λ x. Ok (entry x)) ≡ true
+told-entry None entry e = refl
+told-entry (Some x) entry e = ap not (e x)
 
 plain-settable : (user rights : ℕ) (acl : List AclEntry) → is_plain (settable user rights acl) ≡ true
 plain-settable user rights acl = of (names user acl) (rights == 0) (nat_le 16 (length acl))
@@ -152,6 +152,18 @@ told-administered caller = told-test (not (caller.who == 0)) (Denied right.Admin
 
 told-flushed : (from to : ℕ) (caller : Caller) → is_told (flushed from to caller) ≡ true
 told-flushed from to caller = told-test (nat_lt to from) BadRange (administered caller) refl (told-administered caller)
+
+plain-bind : {A B : Type 0} (first : Result A Refusal) (next : A → Result B Refusal) → is_plain first ≡ true → ((x : A) → is_plain (next x) ≡ true) → is_plain (first >>= next) ≡ true
+plain-bind (Ok x) next e f = f x
+plain-bind (Err r) next e f = e
+
+plain-mountable : (base : Base) (h : List Record) (t : ℕ) (caller : Caller) (purse : Purse) (name : List ℕ) (at : Option ℕ) → is_plain (mountable base h t caller purse name at) ≡ true
+plain-mountable base h t caller purse name at =
+    let line : ℕ → Grant → NameLine = λ serial grant. record { name = name; object = object_in purse serial; grant = grant } in
+    let judged : ℕ → Result Grant Refusal = λ serial. judge base h t caller (object_in purse serial) right.Read at in
+    plain-bind (found_bound caller purse right.Read (bound_at base purse name (moment_of t at) h)) (λ serial. judged serial >>= λ grant. Ok (line serial grant))
+    (plain-found caller purse right.Read (bound_at base purse name (moment_of t at) h))
+    (λ serial. plain-bind (judged serial) (λ grant. Ok (line serial grant)) (plain-judge base h t caller (object_in purse serial) right.Read at) (λ grant. refl))
 
 told-by-kind : (base : Base) (h : List Record) (t : ℕ) (caller : Caller) (request : Request) → is_told (outcome_by_kind base h t caller request) ≡ true
 told-by-kind base h t caller (Create number) =
@@ -184,11 +196,15 @@ told-by-kind base h t caller (SetAttr o bytes) =
     told-test (nat_lt 256 (length bytes)) TooLong (judge base h t caller o right.Write None >> Ok Done) refl
     (told-then (judge base h t caller o right.Write None) (Ok Done) (plain-judge base h t caller o right.Write None) refl)
 told-by-kind base h t caller (GetAclByUser o user at) =
-    let next : Grant → Result Reply Refusal = λ g. entry_by_user g user (entry_of user (acl_of base o (moment_of t at) h)) in
-    told-bind (judge base h t caller o right.Read at) next (plain-judge base h t caller o right.Read at) (λ g. told-user g user (entry_of user (acl_of base o (moment_of t at) h)))
+    let found : Option Found = entry_of user (acl_of base o (moment_of t at) h) in
+    let entry : Grant → Found → Reply = λ g x. Entry g x.index user x.rights in
+    told-bind (judge base h t caller o right.Read at) (λ g. ok_or found NoEntry >>= λ x. Ok (entry g x)) (plain-judge base h t caller o right.Read at)
+    (λ g. told-entry found (entry g) (λ x. refl))
 told-by-kind base h t caller (GetAclByIndex o index at) =
-    let next : Grant → Result Reply Refusal = λ g. entry_by_index g index (slice_get (acl_of base o (moment_of t at) h) index) in
-    told-bind (judge base h t caller o right.Read at) next (plain-judge base h t caller o right.Read at) (λ g. told-index g index (slice_get (acl_of base o (moment_of t at) h) index))
+    let found : Option AclEntry = slice_get (acl_of base o (moment_of t at) h) index in
+    let entry : Grant → AclEntry → Reply = λ g x. Entry g index x.who x.rights in
+    told-bind (judge base h t caller o right.Read at) (λ g. ok_or found NoEntry >>= λ x. Ok (entry g x)) (plain-judge base h t caller o right.Read at)
+    (λ g. told-entry found (entry g) (λ x. refl))
 told-by-kind base h t caller (SetAcl o user rights) =
     told-then (judge base h t caller o right.Control None) (settable user rights (acl_of base o t h) >> Ok Done) (plain-judge base h t caller o right.Control None)
     (told-then (settable user rights (acl_of base o t h)) (Ok Done) (plain-settable user rights (acl_of base o t h)) refl)
@@ -203,11 +219,8 @@ told-by-kind base h t caller (PDelete purse name) =
     (λ serial. told-then (judge base h t caller (object_in purse serial) right.Control None) (Ok Done) (plain-judge base h t caller (object_in purse serial) right.Control None) refl)
 told-by-kind base h t caller (PList range after at) = refl
 told-by-kind base h t caller (PMount purse name at) =
-    let found : Result ℕ Refusal = found_bound caller purse right.Read (bound_at base purse name (moment_of t at) h) in
-    let last : ℕ → Grant → Result Reply Refusal = λ serial grant. Ok (Mounted grant (object_in purse serial)) in
-    let next : ℕ → Result Reply Refusal = λ serial. judge base h t caller (object_in purse serial) right.Read at >>= last serial in
-    told-bind found next (plain-found caller purse right.Read (bound_at base purse name (moment_of t at) h))
-    (λ serial. told-bind (judge base h t caller (object_in purse serial) right.Read at) (last serial) (plain-judge base h t caller (object_in purse serial) right.Read at) (λ g. refl))
+    let line : Result NameLine Refusal = mountable base h t caller purse name at in
+    told-bind line (λ l. Ok (Mounted l.grant l.object)) (plain-mountable base h t caller purse name at) (λ l. refl)
 told-by-kind base h t caller (Flush from to) = told-flushed from to caller
 told-by-kind base h t caller (FlushO o from to) = told-flushed from to caller
 told-by-kind base h t caller (SetWindow ticks) = told-administered caller

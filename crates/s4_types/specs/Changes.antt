@@ -1,5 +1,5 @@
 -- What a request changes, where it is carried out.
-use Rattle.std.specs.Prelude.{ℕ, Bool, true, false, List}
+use Rattle.std.specs.Prelude.{ℕ, List}
 use Rattle.s4_types.specs.declared.object.Purse.{Purse}
 use Rattle.s4_types.specs.declared.object.ObjectId.{ObjectId}
 use Rattle.s4_types.specs.declared.request.Request.{Request}
@@ -33,7 +33,3 @@ change_of (FlushO o from to) = Erases from to
 change_of (SetWindow ticks) = SetsWindow ticks
 change_of (SetBudget purse budget) = SetsBudget purse budget
 change_of _ = Nothing
-
-abbrev pub is_nothing : Change → Bool
-is_nothing Nothing = true
-is_nothing _ = false

@@ -17,6 +17,7 @@ pub mod Judgement
 pub mod Outcome
 pub mod Audit
 pub mod Answer
+pub mod Contents
 pub mod Limits
 pub mod Play
 pub mod Lists

@@ -15,6 +15,11 @@ abbrev pub data_limit : WireVersion → ℕ
 data_limit One = 4096
 data_limit Two = 65536
 
+-- the number of a version of the wire
+abbrev pub number_of_version : WireVersion → ℕ
+number_of_version One = 1
+number_of_version Two = 2
+
 -- the administrator's grant, or that of one of the at most 16 entries of an ACL
 abbrev pub is_shown_grant : Grant → Bool
 is_shown_grant grants.Admin = true

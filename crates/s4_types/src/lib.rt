@@ -4,7 +4,7 @@
 
 mod acl;
 mod audit;
-mod bytes;
+mod byte_string;
 mod memory;
 mod moment;
 mod name;
@@ -20,7 +20,7 @@ mod version;
 
 pub use acl::{Acl, AclEntry};
 pub use audit::{AuditLine, AuditLines, AuditPage};
-pub use bytes::Bytes;
+pub use byte_string::Bytes;
 pub use memory::NoMemory;
 pub use moment::Moment;
 pub use name::Name;

@@ -31,15 +31,6 @@ impl User {
         User { number }
     }
 
-    /// The principal alone.
-    pub fn of(principal: Principal) -> User
-        ensures { result ≡ principal }
-    {
-        User {
-            number: principal.number(),
-        }
-    }
-
     /// Every principal.
     pub fn everyone() -> User
         ensures { result ≡ everyone }
@@ -59,5 +50,16 @@ impl User {
         ensures { result ≡ reaches who self }
     {
         self.number == who.number() || self.number == u32::MAX
+    }
+}
+
+/// The principal alone.
+impl From<Principal> for User {
+    ghost from_gives = { λ principal user. user ≡ principal };
+
+    fn from(principal: Principal) -> User {
+        User {
+            number: principal.number(),
+        }
     }
 }

@@ -1,4 +1,4 @@
-use Rattle.std.proofs.Common.{◌≡◌, None, false, sym, ◌∙◌}
+use Rattle.std.proofs.Common.{◌≡◌, None, sym, ◌∙◌}
 use Rattle.std.specs.BTreeMap.{get}
 use Rattle.s4_types.specs.Names.{purse_cmp}
 use Rattle.s4_base.proofs.Shelves.{isnt_some, bounds-same, no-bounds}

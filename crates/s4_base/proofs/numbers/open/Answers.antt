@@ -1,4 +1,4 @@
-use Rattle.std.proofs.Common.{◌≡◌, Some, None, false, cond, sym, ◌∙◌, ap, unwrap_or}
+use Rattle.std.proofs.Common.{◌≡◌, Some, None, cond, sym, ◌∙◌, ap, unwrap_or}
 use Rattle.std.specs.BTreeMap.{get}
 use Rattle.s4_types.specs.Names.{same_purse, purse_cmp}
 use Rattle.s4_types.proofs.Booleans.{by_test}

@@ -1,4 +1,4 @@
-use Rattle.std.proofs.Common.{◌∙◌, arith}
+use Rattle.std.proofs.Common.{arith}
 use Rattle.s4_objects.specs.declared.kept.Which.TheVariants as which
 use Rattle.s4_objects.proofs.Opening.{new_open, begins}
 use Rattle.s4_objects.proofs.Using.{used_begun}
@@ -14,8 +14,8 @@ pub begin-requires-3-clause-open : goal.begin-requires-3-clause-open
 begin-requires-3-clause-open g c = c.begin-2.ensures.still _ (c.begin.ensures.still _ (new_open c.requires.opened.1 which.Acl))
 
 pub returns-clause-begins : goal.returns-clause-begins
-returns-clause-begins g c before opens = begins opens c.args.moment c.args.creator _ _ _ _ _ _
-    (c.new-2.ensures ∙ c.new.ensures.items) (c.new-4.ensures ∙ c.new-3.ensures.items) c.of_creator.ensures
+returns-clause-begins g c before creator opens first = begins opens c.args.moment creator _ _ _ _ _ _
+    c.new.ensures c.new-2.ensures first
     c.begin.ensures.chains c.begin-2.ensures.chains c.begin-3.ensures.chains
 
 pub returns-clause-used : goal.returns-clause-used

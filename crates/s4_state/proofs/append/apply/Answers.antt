@@ -14,5 +14,5 @@ put-requires-clause-puts g c =
     let t = c.args.added.now.moment in
     let old = c.current_data.ensures t c.requires.next.later in
     subst (λ bytes. PutsOn (base_in c.args.parts.now) h c.args.added.now c.args.object.now which.Data (item.Data bytes))
-    (sym (c.new.ensures ∙ c.in_ok-new.ensures ∙ ap (λ bytes. c.current_data.result.now ++ bytes) c.as_slice.ensures ∙ ap (λ bytes. bytes ++ c.args.bytes.now) old))
+    (sym (c.in_ok-new.ensures ∙ ap (λ bytes. bytes ++ c.args.bytes.now) old))
     (append_puts c.requires.kept.sound c.requires.next c.requires.granted c.args.object.now c.args.bytes.now c.requires.asked)

@@ -39,5 +39,5 @@ returns-in_default g c = record {
   capacity = omega arith;
   enough = λ wide room. c.change.ensures.wide wide;
   history = c.change.ensures.history;
-  window = c.change.ensures.window;
+  start = c.change.ensures.start;
 }

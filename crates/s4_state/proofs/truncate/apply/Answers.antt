@@ -14,5 +14,5 @@ put-requires-clause-puts g c =
     let h = c.args.parts.now.history.records in
     let old = c.current_data.ensures c.args.added.now.moment c.requires.next.later in
     subst (λ bytes. PutsOn (base_in c.args.parts.now) h c.args.added.now c.args.object.now which.Data (item.Data bytes))
-    (sym (c.new.ensures ∙ c.in_ok-new.ensures ∙ ap (of_length c.args.length) old))
+    (sym (c.in_ok-new.ensures ∙ ap (of_length c.args.length) old))
     (truncate_puts c.requires.kept.sound c.requires.next c.requires.granted c.args.object.now c.args.length c.requires.asked)

@@ -4,7 +4,7 @@ use Rattle.std.specs.BTreeMap.{get}
 use Rattle.s4_objects.specs.Keys.{object_cmp}
 use Rattle.s4_objects.specs.Table.{HoldsFor, SparesOthers, LeavesNone, found_in}
 use Rattle.s4_objects.proofs.Opening.{hollow, closed}
-use Rattle.s4_objects.proofs.Holding.{holds_made, leaves_made, spares_none, leaves_none}
+use Rattle.s4_objects.proofs.Holding.{holds_made, held_made, spares_made, leaves_made, spares_none, leaves_none}
 use Rattle.s4_objects.proofs.Using.{used_open}
 use Rattle.s4_objects.proofs.objects.Objects.create.Goals as goal
 
@@ -17,7 +17,7 @@ close-requires g c = hollow c.in_ok-kept.ensures.ok
 
 pub returns-in-Ok-clause-holds : goal.returns-in-Ok-clause-holds
 returns-in-Ok-clause-holds g c =
-    holds_made c.requires.holds c.args.object.now (isnt_some _ c.requires.fresh) (c.begin.ensures.begins (g.S.Store.chains c.args.store.now) c.in_ok-kept.ensures.ok) c.in-Ok.ensures.ok
+    holds_made c.requires.holds c.args.object.now (isnt_some _ c.requires.fresh) (c.begin.ensures.begins (g.S.Store.chains c.args.store.now) _ c.in_ok-kept.ensures.ok c.in_ok-acl.ensures) c.in-Ok.ensures.ok
 
 pub returns-in-Err-clause-refused : goal.returns-in-Err-clause-refused
 returns-in-Err-clause-refused g c = c.close.ensures.chains ∙ closed c.in_ok-kept.ensures.ok
@@ -32,12 +32,20 @@ returns-in-Err-clause-others g c =
     subst (λ m. SparesOthers (g.S.Store.chains c.args.store.now) m (found_in c.args.self.now) (get object_cmp c.keep.new.objects)) (sym (c.close.ensures.chains ∙ closed c.in_ok-kept.ensures.ok))
     (subst (λ f. SparesOthers (g.S.Store.chains c.args.store.now) (g.S.Store.chains c.args.store.now) (found_in c.args.self.now) f) (λ i q. sym (c.in-Err.ensures.err q) i) (spares_none (g.S.Store.chains c.args.store.now) (found_in c.args.self.now)))
 
+pub returns-in-Ok-clause-held : goal.returns-in-Ok-clause-held
+returns-in-Ok-clause-held g c =
+    held_made c.requires.holds c.args.object.now (isnt_some _ c.requires.fresh) (c.begin.ensures.begins (g.S.Store.chains c.args.store.now) _ c.in_ok-kept.ensures.ok c.in_ok-acl.ensures) c.in-Ok.ensures.ok
+
+pub returns-in-Ok-clause-others : goal.returns-in-Ok-clause-others
+returns-in-Ok-clause-others g c =
+    spares_made c.requires.holds c.args.object.now (isnt_some _ c.requires.fresh) (c.begin.ensures.begins (g.S.Store.chains c.args.store.now) _ c.in_ok-kept.ensures.ok c.in_ok-acl.ensures) c.in-Ok.ensures.ok
+
 pub returns-in-Ok-clause-used : goal.returns-in-Ok-clause-used
 returns-in-Ok-clause-used g c = let opened = used_open c.in_ok-kept.ensures.ok in omega (arith, opened, c.begin.ensures.used)
 
 pub returns-in-Ok-clause-leaves : goal.returns-in-Ok-clause-leaves
 returns-in-Ok-clause-leaves g c =
-    leaves_made c.requires.holds c.args.object.now (isnt_some _ c.requires.fresh) (c.begin.ensures.begins (g.S.Store.chains c.args.store.now) c.in_ok-kept.ensures.ok) c.in-Ok.ensures.ok
+    leaves_made c.requires.holds c.args.object.now (isnt_some _ c.requires.fresh) (c.begin.ensures.begins (g.S.Store.chains c.args.store.now) _ c.in_ok-kept.ensures.ok c.in_ok-acl.ensures) c.in-Ok.ensures.ok
 
 pub returns-in-Err-clause-leaves : goal.returns-in-Err-clause-leaves
 returns-in-Err-clause-leaves g c =

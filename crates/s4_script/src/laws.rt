@@ -1,0 +1,31 @@
+//! What holds of all lines of requests.
+
+ghost use Rattle.std.specs.Prelude.{◌≡◌, ℕ, Some};
+ghost use Rattle.s4_types.specs.declared.request.Request.{Request as Asked};
+ghost use Rattle.s4_script.specs.Readings.{line_in_text, request_in_words, step_of};
+ghost use Rattle.s4_script.specs.Requests.{request_line_text, words_of};
+ghost use Rattle.s4_script.specs.Scripted.{IsMoment, IsPrincipal, IsScriptable};
+
+use crate::ranges;
+use s4_types::{Moment, Principal, Request};
+
+/// What is written of a request is read back as that request, of each of the twenty kinds, as the
+/// words of a call and as the line of a script. The line has the moment and the principal too, and
+/// no client: docs/SCRIPTS.md, "Requests".
+pub fn written_requests_are_read_back()
+    ensures words { (asked : Asked) → IsScriptable asked
+        → request_in_words (words_of asked) ≡ Some asked }
+    ensures line { (moment who : ℕ) (asked : Asked) → IsMoment moment → IsPrincipal who
+        → IsScriptable asked
+        → line_in_text (request_line_text moment who asked) ≡ Some (step_of moment who asked) }
+{}
+
+/// Every moment, every principal and every request is in the ranges that scripts have: so the law
+/// above is about all of them.
+pub fn requests_are_scriptable(moment: Moment, who: Principal, request: &Request)
+    ensures moment { IsMoment moment }
+    ensures who { IsPrincipal who }
+    ensures request { IsScriptable request.now }
+{
+    ranges::of_request(request)
+}
