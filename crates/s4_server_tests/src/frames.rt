@@ -31,6 +31,11 @@ pub const FOREIGN_WRITE: &[u8] =
 /// It is cut behind its 11th byte.
 pub const CUT_WRITE: &[u8] = b"\x00\x00\x00\x14\x04\x00\x00\x00\x07\x00\x00";
 
+/// It writes 39 bytes to it.
+pub const SLOW_WRITE: &[u8] =
+    b"\x00\x00\x00\x36\x04\x00\x00\x00\x07\x00\x00\x00\x01\x00\x00\x00\x00\x00\x27\
+    more than whoever waits for it has time";
+
 /// It reads 100 bytes of 7.0.1.
 pub const READ: &[u8] =
     b"\x00\x00\x00\x12\x03\x00\x00\x00\x07\x00\x00\x00\x01\x00\x00\x00\x00\x00\x00\x00\x64\x00";

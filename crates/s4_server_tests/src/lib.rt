@@ -30,6 +30,8 @@ mod scenes;
 #[cfg(test)]
 mod served;
 #[cfg(test)]
+mod serving;
+#[cfg(test)]
 mod starts;
 #[cfg(test)]
 mod statuses;

@@ -1,6 +1,6 @@
 //! Peers with whom a server loses its patience.
 
-use crate::frames::{CALL, CUT_WRITE, HELLO};
+use crate::frames::{CALL, HELLO, SLOW_WRITE};
 use crate::scenes::{PAUSE, SILENT, TRIES, connect, tell};
 use std::alloc::Global;
 use std::io::{Error, ErrorKind, Read, Write};
@@ -8,7 +8,8 @@ use std::net::{Net, TcpListener, TcpStream};
 use std::time::{Clock, Duration};
 use std::{io, thread};
 
-/// What a peer is sent that says this byte by byte, with a pause before each, until the connection ends.
+/// What a peer is sent that says this byte by byte, with a pause before each, until the connection ends;
+/// that has to be before all is said.
 fn say_slowly<C: Clock>(
     clock: &C,
     alloc: Global,
@@ -18,13 +19,13 @@ fn say_slowly<C: Clock>(
     for byte in said {
         thread::sleep(clock, Duration::from_millis(PAUSE));
         if stream.write_all(&[*byte]).is_err() {
-            break;
+            let mut sent = Vec::new(alloc);
+            // A connection that is closed with bytes unread ends by a reset.
+            let _ = stream.read_to_end(&mut sent);
+            return Ok(sent);
         }
     }
-    let mut sent = Vec::new(alloc);
-    // A connection that is closed with bytes unread ends by a reset.
-    let _ = stream.read_to_end(&mut sent);
-    Ok(sent)
+    Err(Error::from(ErrorKind::TimedOut))
 }
 
 /// What a peer is sent that says its Hello slowly, which takes 3 seconds.
@@ -35,7 +36,7 @@ pub fn dribble<R: Net<Listener = TcpListener, Stream = TcpStream> + Clock>(
     say_slowly(rt, alloc, connect(rt)?, HELLO)
 }
 
-/// What a peer is sent that says its Hello, and then a frame slowly, of which the end never comes.
+/// What a peer is sent that says its Hello, and then a frame slowly, which takes 6 seconds up to its end.
 pub fn trickle<R: Net<Listener = TcpListener, Stream = TcpStream> + Clock>(
     rt: &R,
     alloc: Global,
@@ -45,7 +46,7 @@ pub fn trickle<R: Net<Listener = TcpListener, Stream = TcpStream> + Clock>(
     let mut welcome = [0; 6];
     stream.read_exact(&mut welcome)?;
     let mut sent = welcome.to_vec(alloc)?;
-    let rest = say_slowly(rt, alloc, stream, CUT_WRITE)?;
+    let rest = say_slowly(rt, alloc, stream, SLOW_WRITE)?;
     sent.extend_from_slice(rest.as_slice())?;
     Ok(sent)
 }

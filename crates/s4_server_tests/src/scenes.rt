@@ -17,12 +17,12 @@ use std::thread::Threads;
 use std::time::{Clock, Duration};
 use std::{fs, io, thread};
 
-/// Where the tests serve.
-pub const ADDRESS: &str = "127.0.0.1:47104";
+/// Where the tests serve. The system gives this port to nobody who asks for any.
+pub const ADDRESS: &str = "127.0.0.1:27104";
 
 /// How often it is tried to have the port, which another run may have, and how long it waits in
 /// between, in milliseconds.
-pub const TRIES: u32 = 1000;
+pub const TRIES: u32 = 300;
 
 pub const PAUSE: u64 = 100;
 
@@ -47,6 +47,7 @@ const LONG_READ: &[u8] =
     b"\x00\x00\x00\x12\x03\x00\x00\x00\x07\x00\x00\x00\x01\x00\x00\x00\x00\x00\x00\x0f\xa0\x00";
 
 /// What peers do.
+#[derive(Drop)]
 pub enum Scene {
     /// One after the other, each says these frames and then no more.
     Say(&'static [&'static [&'static [u8]]]),
@@ -220,13 +221,11 @@ fn ask_among<R: Net<Listener = TcpListener, Stream = TcpStream>>(
 /// Asks for more than the system keeps for a peer, and reads none of it.
 fn ask_for_much(stream: &mut TcpStream, alloc: Global) -> io::Result<()> {
     let written = Vec::from_elem(alloc, b'a', 4000)?;
-    for piece in [HELLO, CREATE, LONG_WRITE, written.as_slice()] {
-        stream.write_all(piece)?;
-    }
+    let mut said = joined(alloc, &[HELLO, CREATE, LONG_WRITE, written.as_slice()])?;
     for _ in 0..ASKED {
-        stream.write_all(LONG_READ)?;
+        said.extend_from_slice(LONG_READ)?;
     }
-    Ok(())
+    stream.write_all(said.as_slice())
 }
 
 /// The connection of a peer that asks for that much, and what another one is sent meanwhile.

@@ -13,7 +13,7 @@ use std::{fs, io, thread};
 /// What is told once one connection is welcomed and asked for a Create, one is silent, and one had a wrong
 /// secret: places in the status, and the numbers there.
 const WANTED: &[(&str, u64)] = &[
-    ("/port", 47104),
+    ("/port", 27104),
     ("/connections/accepted", 3),
     ("/connections/turned_away", 0),
     ("/connections/open", 2),

@@ -17,7 +17,7 @@ use std::time::{Clock, Duration, Instant};
 use std::{io, thread};
 
 /// Where it is listened later.
-const ADDRESS: &str = "127.0.0.1:47105";
+const ADDRESS: &str = "127.0.0.1:27105";
 
 /// First moments, and the least and the greatest moments that a clock may then tell within a minute.
 const MOMENTS: &[(u64, u64, u64)] = &[
