@@ -1,5 +1,4 @@
 pub mod Answering
-pub mod Copies
 pub mod Cuts
 pub mod Going
 pub mod Leaving
@@ -8,5 +7,6 @@ pub mod OneName
 pub mod OneObject
 pub mod Parting
 pub mod SameBase
+pub mod SharedMaps
 pub mod Shelves
 pub mod Turning

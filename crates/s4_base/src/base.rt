@@ -51,7 +51,8 @@ impl Base {
         }
     }
 
-    /// An equal base, or `NoMemory` where a growth was refused.
+    /// An equal base, or `NoMemory` where a growth was refused. The two share what has settled, so
+    /// this takes the time of what was followed since.
     pub fn copy(&self) -> Result<Base, NoMemory>
         ensures { IfOk result (λ base. base ≡ self.now) }
     {
@@ -61,7 +62,7 @@ impl Base {
     }
 
     /// What the base and the records before the moment leave, at any moment. The base itself stays
-    /// as it is, also where memory is refused.
+    /// as it is, also where memory is refused. This takes the time of a copy and of these records.
     pub fn after(&self, alloc: Global, records: &[Record], cut: Moment) -> Result<Base, NoMemory>
         requires is_base { IsBase (base_of_lists self.now) }
         requires order { InOrder (base_of_lists self.now).cut records.now }
@@ -72,8 +73,18 @@ impl Base {
     {
         let early = count_before(records, cut);
         let mut base = self.copy()?;
-        base.follow_all(alloc, &records[..early], cut)?;
+        base.tables.follow_all(alloc, &records[..early], cut)?;
         Ok(base)
+    }
+
+    /// Settles what was followed, which copies then share, unless a copy shares what had settled
+    /// before. Where memory is refused a part of it has settled; what the base tells stays equal.
+    /// This takes the time of what was followed. Where each base is settled before a later one is
+    /// made of it by `after`, and then gives way to that one, each record is so settled once.
+    pub fn settle(&mut self) -> Result<(), NoMemory>
+        ensures { self.new ≡ self.old }
+    {
+        self.tables.settle()
     }
 
     /// Its lists have each object once, and each purse once: in their order. It does nothing.
@@ -81,8 +92,8 @@ impl Base {
         ensures objects { IsStrictlySortedBy object_cmp (keys_of self.now.objects) }
         ensures purses { IsStrictlySortedBy purse_cmp (keys_of self.now.names) }
     {
-        self.tables.objects.len();
-        self.tables.names.len();
+        self.tables.objects.is_sorted();
+        self.tables.names.is_sorted();
     }
 
     /// The detection window in force, in ticks.
@@ -150,7 +161,11 @@ impl Base {
             ≡ left (base_of_lists self.old) added.now.moment (added.now ∷ [])) }
         ensures err { OnErr result (base_of_lists self.new ≡ base_of_lists self.old) }
     {
-        self.tables.follow(alloc, added)
+        self.settle()?;
+        let mut next = self.copy()?;
+        next.tables.follow(alloc, added)?;
+        *self = next;
+        Ok(())
     }
 
     /// Brings the base to what it and the records leave, all of which are up to the moment. Where
@@ -172,6 +187,10 @@ impl Base {
         ensures err { OnErr result
             (HasBegun (base_of_lists self.old) (base_of_lists self.new) cut records.now) }
     {
-        self.tables.follow_all(alloc, records, cut)
+        self.settle()?;
+        let mut next = self.copy()?;
+        next.tables.follow_all(alloc, records, cut)?;
+        *self = next;
+        Ok(())
     }
 }

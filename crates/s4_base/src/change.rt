@@ -1,6 +1,6 @@
 //! What each kind of request changes of the tables.
 
-ghost use Rattle.std.specs.Prelude.{◌≡◌, ◌==◌, ◌++◌, None, OnOk, OnErr};
+ghost use Rattle.std.specs.Prelude.{◌≡◌, ◌==◌, ◌++◌, None, OnOk};
 ghost use Rattle.s4_types.specs.declared.object.ObjectId.{ObjectId};
 ghost use Rattle.s4_types.specs.declared.reply.Reply.TheVariants as reply_as;
 ghost use Rattle.s4_types.specs.Acl.{acl_with};
@@ -10,7 +10,6 @@ ghost use Rattle.s4_base.specs.Changes.{with_made, with_object, on_object, with_
 
 use crate::kept::Bound;
 use crate::tables::Tables;
-use crate::values::{joined, of_length, written};
 use crate::{names, numbers, objects};
 use s4_types::{Bytes, Caller, Moment, Name, NoMemory, ObjectId, Purse, Reply, Rights, User};
 use std::alloc::Global;
@@ -25,22 +24,20 @@ impl Tables {
         moment: Moment,
         object: &ObjectId,
     ) -> Result<(), NoMemory>
-        ensures ok { OnOk result
+        ensures { OnOk result
             (base_in self.new ≡ with_made moment object.now (base_in self.old)) }
-        ensures err { OnErr result (base_in self.new ≡ base_in self.old) }
     {
         let kept = objects::fresh(alloc, moment, object)?;
-        numbers::open(&mut self.drawn, &object.purse)?;
         objects::keep(&mut self.objects, object, kept)?;
-        numbers::set_drawn(&mut self.drawn, &object.purse, object.serial.number());
-        Ok(())
+        numbers::set_drawn(&mut self.drawn, &object.purse, object.serial.number())
     }
 
-    /// An object lives no longer. Takes no memory.
-    pub fn delete(&mut self, object: &ObjectId)
-        ensures { base_in self.new ≡ with_object object.now None (base_in self.old) }
+    /// An object lives no longer.
+    pub fn delete(&mut self, object: &ObjectId) -> Result<(), NoMemory>
+        ensures { OnOk result (base_in self.new
+            ≡ with_object object.now None (base_in self.old)) }
     {
-        objects::forget(&mut self.objects, object);
+        objects::forget(&mut self.objects, object)
     }
 
     /// Bytes over an object's data, if it lives.
@@ -52,16 +49,14 @@ impl Tables {
         offset: u32,
         bytes: &Bytes,
     ) -> Result<(), NoMemory>
-        ensures ok { OnOk result (base_in self.new ≡ on_object object.now
+        ensures { OnOk result (base_in self.new ≡ on_object object.now
             (with_bytes moment (written_of offset bytes.now)) (base_in self.old)) }
-        ensures err { OnErr result (base_in self.new ≡ base_in self.old) }
     {
         let Some(kept) = self.objects.get(object) else {
             return Ok(());
         };
-        let new = written(alloc, &kept.bytes, offset, bytes)?;
-        objects::set_bytes(&mut self.objects, moment, object, new);
-        Ok(())
+        let new = bytes.written_over(alloc, kept.bytes.as_slice(), offset)?;
+        objects::set_bytes(&mut self.objects, moment, object, new)
     }
 
     /// Bytes after an object's data, if it lives.
@@ -72,16 +67,14 @@ impl Tables {
         object: &ObjectId,
         bytes: &Bytes,
     ) -> Result<(), NoMemory>
-        ensures ok { OnOk result (base_in self.new ≡ on_object object.now
+        ensures { OnOk result (base_in self.new ≡ on_object object.now
             (with_bytes moment (λ old. old ++ bytes.now)) (base_in self.old)) }
-        ensures err { OnErr result (base_in self.new ≡ base_in self.old) }
     {
         let Some(kept) = self.objects.get(object) else {
             return Ok(());
         };
-        let new = joined(alloc, &kept.bytes, bytes)?;
-        objects::set_bytes(&mut self.objects, moment, object, new);
-        Ok(())
+        let new = bytes.appended_to(alloc, kept.bytes.as_slice())?;
+        objects::set_bytes(&mut self.objects, moment, object, new)
     }
 
     /// An object's data cut, or filled with zeros, to that length, if it lives.
@@ -92,16 +85,14 @@ impl Tables {
         object: &ObjectId,
         length: u32,
     ) -> Result<(), NoMemory>
-        ensures ok { OnOk result (base_in self.new
+        ensures { OnOk result (base_in self.new
             ≡ on_object object.now (with_bytes moment (of_length_as length)) (base_in self.old)) }
-        ensures err { OnErr result (base_in self.new ≡ base_in self.old) }
     {
         let Some(kept) = self.objects.get(object) else {
             return Ok(());
         };
-        let new = of_length(alloc, &kept.bytes, length)?;
-        objects::set_bytes(&mut self.objects, moment, object, new);
-        Ok(())
+        let new = Bytes::of_length(alloc, kept.bytes.as_slice(), length)?;
+        objects::set_bytes(&mut self.objects, moment, object, new)
     }
 
     /// Bytes in the place of an object's attributes, if it lives.
@@ -111,13 +102,11 @@ impl Tables {
         object: &ObjectId,
         bytes: &Bytes,
     ) -> Result<(), NoMemory>
-        ensures ok { OnOk result (base_in self.new
+        ensures { OnOk result (base_in self.new
             ≡ on_object object.now (with_attributes moment bytes.now) (base_in self.old)) }
-        ensures err { OnErr result (base_in self.new ≡ base_in self.old) }
     {
         let new = bytes.copy()?;
-        objects::set_attributes(&mut self.objects, moment, object, new);
-        Ok(())
+        objects::set_attributes(&mut self.objects, moment, object, new)
     }
 
     /// Rights for a user in an object's ACL, if it lives.
@@ -130,16 +119,14 @@ impl Tables {
         rights: Rights,
     ) -> Result<(), NoMemory>
         requires { IsSettable user rights ((base_in self.old).object object.now) }
-        ensures ok { OnOk result (base_in self.new
+        ensures { OnOk result (base_in self.new
             ≡ on_object object.now (with_acl moment (acl_with user rights)) (base_in self.old)) }
-        ensures err { OnErr result (base_in self.new ≡ base_in self.old) }
     {
         let Some(kept) = self.objects.get(object) else {
             return Ok(());
         };
         let acl = s4_acl::set(alloc, kept.acl.entries(), user, rights)?;
-        objects::set_acl(&mut self.objects, moment, object, acl);
-        Ok(())
+        objects::set_acl(&mut self.objects, moment, object, acl)
     }
 
     /// A name bound to an object, in the object's purse.
@@ -150,9 +137,8 @@ impl Tables {
         name: &Name,
         object: &ObjectId,
     ) -> Result<(), NoMemory>
-        ensures ok { OnOk result (base_in self.new ≡ with_bound object.now.purse name.now
+        ensures { OnOk result (base_in self.new ≡ with_bound object.now.purse name.now
             (record { begin = moment; value = object.now.serial }) (base_in self.old)) }
-        ensures err { OnErr result (base_in self.new ≡ base_in self.old) }
     {
         let bound = Bound {
             serial: object.serial,
@@ -161,19 +147,19 @@ impl Tables {
         names::bind(alloc, &mut self.names, &object.purse, name, bound)
     }
 
-    /// A name bound no longer. Takes no memory.
-    pub fn unbind(&mut self, purse: &Purse, name: &Name)
-        ensures { base_in self.new ≡ without_bound purse.now name.now (base_in self.old) }
+    /// A name bound no longer.
+    pub fn unbind(&mut self, alloc: Global, purse: &Purse, name: &Name) -> Result<(), NoMemory>
+        ensures { OnOk result (base_in self.new
+            ≡ without_bound purse.now name.now (base_in self.old)) }
     {
-        names::unbind(&mut self.names, purse, name);
+        names::unbind(alloc, &mut self.names, purse, name)
     }
 
     /// The object that a Create was told to have made.
     pub fn created(&mut self, alloc: Global, moment: Moment, reply: &Reply) -> Result<(), NoMemory>
         ensures ok { (o : ObjectId) → reply.now ≡ reply_as.Made o
             → OnOk result (base_in self.new ≡ with_made moment o (base_in self.old)) }
-        ensures err { OnErr result (base_in self.new ≡ base_in self.old) }
-        ensures count { self.new.count ≡ self.old.count }
+        ensures count { OnOk result (self.new.count ≡ self.old.count) }
     {
         match reply {
             Reply::Made(object) => self.create(alloc, moment, object),
@@ -203,9 +189,8 @@ impl Tables {
 
     /// What a purse may spend.
     pub fn set_budget(&mut self, purse: &Purse, budget: u32) -> Result<(), NoMemory>
-        ensures ok { OnOk result (base_in self.new
+        ensures { OnOk result (base_in self.new
             ≡ with_budget purse.now budget (base_in self.old)) }
-        ensures err { OnErr result (base_in self.new ≡ base_in self.old) }
     {
         numbers::set_budget(&mut self.budgets, purse, budget)
     }

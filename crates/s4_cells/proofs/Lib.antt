@@ -1,2 +1,4 @@
+pub mod CuttingAll
 pub mod Playing
 pub mod SameAnswer
+pub mod Whole

@@ -1,11 +1,15 @@
 -- Many cells, seen by their logs, and what a request of all purses does to them: facts on the cell of each place.
-use Rattle.std.specs.Prelude.{◌≡◌, ℕ, true, ◌<◌, ◌≤◌, List, [], map, length, slice_index_or}
+use Rattle.std.specs.Prelude.{◌≡◌, ℕ, true, ◌+◌, ◌<◌, ◌≤◌, min, List, [], map, fold, length, slice_index_or}
 use Rattle.s4_types.specs.declared.principal.Caller.{Caller}
 use Rattle.s4_types.specs.declared.record.Record.{Record}
 use Rattle.s4_types.specs.declared.request.Request.{Request}
 use Rattle.s4_types.specs.Base.{opened}
-use Rattle.s4_types.specs.Play.{record_of}
-use Rattle.s4_types.specs.Log.{Log, is_ready_for, with_record}
+use Rattle.s4_types.specs.Lists.{Lists, base_of_lists}
+use Rattle.s4_types.specs.Play.{record_of, last_of}
+use Rattle.s4_types.specs.Log.{Log, base_of, horizon_in, is_ready_for, with_record}
+use Rattle.s4_cuts.specs.Cut.{base_at}
+use Rattle.s4_state.specs.CutLog.{IsCut}
+use Rattle.s4_drive.specs.Alike.{AnswersAlike}
 
 -- the histories of the cells, in their order
 abbrev pub histories : List Log → List (List Record)
@@ -46,3 +50,33 @@ pub record FirstAdd (r : Record) (i : ℕ) (old new : List Log) : Type 0 where
   pub count : length new ≡ length old
   pub first : (k : ℕ) (none : Log) → k < i → k < length old → slice_index_or new k none ≡ with_record (slice_index_or old k none) r
   pub others : (k : ℕ) (none : Log) → i ≤ k → slice_index_or new k none ≡ slice_index_or old k none
+
+-- CUTS
+
+-- the least of the moment and the cells' horizons
+abbrev pub least_horizon : ℕ → List Log → ℕ
+least_horizon moment cells = fold (λ least c. min least (horizon_in c)) moment cells
+
+-- there are as many cells, and it holds of each as it was and as it is
+pub record EachNow (P : Log → Log → Type 0) (old new : List Log) : Type 0 where
+  pub count : length new ≡ length old
+  pub each : (k : ℕ) (none : Log) → k < length old → P (slice_index_or old k none) (slice_index_or new k none)
+
+-- a cell is cut at the moment, and goes on as it would have
+pub record IsCutAlike (moment : ℕ) (old new : Log) : Type 0 where
+  pub cut : IsCut moment old new
+  pub replies : AnswersAlike old new
+  pub last : last_of new.history ≡ last_of old.history
+  pub horizon : horizon_in new ≡ horizon_in old
+  pub places : new.base.count + length new.history ≡ old.base.count + length old.history
+
+-- the cells from i on are cut, and the others are as they were
+pub record CutFrom (moment i : ℕ) (old new : List Log) : Type 0 where
+  pub count : length new ≡ length old
+  pub others : (k : ℕ) (none : Log) → k < i → slice_index_or new k none ≡ slice_index_or old k none
+  pub cut : (k : ℕ) (none : Log) → i ≤ k → k < length old → IsCutAlike moment (slice_index_or old k none) (slice_index_or new k none)
+
+-- the bases are what the records before the moment leave in the cells, as far as there are bases
+abbrev pub AreLeft : ℕ → List Log → List Lists → Type 0
+AreLeft moment cells bases = (k : ℕ) (none : Log) (nought : Lists) → k < length bases
+    → base_of_lists (slice_index_or bases k nought) ≡ base_at (base_of (slice_index_or cells k none)) (slice_index_or cells k none).history moment

@@ -3,9 +3,11 @@
 
 mod all_cells;
 mod cell;
+mod cuts;
 mod measure;
 
 pub use all_cells::{wide, wide_with_copy};
 pub use cell::Cell;
+pub use cuts::cut_all;
 pub use measure::Measure;
 pub use s4_drive::Answered;

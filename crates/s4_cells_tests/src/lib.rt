@@ -5,6 +5,8 @@
 #[cfg(test)]
 mod all_cells;
 #[cfg(test)]
+mod cuts;
+#[cfg(test)]
 mod given;
 #[cfg(test)]
 mod one_cell;

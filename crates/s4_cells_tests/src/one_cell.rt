@@ -37,7 +37,7 @@ fn step_at(
 }
 
 // That a step gives this reply.
-fn check_step(
+pub fn check_step(
     rt: &impl Abort,
     cell: &mut Cell,
     moment: u64,

@@ -27,6 +27,8 @@ pub struct Settings {
     pub open: u32,
     /// The moment at the start.
     pub first: u64,
+    /// Whether records that no reply needs any more are cut.
+    pub cuts: bool,
     ghost some_cells: { 0 < cells },
     ghost few_cells: { cells ≤ 16 },
     ghost some_workers: { 0 < workers },
@@ -35,7 +37,7 @@ pub struct Settings {
 
 impl Settings {
     /// A window of a day, four cells, four workers, no end, a minute of silence, ten seconds up to
-    /// the Welcome, 1024 connections, and a clock that begins at 0.
+    /// the Welcome, 1024 connections, a clock that begins at 0, and all records kept.
     pub fn standard() -> Settings {
         Settings {
             window: 86400000,
@@ -48,6 +50,7 @@ impl Settings {
             },
             open: 1024,
             first: 0,
+            cuts: false,
         }
     }
 }

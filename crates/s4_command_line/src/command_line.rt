@@ -12,8 +12,8 @@ ghost use Rattle.s4_command_line.specs.Words.{IsCallOf, IsForTenant, IsHelloOf, 
 
 use crate::meaning::{all_meant, secret_of};
 use crate::parser::{
-    ADDRESS, CELLS, CLIENT, CONNECTIONS, FIRST, HELLO, IDLE, LOGINS, OPEN, RELOAD, SECRET, SETUP,
-    STATUS, UNTIL, WAIT, WHO, WINDOW, WORD, WORKERS, parser,
+    ADDRESS, CELLS, CLIENT, CONNECTIONS, CUT, FIRST, HELLO, IDLE, LOGINS, OPEN, RELOAD, SECRET,
+    SETUP, STATUS, UNTIL, WAIT, WHO, WINDOW, WORD, WORKERS, parser,
 };
 use clap::error::ErrorKind;
 use clap::{ArgMatches, Error};
@@ -96,6 +96,7 @@ fn serve(alloc: Global, words: &ArgMatches) -> Result<Command, WordsFault> {
         },
         open: number(alloc, words, OPEN, 1, u64::from(u32::MAX))? as u32,
         first: number(alloc, words, FIRST, 0, LAST_FIRST)?,
+        cuts: words.get_flag(CUT),
     };
     let address = String::from_str(alloc, word(words, ADDRESS))?;
     let logins = String::from_str(alloc, word(words, LOGINS))?;

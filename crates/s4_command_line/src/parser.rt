@@ -1,6 +1,6 @@
 //! What a command line may have: commands, arguments, flags, and the texts of the help.
 
-use clap::{Arg, Command as Parser};
+use clap::{Arg, ArgAction, Command as Parser};
 use std::alloc::{AllocError, Global};
 
 /// The version of the program. A build is told no commit, so it names none.
@@ -84,6 +84,8 @@ pub const HELLO: &str = "hello";
 pub const OPEN: &str = "open";
 
 pub const FIRST: &str = "first-moment";
+
+pub const CUT: &str = "cut";
 
 pub const UNTIL: &str = "until";
 
@@ -202,7 +204,8 @@ fn with_flags_of_peers<'a>(alloc: Global, parser: Parser<'a>) -> Result<Parser<'
     parser.arg(connections)?.arg(idle)?.arg(hello)?.arg(open)
 }
 
-/// Adds the flags that say how the clock begins, and how often logins are looked at.
+/// Adds the flags that say how the clock begins, how often logins are looked at, and whether the
+/// history is cut.
 fn with_flags_of_times<'a>(alloc: Global, parser: Parser<'a>) -> Result<Parser<'a>, AllocError> {
     let first = flag(
         alloc,
@@ -216,7 +219,11 @@ fn with_flags_of_times<'a>(alloc: Global, parser: Parser<'a>) -> Result<Parser<'
         "After how many milliseconds it looks again at LOGINS, or 0 for never",
         "0",
     );
-    parser.arg(first)?.arg(reload)
+    let cut = Arg::new(alloc, CUT)
+        .long(CUT)
+        .action(ArgAction::SetTrue)
+        .help("It drops the records that no reply needs any more");
+    parser.arg(first)?.arg(reload)?.arg(cut)
 }
 
 /// Adds the flags that name files.

@@ -86,6 +86,7 @@ Options:
       --open <N>          How many connections may be open [default: 1024]
       --first-moment <N>  The moment at the start, in milliseconds [default: 0]
       --reload <N>        After how many milliseconds it looks again at LOGINS, or 0 for never [default: 0]
+      --cut               It drops the records that no reply needs any more
       --until <FILE>      It ends once there is this file
       --setup <FILE>      It carries out the lines of this file before it listens
       --status <FILE>     It tells of itself in this file each second, as JSON

@@ -30,6 +30,7 @@ const STANDARD: Settings = Settings {
     },
     open: 1024,
     first: 0,
+    cuts: false,
 };
 
 /// The greatest settings, but for the least number of open connections. The first moment is 2^63 - 1.
@@ -44,6 +45,7 @@ const GREATEST: Settings = Settings {
     },
     open: 1,
     first: 9223372036854775807,
+    cuts: true,
 };
 
 /// The files of a server: what ends it, what it carries out first, and in which it tells of itself.

@@ -11,7 +11,7 @@ use crate::row::Wanted::{
 const GREATEST_WORDS: &[u8] = b"s4d|serve|127.0.0.1:4710|first.logins|--window|18446744073709551615\
     |--cells|16|--workers|8|--connections|4294967295|--idle|18446744073709551615|--hello|18446744073709551615|--open|1\
     |--first-moment|9223372036854775807|--reload|18446744073709551615|--until|a folder/end\
-    |--setup|a folder/begin|--status|a folder/told";
+    |--setup|a folder/begin|--status|a folder/told|--cut";
 
 /// Texts that are asked for.
 pub const TEXTS: &[Row] = &[

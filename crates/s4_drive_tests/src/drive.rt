@@ -298,3 +298,38 @@ fn sweeps_of_a_run_free_what_is_expired(rt: HostRuntime) -> Result<(), Fail> {
     }
     Ok(())
 }
+
+/// What is asked of a drive with a window of 10 ticks, and how many records a cut at the horizon
+/// takes behind it.
+const CUT: [(Row, u64); 6] = [
+    (Row(5, Asked::Create, Told::Made, 0, 0), 0),
+    (Row(20, Asked::Write(b"a"), Told::Done, 10, 64), 1),
+    (Row(21, Asked::Write(b"bc"), Told::Done, 11, 129), 0),
+    (Row(40, Asked::Write(b"d"), Told::Done, 30, 66), 2),
+    (Row(41, Asked::Read(2, None), Told::Data(b"dc"), 31, 66), 0),
+    (Row(60, Asked::Read(2, None), Told::Data(b"dc"), 50, 0), 2),
+];
+
+/// That a cut at the horizon takes so many records, once it was prepared.
+fn check_cut<S: Store<Version>>(
+    rt: &impl Abort,
+    drive: &mut Drive<S>,
+    wanted: u64,
+) -> Result<(), Fail> {
+    let horizon = drive.horizon();
+    let base = drive.prepare_cut(horizon)?;
+    let went = drive.cut_to(horizon, base);
+    assert_eq!(rt; went, wanted, "at {}", horizon.tick());
+    Ok(())
+}
+
+#[test]
+fn a_cut_that_was_prepared_is_made(rt: HostRuntime) -> Result<(), Fail> {
+    let alloc = rt.alloc();
+    let mut drive = Drive::new(alloc, PlainStore::new(alloc), 10);
+    for (row, went) in CUT {
+        check_row(&rt, alloc, &mut drive, &row)?;
+        check_cut(&rt, &mut drive, went)?;
+    }
+    Ok(())
+}

@@ -1,6 +1,7 @@
 -- Where calls and records match, the records are at home, and each call's record stands in the merged history.
 use Rattle.std.proofs.Common.{◌≡◌, ◌≢◌, ℕ, ◌+◌, ◌<◌, ◌≤◌, ◌%◌, zero, suc, Bool, true, false, cond, List, [], ◌∷◌, length, take, get_or, Some, eqb, sym, refl, ap, ◌∙◌, subst, ⊎_elim, arith, eq-eqb, mod-lt}
 use Rattle.std.specs.Prelude.{slice_get, slice_index}
+use Rattle.std.proofs.lemmas.Bool.{leb-true}
 use Rattle.std.proofs.lemmas.Bool.Decides.{eqb_tells}
 use Rattle.s4_types.specs.declared.record.Record.{Record}
 use Rattle.s4_types.specs.Audit.{is_wide_record}
@@ -11,9 +12,9 @@ use Rattle.s4_types.specs.Log.{Log}
 use Rattle.s4_calls.specs.Calls.{Call, CallList}
 use Rattle.s4_merge.specs.Merged.{IsMergeOf, AreHome, no_state}
 use Rattle.s4_merge_laws.specs.Cells.{is_in_cell, records_in}
-use Rattle.s4_merge.specs.Claims.{home, record_of, Suits, AllSuit, times, Matches, all_calls, AllMatch}
-use Rattle.s4_merge.specs.Order.{places, position}
-use Rattle.s4_merge.proofs.Claiming.{names_other, names_elsewhere}
+use Rattle.s4_merge.specs.Claims.{home, record_of, gone, Suits, AllSuit, times, Matches, all_calls, AllMatch}
+use Rattle.s4_merge.specs.Order.{places, position, is_left, place_left}
+use Rattle.s4_merge.proofs.Claiming.{names_other, names_elsewhere, left_by}
 use Rattle.s4_merge.proofs.Ordering.{bool_case}
 
 same_some : (x y : Record) → Some x ≡ Some y → x ≡ y
@@ -30,25 +31,27 @@ abbrev Named : ℕ → List Record → ℕ → ℕ → Type 0
 Named n h k p = (c : Call) × (home n (record_of c) ≡ k) × (slice_get h p ≡ Some (record_of c))
 
 -- where a place is named, a call has the record there
-named : (n : ℕ) (h : List Record) (k p : ℕ) (cs : List Call) → AllSuit n h k cs → 0 < times n k p cs → Named n h k p
-named n h k p [] all some = absurd (omega arith)
-named n h k p (c ∷ cs) all some = ⊎_elim
+named : (n : ℕ) (cell : Log) (k p : ℕ) (cs : List Call) → AllSuit n cell k cs → 0 < times n k (gone cell + p) cs → Named n cell.history k p
+named n cell k p [] all some = absurd (omega arith)
+named n cell k p (c ∷ cs) all some =
+    let q : ℕ = gone cell + p in ⊎_elim
     (λ (x : (eqb (home n (record_of c)) k ≡ true) × (home n (record_of c) ≡ k)). ⊎_elim
-    (λ (y : (eqb c.receipt.place p ≡ true) × (c.receipt.place ≡ p)). (c, x.1, ap (λ (q : ℕ). slice_get h q) (sym y.1) ∙ (all.0 x.1).1))
-    (λ (y : (eqb c.receipt.place p ≡ false) × (c.receipt.place ≢ p)). let none = names_other n k p c y.1 in named n h k p cs all.1 (omega arith))
-    (eqb_tells c.receipt.place p))
-    (λ (x : (eqb (home n (record_of c)) k ≡ false) × (home n (record_of c) ≢ k)). let none = names_elsewhere n k p c x.1 in named n h k p cs all.1 (omega arith))
+    (λ (y : (eqb c.receipt.place q ≡ true) × (c.receipt.place ≡ q)).
+    (c, x.1, ap (λ (m : ℕ). slice_get cell.history m) (sym (left_by (gone cell) c.receipt.place p y.1)) ∙ (all.0 x.1).1 (omega (arith, y.1))))
+    (λ (y : (eqb c.receipt.place q ≡ false) × (c.receipt.place ≢ q)). let none = names_other n k q c y.1 in named n cell k p cs all.1 (omega arith))
+    (eqb_tells c.receipt.place q))
+    (λ (x : (eqb (home n (record_of c)) k ≡ false) × (home n (record_of c) ≢ k)). let none = names_elsewhere n k q c x.1 in named n cell k p cs all.1 (omega arith))
     (eqb_tells (home n (record_of c)) k)
 
 home_narrow : (m k : ℕ) (w : Bool) → w ≡ false → cond w 0 m ≡ k → m ≡ k
 home_narrow m k true e at = cc
 home_narrow m k false e at = at
 
-record_concerns : (n : ℕ) (h : List Record) (k p : ℕ) (cs : List Call) (r : Record) → Matches n h k cs → slice_get h p ≡ Some r → is_in_cell n k r ≡ true
-record_concerns n h k p cs r m e = bool_case (is_in_cell n k r ≡ true) (is_wide_record r)
+record_concerns : (n : ℕ) (cell : Log) (k p : ℕ) (cs : List Call) (r : Record) → Matches n cell k cs → slice_get cell.history p ≡ Some r → is_in_cell n k r ≡ true
+record_concerns n cell k p cs r m e = bool_case (is_in_cell n k r ≡ true) (is_wide_record r)
     (λ w. rw w refl)
     (λ w. let once = m.once p r e (rw w refl) in
-    let x = named n h k p cs m.suit (omega arith) in
+    let x = named n cell k p cs m.suit (omega arith) in
     let same : r ≡ record_of x.0 = same_some r (record_of x.0) (sym e ∙ x.2) in
     let at : home n r ≡ k = ap (λ (s : Record). home n s) same ∙ x.1 in
     let here : range_of r.caller r.request % n ≡ k = home_narrow (range_of r.caller r.request % n) k (is_wide_record r) w at in
@@ -59,12 +62,12 @@ only_all n k [] f = refl
 only_all n k (x ∷ h) f = ap (λ b. cond b (x ∷ records_in n k h) (records_in n k h)) (f 0 x refl) ∙ ap (λ l. x ∷ l) (only_all n k h (λ p r e. f (suc p) r e))
 
 pub are_home : (cells : List Log) (ps : List CallList) → AllMatch cells ps → AreHome cells
-are_home cells ps all k d lt = only_all (length cells) k (get_or cells k d).history (λ p r e. record_concerns (length cells) (get_or cells k d).history k p (all_calls ps) r (all k d lt) e)
+are_home cells ps all k d lt = only_all (length cells) k (get_or cells k d).history (λ p r e. record_concerns (length cells) (get_or cells k d) k p (all_calls ps) r (all k d lt) e)
 
-suit_at : (n : ℕ) (h : List Record) (k i : ℕ) (cs : List Call) (c : Call) → AllSuit n h k cs → slice_get cs i ≡ Some c → Suits n h k c
-suit_at n h k i [] c all e = cc
-suit_at n h k zero (x ∷ cs) c all e = let same : x ≡ c = cc in subst (λ y. Suits n h k y) same all.0
-suit_at n h k (suc i) (x ∷ cs) c all e = suit_at n h k i cs c all.1 e
+suit_at : (n : ℕ) (cell : Log) (k i : ℕ) (cs : List Call) (c : Call) → AllSuit n cell k cs → slice_get cs i ≡ Some c → Suits n cell k c
+suit_at n cell k i [] c all e = cc
+suit_at n cell k zero (x ∷ cs) c all e = let same : x ≡ c = cc in subst (λ y. Suits n cell k y) same all.0
+suit_at n cell k (suc i) (x ∷ cs) c all e = suit_at n cell k i cs c all.1 e
 
 -- where the p-th record of a cell stands
 abbrev pub StandsAt : ℕ → ℕ → ℕ → List Record → ℕ → Record → Type 0
@@ -89,20 +92,23 @@ pub home_in : (n : ℕ) (c : Call) → 0 < n → home n (record_of c) < n
 home_in n c some = home_lt n (range_of c.asked.caller c.asked.request % n) (is_wide_record (record_of c)) some (mod-lt (range_of c.asked.caller c.asked.request) some)
 
 -- the record of a call in its cell
-pub record_in : (cells : List Log) (ps : List CallList) (i : ℕ) (c : Call) (d : Log) → AllMatch cells ps → 0 < length cells → slice_get (all_calls ps) i ≡ Some c → slice_get (get_or cells (home (length cells) (record_of c)) d).history c.receipt.place ≡ Some (record_of c)
-record_in cells ps i c d all some e =
+pub record_in : (cells : List Log) (ps : List CallList) (i : ℕ) (c : Call) → AllMatch cells ps → 0 < length cells → slice_get (all_calls ps) i ≡ Some c → is_left cells c ≡ true
+    → slice_get (get_or cells (home (length cells) (record_of c)) no_state).history (place_left cells c) ≡ Some (record_of c)
+record_in cells ps i c all some e left =
     let n = length cells in
     let k = home n (record_of c) in
-    (suit_at n (get_or cells k d).history k i (all_calls ps) c (all k d (home_in n c some)).suit e refl).1
+    let cell = get_or cells k no_state in
+    (suit_at n cell k i (all_calls ps) c (all k no_state (home_in n c some)).suit e refl).1 (leb-true (gone cell) c.receipt.place left)
 
 -- and in the merged history
-pub call_stands : (cells : List Log) (ps : List CallList) (all : List Record) (i : ℕ) (c : Call) → IsMergeOf (length cells) all cells → AllMatch cells ps → 0 < length cells → slice_get (all_calls ps) i ≡ Some c
-    → slice_get all (position (length cells) all c) ≡ Some (record_of c)
-call_stands cells ps all i c merge match some e =
+pub call_stands : (cells : List Log) (ps : List CallList) (all : List Record) (i : ℕ) (c : Call) → IsMergeOf (length cells) all cells → AllMatch cells ps → 0 < length cells → slice_get (all_calls ps) i ≡ Some c → is_left cells c ≡ true
+    → slice_get all (position cells all c) ≡ Some (record_of c)
+call_stands cells ps all i c merge match some e left =
     let n = length cells in
     let k = home n (record_of c) in
-    let r = record_in cells ps i c no_state match some e in
-    let s = stands n k 0 all c.receipt.place (record_of c) (ap (λ l. slice_get l c.receipt.place) (merge k no_state (home_in n c some)) ∙ r) in
+    let p = place_left cells c in
+    let r = record_in cells ps i c match some e left in
+    let s = stands n k 0 all p (record_of c) (ap (λ l. slice_get l p) (merge k no_state (home_in n c some)) ∙ r) in
     ap (λ (q : ℕ). slice_get all q) (s.1 ∙ zero_more s.0) ∙ s.2
 
 -- the one with the smaller moment stands first

@@ -10,8 +10,8 @@ use Rattle.s4_calls.specs.Calls.{Call, CallList}
 use Rattle.s4_merge.specs.Merged.{wide_records, IsMergeOf, no_state}
 use Rattle.s4_merge_laws.specs.Cells.{is_in_cell, records_in}
 use Rattle.s4_merge.specs.Claims.{home, record_of, all_calls, AllMatch}
-use Rattle.s4_merge.specs.Order.{position, touches, AllInOrder}
-use Rattle.s4_merge.proofs.Ordering.{bool_case}
+use Rattle.s4_merge.specs.Order.{is_left, place_left, position, AllInOrder}
+use Rattle.s4_merge.proofs.Ordering.{bool_case, touched}
 use Rattle.s4_merge.proofs.Closing.{stands, home_in, record_in, zero_more}
 
 -- how many records of a cell stand before q
@@ -86,17 +86,18 @@ wide_unique (x ∷ h) (suc a) zero r s e f w v same = let is : x ≡ s = cc in a
 wide_unique (x ∷ h) (suc a) (suc b) r s e f w v same = ap suc (wide_unique h a b r s e f w v (cancel x (take a h) (take b h) (is_wide_record x) same))
 
 -- where a call stands in a merge, and how many records of its cell stand before
-pub record Stood (n : ℕ) (xs : List Record) (c : Call) : Type 0 where
-  pub is : slice_get xs (position n xs c) ≡ Some (record_of c)
-  pub place : rank n (home n (record_of c)) xs (position n xs c) ≡ c.receipt.place
+pub record Stood (cells : List Log) (xs : List Record) (c : Call) : Type 0 where
+  pub is : slice_get xs (position cells xs c) ≡ Some (record_of c)
+  pub place : rank (length cells) (home (length cells) (record_of c)) xs (position cells xs c) ≡ place_left cells c
 
-stood : (cells : List Log) (ps : List CallList) (xs : List Record) (i : ℕ) (c : Call) → IsMergeOf (length cells) xs cells → AllMatch cells ps → 0 < length cells → slice_get (all_calls ps) i ≡ Some c → Stood (length cells) xs c
-stood cells ps xs i c merge match some e =
+stood : (cells : List Log) (ps : List CallList) (xs : List Record) (i : ℕ) (c : Call) → IsMergeOf (length cells) xs cells → AllMatch cells ps → 0 < length cells → slice_get (all_calls ps) i ≡ Some c → is_left cells c ≡ true → Stood cells xs c
+stood cells ps xs i c merge match some e left =
     let n = length cells in
     let k = home n (record_of c) in
-    let r = record_in cells ps i c no_state match some e in
-    let s = stands n k 0 xs c.receipt.place (record_of c) (ap (λ l. slice_get l c.receipt.place) (merge k no_state (home_in n c some)) ∙ r) in
-    let at : position n xs c ≡ s.0 = s.1 ∙ zero_more s.0 in
+    let m = place_left cells c in
+    let r = record_in cells ps i c match some e left in
+    let s = stands n k 0 xs m (record_of c) (ap (λ l. slice_get l m) (merge k no_state (home_in n c some)) ∙ r) in
+    let at : position cells xs c ≡ s.0 = s.1 ∙ zero_more s.0 in
     record {
       is = ap (λ (q : ℕ). slice_get xs q) at ∙ s.2;
       place = ap (λ (q : ℕ). rank n k xs q) at ∙ s.3;
@@ -108,19 +109,19 @@ home_touched m k false e t = eqb-true m k t
 
 -- as many records of a cell stand before a call of it, whatever the merge
 rank_same : (cells : List Log) (xs ys : List Record) (c : Call) (k : ℕ) → IsMergeOf (length cells) xs cells → IsMergeOf (length cells) ys cells → 0 < length cells → k < length cells
-    → Stood (length cells) xs c → Stood (length cells) ys c → touches (length cells) k c ≡ true → rank (length cells) k xs (position (length cells) xs c) ≡ rank (length cells) k ys (position (length cells) ys c)
+    → Stood cells xs c → Stood cells ys c → is_in_cell (length cells) k (record_of c) ≡ true → rank (length cells) k xs (position cells xs c) ≡ rank (length cells) k ys (position cells ys c)
 rank_same cells xs ys c k mx my some lt sx sy t =
     let n = length cells in
-    let p = position n xs c in
-    let q = position n ys c in
+    let p = position cells xs c in
+    let q = position cells ys c in
     let o = home n (record_of c) in
     let h = (get_or cells k no_state).history in
     let g = (get_or cells o no_state).history in
     bool_case (rank n k xs p ≡ rank n k ys q) (is_wide_record (record_of c))
     (λ w. let a = rank_get n k xs p (record_of c) sx.is t in
     let b = rank_get n k ys q (record_of c) sy.is t in
-    let cx : wide_records (take (rank n k xs p) h) ≡ wide_records (take c.receipt.place g) = clock n k xs h p (mx k no_state lt) ∙ (sym (clock n o xs g p (mx o no_state (home_in n c some))) ∙ ap (λ (m : ℕ). wide_records (take m g)) sx.place) in
-    let cy : wide_records (take (rank n k ys q) h) ≡ wide_records (take c.receipt.place g) = clock n k ys h q (my k no_state lt) ∙ (sym (clock n o ys g q (my o no_state (home_in n c some))) ∙ ap (λ (m : ℕ). wide_records (take m g)) sy.place) in
+    let cx : wide_records (take (rank n k xs p) h) ≡ wide_records (take (place_left cells c) g) = clock n k xs h p (mx k no_state lt) ∙ (sym (clock n o xs g p (mx o no_state (home_in n c some))) ∙ ap (λ (m : ℕ). wide_records (take m g)) sx.place) in
+    let cy : wide_records (take (rank n k ys q) h) ≡ wide_records (take (place_left cells c) g) = clock n k ys h q (my k no_state lt) ∙ (sym (clock n o ys g q (my o no_state (home_in n c some))) ∙ ap (λ (m : ℕ). wide_records (take m g)) sy.place) in
     wide_unique h (rank n k xs p) (rank n k ys q) (record_of c) (record_of c) (ap (λ l. slice_get l (rank n k xs p)) (sym (mx k no_state lt)) ∙ a) (ap (λ l. slice_get l (rank n k ys q)) (sym (my k no_state lt)) ∙ b) w w (ap length (cx ∙ sym cy)))
     (λ w. let is : o ≡ k = home_touched (range_of c.asked.caller c.asked.request % n) k (is_wide_record (record_of c)) w t in
     ap (λ (m : ℕ). rank n m xs p) (sym is) ∙ (sx.place ∙ (sym sy.place ∙ ap (λ (m : ℕ). rank n m ys q) is)))
@@ -147,16 +148,18 @@ in_all (y ∷ ps) zero x i c e f = let same : x ≡ y = cc in in_left y.calls (a
 in_all (y ∷ ps) (suc p) x i c e f = in_right y.calls (all_calls ps) c (in_all ps p x i c e f)
 
 -- what stands in its order in one merge does so in each
-pub order_moves : (cells : List Log) (ps : List CallList) (xs ys : List Record) → 0 < length cells → IsMergeOf (length cells) xs cells → IsMergeOf (length cells) ys cells → AllMatch cells ps → AllInOrder (length cells) ys ps → AllInOrder (length cells) xs ps
+pub order_moves : (cells : List Log) (ps : List CallList) (xs ys : List Record) → 0 < length cells → IsMergeOf (length cells) xs cells → IsMergeOf (length cells) ys cells → AllMatch cells ps → AllInOrder cells ys ps → AllInOrder cells xs ps
 order_moves cells ps xs ys some mx my match order p x at k i j c d lt less e f t u =
     let n = length cells in
     let ic = in_all ps p x i c at e in
     let id = in_all ps p x j d at f in
-    let cx = stood cells ps xs ic.0 c mx match some ic.1 in
-    let cy = stood cells ps ys ic.0 c my match some ic.1 in
-    let dx = stood cells ps xs id.0 d mx match some id.1 in
-    let dy = stood cells ps ys id.0 d my match some id.1 in
-    let first = rank_less n k ys (position n ys c) (position n ys d) (record_of c) cy.is t (order p x at k i j c d lt less e f t u) in
-    let rc = rank_same cells xs ys c k mx my some lt cx cy t in
-    let rd = rank_same cells xs ys d k mx my some lt dx dy u in
-    turn (position n xs c) (position n xs d) (rank n k xs (position n xs c)) (rank n k xs (position n xs d)) (omega (arith, first, rc, rd)) (λ l. rank_less n k xs (position n xs d) (position n xs c) (record_of d) dx.is u l) (λ s. ap (λ (q : ℕ). rank n k xs q) s)
+    let tc = touched cells k c t in
+    let td = touched cells k d u in
+    let cx = stood cells ps xs ic.0 c mx match some ic.1 tc.1 in
+    let cy = stood cells ps ys ic.0 c my match some ic.1 tc.1 in
+    let dx = stood cells ps xs id.0 d mx match some id.1 td.1 in
+    let dy = stood cells ps ys id.0 d my match some id.1 td.1 in
+    let first = rank_less n k ys (position cells ys c) (position cells ys d) (record_of c) cy.is tc.0 (order p x at k i j c d lt less e f t u) in
+    let rc = rank_same cells xs ys c k mx my some lt cx cy tc.0 in
+    let rd = rank_same cells xs ys d k mx my some lt dx dy td.0 in
+    turn (position cells xs c) (position cells xs d) (rank n k xs (position cells xs c)) (rank n k xs (position cells xs d)) (omega (arith, first, rc, rd)) (λ l. rank_less n k xs (position cells xs d) (position cells xs c) (record_of d) dx.is td.0 l) (λ s. ap (λ (q : ℕ). rank n k xs q) s)

@@ -17,9 +17,11 @@ use std::alloc::Global;
 pub enum Verdict {
     /// All is as it should be: this is the one history of all cells.
     Whole(Vec<Record>),
-    /// A cell was opened with another window, or the cells don't have the same wide records.
+    /// A cell was opened with another window, or the cells don't start alike or don't have the
+    /// same wide records.
     Torn,
-    /// Calls and records don't match one to one, or the calls of a pass don't stand in their order.
+    /// Calls and the records that are left don't match one to one, or the calls of a pass don't
+    /// stand in their order.
     Stray,
     /// A growth was refused.
     NoMemory,
@@ -42,7 +44,7 @@ pub fn judge(alloc: Global, window: u64, cells: &[Cell], passes: &[Pass]) -> Ver
     let Ok(all) = merged_history(alloc, window, cells) else {
         return Verdict::NoMemory;
     };
-    let Ok(ordered) = are_in_order(alloc, cells.len(), all.as_slice(), passes) else {
+    let Ok(ordered) = are_in_order(alloc, cells, all.as_slice(), passes) else {
         return Verdict::NoMemory;
     };
     if !ordered {

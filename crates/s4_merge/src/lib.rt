@@ -2,6 +2,7 @@
 //! record each call has, how the histories are merged, and that the calls of a pass stand in their order.
 #![tactic(auto)]
 
+mod home;
 mod judging;
 mod matching;
 mod merge;
@@ -9,3 +10,4 @@ mod order;
 mod torn;
 
 pub use judging::{Verdict, judge};
+pub use torn::none_went;

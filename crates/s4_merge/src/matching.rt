@@ -2,24 +2,13 @@
 
 ghost use Rattle.std.specs.Prelude.{◌≡◌, ◌<◌, ◌++◌, ◌∷◌, [], List, length, IsTrue, ◌↔◌, IfOk, MatchBool, Some, slice_get};
 ghost use Rattle.s4_calls.specs.Calls.{Call, call_of};
-ghost use Rattle.s4_merge.specs.Claims.{home_of as number_of_home, Matches, Claimed, record_of, all_calls, AllMatch, AllClaimed, OneUnclaimed, NoneClaimed};
+ghost use Rattle.s4_merge.specs.Claims.{Matches, Claimed, record_of, all_calls, AllMatch, AllClaimed, OneUnclaimed, NoneClaimed};
 
+use crate::home::{home_of, left_at};
 use s4_calls::{Asked, Pass, Receipt};
 use s4_cells::Cell;
-use s4_types::{Caller, NoMemory, Record, Request};
+use s4_types::{NoMemory, Record};
 use std::alloc::Global;
-
-/// The cell of a request among n: that of its range, and the first for a wide one.
-fn home_of(n: usize, caller: &Caller, request: &Request) -> usize
-    requires { 0 < n }
-    ensures { result ≡ number_of_home n caller.now request.now }
-{
-    if request.is_wide(caller) {
-        0
-    } else {
-        request.range(caller).number() as usize % n
-    }
-}
 
 /// Whether the record is that of the call.
 fn is_record_of(found: &Record, asked: &Asked, receipt: &Receipt) -> bool
@@ -41,19 +30,21 @@ fn is_at(history: &[Record], place: usize, asked: &Asked, receipt: &Receipt) -> 
     }
 }
 
-/// Claims the record of one more call. False if that shows that calls and records don't match.
+/// Claims the record of one more call, unless it went. False if that shows that calls and records
+/// don't match.
 fn claim(
-    history: &[Record],
+    held: &Cell,
     n: usize,
     cell: usize,
     asked: &Asked,
     receipt: &Receipt,
     claimed: &mut [bool],
 ) -> bool
-    requires { (0 < n) × (length claimed.old ≡ length history.now) }
-    ensures { (before : List Call) → Claimed n history.now cell before claimed.old → MatchBool result
-        (Claimed n history.now cell (before ++ call_of asked.now receipt.now ∷ []) claimed.new)
-        ((rest : List Call) → ¬ Matches n history.now cell (before ++ call_of asked.now receipt.now ∷ rest)) }
+    requires { (0 < n) × (length claimed.old ≡ length held.now.history) }
+    ensures { (before : List Call) → Claimed n held.now cell before claimed.old → MatchBool result
+        (Claimed n held.now cell (before ++ call_of asked.now receipt.now ∷ []) claimed.new)
+        ((rest : List Call)
+        → ¬ Matches n held.now cell (before ++ call_of asked.now receipt.now ∷ rest)) }
 {
     if home_of(n, &asked.caller, &asked.request) != cell {
         return true;
@@ -61,8 +52,11 @@ fn claim(
     if receipt.cell != cell {
         return false;
     }
-    let place = receipt.place as usize;
-    if !is_at(history, place, asked, receipt) {
+    let Some(left) = left_at(held, receipt) else {
+        return true;
+    };
+    let place = left as usize;
+    if !is_at(held.history(), place, asked, receipt) {
         return false;
     }
     if claimed[place] {
@@ -73,15 +67,15 @@ fn claim(
 }
 
 /// Claims the records of one more pass.
-fn claim_pass(history: &[Record], n: usize, cell: usize, pass: &Pass, claimed: &mut [bool]) -> bool
-    requires { (0 < n) × (length claimed.old ≡ length history.now) }
-    ensures { (before : List Call) → Claimed n history.now cell before claimed.old → MatchBool result
-        (Claimed n history.now cell (before ++ pass.now.calls) claimed.new)
-        ((rest : List Call) → ¬ Matches n history.now cell (before ++ (pass.now.calls ++ rest))) }
+fn claim_pass(held: &Cell, n: usize, cell: usize, pass: &Pass, claimed: &mut [bool]) -> bool
+    requires { (0 < n) × (length claimed.old ≡ length held.now.history) }
+    ensures { (before : List Call) → Claimed n held.now cell before claimed.old → MatchBool result
+        (Claimed n held.now cell (before ++ pass.now.calls) claimed.new)
+        ((rest : List Call) → ¬ Matches n held.now cell (before ++ (pass.now.calls ++ rest))) }
 {
     let (asked, receipts) = pass.sides();
     for i in 0..asked.len() {
-        if !claim(history, n, cell, &asked[i], &receipts[i], claimed) {
+        if !claim(held, n, cell, &asked[i], &receipts[i], claimed) {
             return false;
         }
     }
@@ -102,43 +96,44 @@ fn are_claimed(history: &[Record], cell: usize, claimed: &[bool]) -> bool
     true
 }
 
-/// Whether the records of a cell and the calls of its ranges match one to one.
-fn matches(history: &[Record], n: usize, cell: usize, passes: &[Pass], claimed: &mut [bool]) -> bool
+/// Whether the records that are left of a cell and the calls of its ranges match one to one.
+fn matches(held: &Cell, n: usize, cell: usize, passes: &[Pass], claimed: &mut [bool]) -> bool
     requires cells { 0 < n }
-    requires count { length claimed.old ≡ length history.now }
+    requires count { length claimed.old ≡ length held.now.history }
     requires none { NoneClaimed claimed.old }
-    ensures { MatchBool result (Matches n history.now cell (all_calls passes.now)) (¬ Matches n history.now cell (all_calls passes.now)) }
+    ensures { MatchBool result (Matches n held.now cell (all_calls passes.now))
+        (¬ Matches n held.now cell (all_calls passes.now)) }
 {
     for p in 0..passes.len() {
-        if !claim_pass(history, n, cell, &passes[p], claimed) {
+        if !claim_pass(held, n, cell, &passes[p], claimed) {
             return false;
         }
     }
-    are_claimed(history, cell, claimed)
+    are_claimed(held.history(), cell, claimed)
 }
 
 /// Whether the records of one cell match.
 fn cell_matches(
     alloc: Global,
-    history: &[Record],
+    held: &Cell,
     n: usize,
     cell: usize,
     passes: &[Pass],
 ) -> Result<bool, NoMemory>
     requires cells { 0 < n }
-    ensures { IfOk result (λ b. MatchBool b (Matches n history.now cell (all_calls passes.now))
-        (¬ Matches n history.now cell (all_calls passes.now))) }
+    ensures { IfOk result (λ b. MatchBool b (Matches n held.now cell (all_calls passes.now))
+        (¬ Matches n held.now cell (all_calls passes.now))) }
 {
-    let mut claimed = Vec::from_elem(alloc, false, history.len())?;
-    Ok(matches(history, n, cell, passes, claimed.as_mut_slice()))
+    let mut claimed = Vec::from_elem(alloc, false, held.history().len())?;
+    Ok(matches(held, n, cell, passes, claimed.as_mut_slice()))
 }
 
-/// Whether calls and records match one to one.
+/// Whether calls and the records that are left match one to one.
 pub fn all_match(alloc: Global, cells: &[Cell], passes: &[Pass]) -> Result<bool, NoMemory>
     ensures { IfOk result (λ b. MatchBool b (AllMatch cells.now passes.now) (¬ AllMatch cells.now passes.now)) }
 {
     for k in 0..cells.len() {
-        if !cell_matches(alloc, cells[k].history(), cells.len(), k, passes)? {
+        if !cell_matches(alloc, &cells[k], cells.len(), k, passes)? {
             return Ok(false);
         }
     }

@@ -1,7 +1,8 @@
 //! Whether cells belong together.
 
 ghost use Rattle.std.specs.Prelude.{◌≡◌, ◌<◌, ◌≤◌, [], length, drop, MatchBool, MatchOption};
-ghost use Rattle.s4_merge.specs.Merged.{wide_records, HaveSameWides, AreWhole, HaveWindow, IsNextWide, IsNotNext, IsPassed};
+ghost use Rattle.s4_merge.specs.Merged.{wide_records, HaveSameWides, AreWhole, HaveWindow, StartAlike, AllStartAlike, IsNextWide, IsNotNext, IsPassed};
+ghost use Rattle.s4_merge.specs.Order.{NoneWent};
 
 use s4_cells::Cell;
 use s4_types::Record;
@@ -75,11 +76,45 @@ fn have_window(window: u64, cells: &[Cell]) -> bool
     true
 }
 
-/// Whether the cells belong together: they were opened with this window, and have the same wide
-/// records.
+/// Whether two cells were cut at one moment, and what went left one window and one floor.
+fn start_alike(a: &Cell, b: &Cell) -> bool
+    ensures { MatchBool result (StartAlike a.now b.now) (¬ StartAlike a.now b.now) }
+{
+    a.cut_at() == b.cut_at()
+        && a.base_window() == b.base_window()
+        && a.base_floor() == b.base_floor()
+}
+
+/// Whether all cells start as the first.
+fn all_start_alike(cells: &[Cell]) -> bool
+    requires { 0 < length cells.now }
+    ensures { MatchBool result (AllStartAlike cells.now) (¬ AllStartAlike cells.now) }
+{
+    for k in 0..cells.len() {
+        if !start_alike(&cells[k], &cells[0]) {
+            return false;
+        }
+    }
+    true
+}
+
+/// Whether the cells belong together: they were opened with this window, start alike, and have the
+/// same wide records.
 pub fn are_whole(window: u64, cells: &[Cell]) -> bool
     requires { 0 < length cells.now }
     ensures { MatchBool result (AreWhole window cells.now) (¬ AreWhole window cells.now) }
 {
-    have_window(window, cells) && have_same_wides(cells)
+    have_window(window, cells) && all_start_alike(cells) && have_same_wides(cells)
+}
+
+/// Whether no record of any cell went.
+pub fn none_went(cells: &[Cell]) -> bool
+    ensures { MatchBool result (NoneWent cells.now) (¬ NoneWent cells.now) }
+{
+    for k in 0..cells.len() {
+        if cells[k].gone() != 0 {
+            return false;
+        }
+    }
+    true
 }

@@ -1,5 +1,5 @@
 -- What one call leaves.
-use Rattle.std.specs.Prelude.{◌≡◌, ℕ, ◌≤◌, List, [], ◌∷◌, ◌++◌, length, slice_index_or, MatchBool}
+use Rattle.std.specs.Prelude.{◌≡◌, ℕ, ◌+◌, ◌≤◌, List, [], ◌∷◌, ◌++◌, length, slice_index_or, MatchBool}
 use Rattle.s4_types.specs.declared.principal.Caller.{Caller}
 use Rattle.s4_types.specs.declared.request.Request.{Request}
 use Rattle.s4_types.specs.declared.reply.Reply.{Reply}
@@ -10,6 +10,7 @@ use Rattle.s4_cells.specs.Many.{AllAdd}
 use Rattle.s4_calls.specs.declared.call.Asked.{Asked}
 use Rattle.s4_calls.specs.declared.call.Receipt.{Receipt}
 use Rattle.s4_calls.specs.Calls.{Call, CallList, call_of, last_call}
+use Rattle.s4_merge.specs.Claims.{gone}
 
 -- what a caller asked, by its clock
 abbrev pub asked : Caller → ℕ → Request → Asked
@@ -43,18 +44,20 @@ record_of_call call = record {
   reply = call.receipt.reply;
 }
 
--- the history and the pass have one more, and the receipt names the record by the cell's number and by its place
-pub record Adds (cell : ℕ) (h k : List Record) (old new : CallList) : Type 0 where
+-- the cell and the pass have one more, and the receipt names the record by the cell's number and by its place, which counts from the first
+-- record that the cell ever had
+pub record Adds (cell : ℕ) (before after : Log) (old new : CallList) : Type 0 where
   pub call : Call
   pub calls : new.calls ≡ old.calls ++ call ∷ []
-  pub history : k ≡ h ++ record_of_call call ∷ []
-  pub place : call.receipt.place ≡ length h
+  pub history : after.history ≡ before.history ++ record_of_call call ∷ []
+  pub base : after.base ≡ before.base
+  pub place : call.receipt.place ≡ gone before + length before.history
   pub cell_is : call.receipt.cell ≡ cell
 
 -- every cell and the pass have one more: the record stands in each cell, and the receipt names the first cell's
-pub record AddsToAll (cells_before cells_after : List Log) (old new : CallList) : Type 0 where
+pub record AddsToAll (before after : List Log) (old new : CallList) : Type 0 where
   pub call : Call
   pub calls : new.calls ≡ old.calls ++ call ∷ []
-  pub records : AllAdd (record_of_call call) cells_before cells_after
-  pub place : (none : Log) → call.receipt.place ≡ length (slice_index_or cells_before 0 none).history
+  pub records : AllAdd (record_of_call call) before after
+  pub place : (none : Log) → call.receipt.place ≡ gone (slice_index_or before 0 none) + length (slice_index_or before 0 none).history
   pub cell_is : call.receipt.cell ≡ 0

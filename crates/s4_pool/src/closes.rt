@@ -7,7 +7,7 @@ ghost use Rattle.s4_types.specs.Strike.{records_of};
 ghost use Rattle.s4_drive.specs.Step.{replies_without_strangers};
 ghost use Rattle.s4_cells.specs.Played.{requests_in};
 ghost use Rattle.s4_merge.specs.Merged.{AreWhole};
-ghost use Rattle.s4_merge.specs.Order.{IsClosing};
+ghost use Rattle.s4_merge.specs.Order.{IsClosing, NoneWent};
 ghost use Rattle.s4_pool.specs.Numbers.{HasAll};
 ghost use Rattle.s4_pool.specs.Closings.{FaultFits};
 
@@ -20,16 +20,19 @@ use std::alloc::Global;
 use std::sync::RwLock;
 
 impl<G: Gate> Front<G> {
-    /// Closes the front: its cells, the passes, and one history of all cells, in which each record is
-    /// that of just one call. That history is the plain log of its own requests, so each principal other
-    /// than the administrator was replied what it would have been without its strangers
-    /// (docs/MODEL.md, "Isolation"). What can't be closed is handed back, with the reason.
+    /// Closes the front: its cells, the passes, and one history of what is left of all cells, in
+    /// which each record is that of just one call. A call whose record went with a cut is there
+    /// without it. Where no record went, the history is the plain log of its own requests, so each
+    /// principal other than the administrator was replied what it would have been without its
+    /// strangers (docs/MODEL.md, "Isolation"). What can't be closed is handed back, with the
+    /// reason.
     pub fn close(self, alloc: Global, passes: Vec<Pass>) -> Result<Closed, CloseFault<G>>
         ensures there { IfOk result (λ closed. HasAll self.passes passes.items) }
         ensures passes { IfOk result (λ closed. closed.passes.items ≡ passes.items) }
         ensures whole { IfOk result (λ closed. AreWhole self.window closed.cells.items) }
         ensures history { IfOk result (λ closed. IsClosing self.window closed.cells.items closed.passes.items closed.history.items) }
-        ensures isolated { IfOk result (λ closed. (who : ℕ) → (who == 0) ≡ false
+        ensures isolated { IfOk result (λ closed. NoneWent closed.cells.items
+            → (who : ℕ) → (who == 0) ≡ false
             → replies (records_of who closed.history.items)
             ≡ replies_without_strangers (opened self.window) who (requests_in closed.history.items)) }
         ensures back { IfErr result (λ fault. fault.passes.items ≡ passes.items) }
@@ -43,6 +46,7 @@ impl<G: Gate> Front<G> {
             });
         }
         let Front {
+            alloc: own,
             window,
             count,
             passes: opened,
@@ -68,6 +72,7 @@ impl<G: Gate> Front<G> {
             }),
             Verdict::NoMemory => {
                 let front = Front {
+                    alloc: own,
                     window,
                     count,
                     passes: opened,

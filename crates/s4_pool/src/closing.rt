@@ -16,7 +16,8 @@ pub struct Closed {
     pub cells: Vec<Cell>,
     /// The passes, as they were handed in.
     pub passes: Vec<Pass>,
-    /// The one history of all cells: between two wide records by moment, then by cell, then by place.
+    /// The one history of what is left of all cells: between two wide records by moment, then by
+    /// cell, then by place.
     pub history: Vec<Record>,
 }
 
@@ -25,9 +26,10 @@ pub struct Closed {
 pub enum Why {
     /// The passes aren't those that the front was opened with, each once.
     Missing,
-    /// A cell has another window than the front, or the cells don't have the same wide records.
+    /// A cell has another window than the front, or the cells weren't cut at one moment to one
+    /// window and floor, or don't have the same wide records.
     Torn,
-    /// The calls of the passes and the records of the cells don't match one to one.
+    /// The calls of the passes and the records that are left of the cells don't match one to one.
     Stray,
     /// A growth was refused.
     NoMemory,

@@ -8,6 +8,7 @@ mod front;
 mod gate;
 mod locks;
 mod serving;
+mod stretch;
 
 pub use closing::{CloseFault, Closed, Left, Why};
 pub use front::Front;
@@ -15,3 +16,4 @@ pub use gate::{Gate, OpenGate};
 pub use locks::MOST_CELLS;
 pub use s4_calls::{Asked, Pass, Receipt};
 pub use s4_cells::{Cell, Measure};
+pub use stretch::Stretch;

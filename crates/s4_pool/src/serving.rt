@@ -27,13 +27,13 @@ pub fn serve_one(
     ensures told { IfOk result (λ reply. is_no_memory reply ≡ false) }
     ensures limits { IfOk result (λ reply. IsTrue (is_within_limits caller.version reply)) }
     ensures pass { IfOk result (λ reply. Serves pass.old pass.new caller clock request.now reply) }
-    ensures cell { IfOk result (λ reply. Adds number cell.old.history cell.new.history pass.old pass.new) }
+    ensures cell { IfOk result (λ reply. Adds number cell.old cell.new pass.old pass.new) }
     ensures idle { OnErr result (IsIdle pass.old pass.new) }
     ensures still { OnErr result (cell.new ≡ cell.old) }
     ensures opened { cell.new.opened ≡ cell.old.opened }
 {
     let moment = clock.max(pass.last()).max(cell.last());
-    let place = cell.history().len() as u64;
+    let place = cell.next_place();
     pass.reserve()?;
     let asked = Asked {
         caller,
@@ -72,7 +72,7 @@ pub fn serve_all(
     ensures count { length cells.new ≡ length cells.old }
 {
     let moment = latest(cells, clock.max(pass.last()));
-    let place = cells[0].history().len() as u64;
+    let place = cells[0].next_place();
     pass.reserve()?;
     let asked = Asked {
         caller,

@@ -5,6 +5,8 @@
 
 mod arrivals;
 mod between;
+mod conversations;
+mod cuts;
 mod examples;
 mod made;
 mod scripts;
@@ -14,6 +16,7 @@ mod texts;
 
 use crate::texts::Shelf;
 use std::io::ErrorKind;
+use std::sync::Wait;
 use std::{fs, io};
 
 fn main(rt: HostRuntime) -> io::Result<()> {
@@ -23,12 +26,12 @@ fn main(rt: HostRuntime) -> io::Result<()> {
         rt: &rt,
         cases: cases.as_str(),
     };
-    let (count, wrong) = run_rows(&shelf, index.as_str())?;
+    let (count, wrong) = run_rows(&shelf, &rt, index.as_str())?;
     println!(rt; "{count} rows, {wrong} not as expected")
 }
 
 /// Runs the rows of an index, and tells how many there are, and how many weren't as expected.
-fn run_rows(shelf: &Shelf, index: &str) -> io::Result<(usize, usize)> {
+fn run_rows(shelf: &Shelf, waits: &impl Wait, index: &str) -> io::Result<(usize, usize)> {
     let mut count = 0usize;
     let mut wrong = 0usize;
     for line in index.lines() {
@@ -36,7 +39,7 @@ fn run_rows(shelf: &Shelf, index: &str) -> io::Result<(usize, usize)> {
             continue;
         }
         count = count.saturating_add(1);
-        if !is_expected(shelf, line)? {
+        if !is_expected(shelf, waits, line)? {
             wrong = wrong.saturating_add(1);
         }
     }
@@ -44,11 +47,11 @@ fn run_rows(shelf: &Shelf, index: &str) -> io::Result<(usize, usize)> {
 }
 
 /// Whether all is as expected in the row of a line of the index, which is told.
-fn is_expected(shelf: &Shelf, line: &str) -> io::Result<bool> {
+fn is_expected(shelf: &Shelf, waits: &impl Wait, line: &str) -> io::Result<bool> {
     let mut words = line.split(' ');
     let kind = words.next().unwrap_or("");
     let name = words.next().unwrap_or("");
-    let is_same = run_row(shelf, kind, name, words.next())?;
+    let is_same = run_row(shelf, waits, kind, name, words.next())?;
     let rt = shelf.rt;
     let word = if is_same {
         "as expected"
@@ -60,9 +63,15 @@ fn is_expected(shelf: &Shelf, line: &str) -> io::Result<bool> {
 }
 
 /// Runs a row, and tells what isn't as expected.
-fn run_row(shelf: &Shelf, kind: &str, name: &str, more: Option<&str>) -> io::Result<bool> {
+fn run_row(
+    shelf: &Shelf,
+    waits: &impl Wait,
+    kind: &str,
+    name: &str,
+    more: Option<&str>,
+) -> io::Result<bool> {
     match (kind, more) {
-        ("script", None) => scripts::is_expected(shelf, name),
+        ("script", None) => scripts::is_expected(shelf, waits, name),
         ("serials", None) => made::are_serials_expected(shelf, name),
         ("between", None) => between::is_expected(shelf, name),
         ("arrivals", None) => arrivals::is_expected(shelf, name, name),

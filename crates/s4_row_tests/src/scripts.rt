@@ -1,6 +1,7 @@
 //! Scripts: what the program writes for one, which runs it over the arena, and what a drive over
 //! the plain store tells that is given its steps all at once.
 
+use crate::cuts;
 use crate::telling::is_run_same;
 use crate::texts::{Shelf, Texts, utf8};
 use s4_drive::{Drive, never_down};
@@ -10,9 +11,27 @@ use s4_store::PlainStore;
 use s4_types::{Moment, Step, Version};
 use std::alloc::Global;
 use std::io;
+use std::io::ErrorKind;
+use std::sync::Wait;
 
-pub fn is_expected(shelf: &Shelf, name: &str) -> io::Result<bool> {
-    check(shelf.rt, name, &shelf.texts(name, "script")?)
+/// Whether all is as expected for a script, also where it is cut behind each line.
+pub fn is_expected(shelf: &Shelf, waits: &impl Wait, name: &str) -> io::Result<bool> {
+    let texts = shelf.texts(name, "script")?;
+    let is_same = check(shelf.rt, name, &texts)?;
+    if texts.fault.is_empty() {
+        Ok(check_cut(shelf.rt, waits, name, &texts)? && is_same)
+    } else {
+        Ok(is_same)
+    }
+}
+
+fn check_cut(rt: &HostRuntime, waits: &impl Wait, name: &str, texts: &Texts) -> io::Result<bool> {
+    let script = utf8(&texts.input)?;
+    let window = window_of(rt.alloc(), script).map_err(|_| io::Error::from(
+        ErrorKind::InvalidData,
+    ))?;
+    let lines = lines_of(rt.alloc(), script).map_err(|_| io::Error::from(ErrorKind::InvalidData))?;
+    cuts::check(rt, waits, name, texts, window, &lines)
 }
 
 /// Whether all is as expected for a script, in both ways where it has no fault.
@@ -36,14 +55,16 @@ fn check_at_once(rt: &HostRuntime, name: &str, texts: &Texts) -> io::Result<bool
 
 /// Tells what a fresh drive over the plain store tells of a script.
 fn tell_at_once(alloc: Global, script: &str, told: &mut String) -> Result<(), RunFault> {
-    let Some(first) = script.lines().next() else {
-        return Ok(());
-    };
-    let window = parse_window(alloc, first.as_bytes());
-    let window = window.map_err(|why| RunFault::parsing(why, 1))?;
+    let window = window_of(alloc, script)?;
     let lines = lines_of(alloc, script)?;
     let mut drive = Drive::new(alloc, PlainStore::new(alloc), window);
     tell_lines(alloc, &mut drive, lines, told)
+}
+
+/// The window that the first line of a script names.
+fn window_of(alloc: Global, script: &str) -> Result<u64, RunFault> {
+    let first = script.lines().next().unwrap_or("");
+    parse_window(alloc, first.as_bytes()).map_err(|why| RunFault::parsing(why, 1))
 }
 
 /// What the lines of a script after its first ask for.

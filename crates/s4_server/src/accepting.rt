@@ -4,15 +4,15 @@ ghost use Rattle.std.specs.Prelude.{◌≡◌, ◌<◌, ◌++◌, IsTrue};
 ghost use Rattle.s4_jobs.specs.Seats.{having_put};
 ghost use Rattle.s4_server.specs.Places.{PutsSome, numbers_to};
 
+use crate::board::Board;
 use crate::connection::{Connection, number_after};
 use crate::post::{Post, least, open};
-use crate::tally::Tally;
 use crate::watch::Watch;
 use s4_jobs::{Jobs, Seat};
 use std::io::ErrorKind;
 use std::net::{TcpListener, TcpStream};
 use std::sync::Wait;
-use std::sync::atomic::{AtomicBool, Ordering};
+use std::sync::atomic::Ordering;
 use std::time::{Clock, Duration};
 use std::{io, thread};
 
@@ -31,9 +31,7 @@ pub struct Door<'a> {
     posts: &'a [Post],
     /// How many may be open; a further one is closed at once.
     most: u32,
-    /// The server is to end.
-    over: &'a AtomicBool,
-    tally: &'a Tally,
+    board: &'a Board,
 }
 
 impl<'a> Door<'a> {
@@ -43,8 +41,7 @@ impl<'a> Door<'a> {
         watch: Watch,
         posts: &'a [Post],
         most: u32,
-        over: &'a AtomicBool,
-        tally: &'a Tally,
+        board: &'a Board,
     ) -> Door<'a> {
         // Where this fails each connection may wait for some tenths of a second.
         let _ = watch.add_listener(listener);
@@ -53,8 +50,7 @@ impl<'a> Door<'a> {
             watch,
             posts,
             most,
-            over,
-            tally,
+            board,
         }
     }
 
@@ -62,7 +58,7 @@ impl<'a> Door<'a> {
     /// once the server is to end.
     fn accept<R: Wait + Clock>(&mut self, rt: &R) -> Option<TcpStream> {
         for _ in rt.forever() {
-            if self.over.load(Ordering::SeqCst) {
+            if self.board.over.load(Ordering::SeqCst) {
                 return None;
             }
             match self.listener.accept() {
@@ -80,7 +76,7 @@ impl<'a> Door<'a> {
         let _ = stream.set_nodelay(true);
         let has_place = open(self.posts) < u64::from(self.most);
         if !has_place {
-            self.tally.turn_away();
+            self.board.tally.turn_away();
         }
         stream.set_nonblocking(true).is_ok() && has_place
     }

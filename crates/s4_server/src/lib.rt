@@ -4,6 +4,7 @@
 
 mod accepting;
 mod attempts;
+mod board;
 mod clock;
 mod connection;
 mod conversation;

@@ -160,7 +160,7 @@ impl Peer {
         let waited = talk.waiting();
         let greets = talk.is_greeting();
         let stream: &TcpStream = stream;
-        let mut reader = Gauge::new(stream, shared.over.load(Ordering::SeqCst), *opening);
+        let mut reader = Gauge::new(stream, shared.board.over.load(Ordering::SeqCst), *opening);
         let mut writer = Tap::new(stream, greets);
         let end = talk.turn(desk, &mut reader, &mut writer);
         *opening = reader.opening();
@@ -255,10 +255,10 @@ impl Peer {
         let Stage::Talks(talk) = &mut self.stage else {
             return true;
         };
-        if talk.has_met(shared.tables.edition()) {
+        if talk.has_met(shared.board.tables.edition()) {
             return true;
         }
-        match shared.tables.newest(shared.rt) {
+        match shared.board.tables.newest(shared.rt) {
             Ok(newest) => talk.meets(newest, self.opening.is_empty()),
             Err(_) => false,
         }
@@ -281,7 +281,7 @@ fn answered_at<R: Wait, C>(
     if talk.fault() != Some(SessionFault::BadLogin) {
         return None;
     }
-    match shared.attempts.failed(shared.rt, opening.who(), now) {
+    match shared.board.attempts.failed(shared.rt, opening.who(), now) {
         0 => None,
         delay => Some(now.saturating_add(delay)),
     }

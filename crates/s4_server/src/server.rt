@@ -8,24 +8,22 @@ ghost use Rattle.s4_types.specs.Strike.{records_of};
 ghost use Rattle.s4_drive.specs.Step.{replies_without_strangers};
 ghost use Rattle.s4_cells.specs.Played.{requests_in};
 ghost use Rattle.s4_merge.specs.Merged.{AreWhole};
-ghost use Rattle.s4_merge.specs.Order.{IsClosing};
+ghost use Rattle.s4_merge.specs.Order.{IsClosing, NoneWent};
 ghost use Rattle.s4_pool.specs.Numbers.{HasAll};
 
 use crate::accepting::Door;
-use crate::attempts::Attempts;
+use crate::board::Board;
 use crate::clock::Ticks;
 use crate::connection::Connection;
 use crate::fault::ServerFault;
 use crate::post::Post;
-use crate::start::Start;
-use crate::tables::Tables;
-use crate::tally::Tally;
-use crate::threads::{OTHERS, Shared, serve_all};
+use crate::threads::{Shared, serve_all};
 use crate::upkeep::{Reloading, Upkeep};
 use crate::watch::Watch;
 use crate::workers::{gather, staff};
 use s4_command::Settings;
 use s4_jobs::{Jobs, Seat};
+use s4_merge::none_went;
 use s4_pool::{Closed, Front, OpenGate, Pass};
 use s4_stream::Logins;
 use s4_types::{Caller, Reply, Request};
@@ -33,7 +31,6 @@ use std::alloc::Global;
 use std::marker::Model;
 use std::net::{Net, TcpListener};
 use std::sync::Wait;
-use std::sync::atomic::{AtomicBool, AtomicU64};
 use std::thread::Threads;
 use std::time::Clock;
 
@@ -143,7 +140,10 @@ impl Server {
         ensures history { IfOk result
             (λ closed. IsClosing self.window closed.cells.items closed.passes.items
             closed.history.items) }
-        ensures isolated { IfOk result (λ closed. (who : ℕ) → (who == 0) ≡ false
+        ensures uncut { IfOk result (λ closed. self.cuts ≡ false
+            → NoneWent closed.cells.items) }
+        ensures isolated { IfOk result (λ closed. NoneWent closed.cells.items
+            → (who : ℕ) → (who == 0) ≡ false
             → replies (records_of who closed.history.items)
             ≡ replies_without_strangers (opened self.window) who
             (requests_in closed.history.items)) }
@@ -160,61 +160,44 @@ impl Server {
             posts,
             outer,
         } = self;
-        let accepted = AtomicBool::new(false);
-        let over = AtomicBool::new(false);
         let now = clock.moment().tick();
-        let time = AtomicU64::new(now);
-        let tables = Tables::new(alloc, logins)?;
-        let attempts = Attempts::new(alloc);
-        let start = Start::new(settings.workers + OTHERS);
-        let tally = Tally::new(alloc)?;
-        let port = listener.local_addr().map_or(0, |address| address.port());
+        let board = Board::new(alloc, logins, settings.workers, now)?;
         let shared = Shared {
             rt,
             alloc,
             front: &front,
             clock,
             upkeep,
-            tables: &tables,
-            attempts: &attempts,
-            start: &start,
-            tally: &tally,
-            port,
+            board: &board,
+            port: port_of(listener),
             posts: posts.as_slice(),
-            accepted: &accepted,
-            over: &over,
-            time: &time,
             patience: settings.patience,
+            cuts: settings.cuts,
         };
         let mut workers = staff(&shared, &jobs, seats, passes, watches)?;
-        let door = Door::new(
-            listener,
-            outer,
-            posts.as_slice(),
-            settings.open,
-            &over,
-            &tally,
-        );
-        let table = tables.newest(rt)?.logins;
+        let door = Door::new(listener, outer, posts.as_slice(), settings.open, &board);
+        let table = board.tables.newest(rt)?.logins;
         let reloading = Reloading::new(alloc, upkeep, table, now);
-        serve_all(
-            &shared,
-            &settings,
-            door,
-            &jobs,
-            seat,
-            workers.as_mut_slice(),
-            reloading,
-        );
-        if start.has_failed() {
+        let serving = workers.as_mut_slice();
+        serve_all(&shared, &settings, door, &jobs, seat, serving, reloading);
+        if board.start.has_failed() {
             return Err(ServerFault::NoMemory);
         }
         let passes = gather(alloc, workers)?;
-        match front.close(alloc, passes) {
-            Ok(closed) => Ok(closed),
-            Err(fault) => Err(ServerFault::of(fault.why)),
+        let closed = match front.close(alloc, passes) {
+            Ok(closed) => closed,
+            Err(fault) => return Err(ServerFault::of(fault.why)),
+        };
+        if !settings.cuts && !none_went(&closed.cells) {
+            return Err(ServerFault::Torn);
         }
+        Ok(closed)
     }
+}
+
+/// The port at which it is listened; 0 where that can't be told.
+fn port_of(listener: &TcpListener) -> u16 {
+    listener.local_addr().map_or(0, |address| address.port())
 }
 
 /// A watch over a listener, and a watch and a post for each worker.

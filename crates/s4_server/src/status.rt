@@ -149,16 +149,16 @@ impl Status {
             moment: shared.clock.moment().tick(),
             port: shared.port,
             resident_bytes,
-            connections: Connections::of(shared.posts, shared.tally),
-            failed_logins: shared.attempts.told(shared.rt, shared.alloc)?,
+            connections: Connections::of(shared.posts, &shared.board.tally),
+            failed_logins: shared.board.attempts.told(shared.rt, shared.alloc)?,
             records: 0,
             values: 0,
             cells: Vec::new(shared.alloc),
             replies: 0,
-            refusals: Refusals::of(shared.tally),
+            refusals: Refusals::of(&shared.board.tally),
         };
         status.count_cells(shared, cells)?;
-        status.count_replies(shared.tally);
+        status.count_replies(&shared.board.tally);
         Ok(status)
     }
 

@@ -40,7 +40,7 @@ impl<'a> Telling<'a> {
     /// Tells how the server is, where there is a file for that and it is time. Where it can't, it
     /// says so on standard error, once until it can again.
     pub fn tell<R: Wait + Eprint, C: Ticks>(&mut self, shared: &Shared<'_, R, C>, cells: usize) {
-        let now = shared.time.load(Ordering::SeqCst);
+        let now = shared.board.time.load(Ordering::SeqCst);
         let is_told = self
             .told
             .is_some_and(|told| now.saturating_sub(told) < EVERY);

@@ -3,13 +3,10 @@
 ghost use Rattle.std.specs.Prelude.{◌≡◌};
 
 use crate::accepting::{Door, accept_all};
-use crate::attempts::Attempts;
+use crate::board::Board;
 use crate::clock::Ticks;
 use crate::connection::Connection;
 use crate::post::{Post, wake_all};
-use crate::start::Start;
-use crate::tables::Tables;
-use crate::tally::Tally;
 use crate::telling::Telling;
 use crate::upkeep::{Reloading, Upkeep};
 use crate::workers::Worker;
@@ -18,7 +15,7 @@ use s4_jobs::{Jobs, Seat};
 use s4_pool::{Front, OpenGate};
 use std::alloc::Global;
 use std::sync::Wait;
-use std::sync::atomic::{AtomicBool, AtomicU64, Ordering};
+use std::sync::atomic::{AtomicBool, Ordering};
 use std::thread;
 use std::thread::Threads;
 use std::time::{Clock, Duration};
@@ -37,24 +34,14 @@ pub struct Shared<'a, R, C> {
     pub front: &'a Front<OpenGate>,
     pub clock: &'a C,
     pub upkeep: &'a Upkeep<'a>,
-    /// The login tables.
-    pub tables: &'a Tables,
-    /// The failed logins.
-    pub attempts: &'a Attempts,
-    pub tally: &'a Tally,
+    pub board: &'a Board,
     /// The port at which the server listens; 0 where that can't be told.
     pub port: u16,
-    /// Where the threads wait for each other at the begin.
-    pub start: &'a Start,
     /// Where connections are left for the workers.
     pub posts: &'a [Post],
-    /// No more connections are accepted.
-    pub accepted: &'a AtomicBool,
-    /// The server is to end: peers are not read any more, and leave once they are told what waits.
-    pub over: &'a AtomicBool,
-    /// The time at which the sweeper began its round, in milliseconds.
-    pub time: &'a AtomicU64,
     pub patience: Patience,
+    /// Whether records that no reply needs any more are cut.
+    pub cuts: bool,
 }
 
 /// How many threads a server has beside its workers: one that accepts, one that sweeps, and one
@@ -138,10 +125,10 @@ fn accept_to_the_end<R: Wait + Clock, C>(
 )
     requires { seat.old.queue ≡ jobs.now.queue }
 {
-    if shared.start.is_made(shared.rt) {
+    if shared.board.start.is_made(shared.rt) {
         accept_all(shared.rt, door, jobs, seat, settings.connections);
     }
-    shared.accepted.store(true, Ordering::SeqCst);
+    shared.board.accepted.store(true, Ordering::SeqCst);
     wake_all(shared.posts);
 }
 
@@ -156,8 +143,9 @@ fn work_all<R: Threads + Wait + Clock + Sync, C: Ticks>(
     }
 }
 
-/// Sweeps the cells in turn, round by round, until the end. At each round it tells the time, and
-/// has the workers look after their peers.
+/// Sweeps the cells in turn, round by round, and once more at the end. At each round it tells the time, and
+/// has the workers look after their peers. Where the server cuts, the records that no reply needs any
+/// more are cut after each round; a cut that memory was refused for is made up for by the next one.
 fn sweep_to_the_end<R: Wait + Clock, C: Ticks>(
     shared: &Shared<'_, R, C>,
     cells: usize,
@@ -165,17 +153,21 @@ fn sweep_to_the_end<R: Wait + Clock, C: Ticks>(
 )
     requires { cells ≡ shared.now.front.now.cells }
 {
-    if !shared.start.is_made(shared.rt) {
+    if !shared.board.start.is_made(shared.rt) {
         return;
     }
     for _ in shared.rt.forever() {
+        let is_last = ended.load(Ordering::SeqCst);
         let now = shared.clock.moment().tick();
-        shared.time.store(now, Ordering::SeqCst);
+        shared.board.time.store(now, Ordering::SeqCst);
         wake_all(shared.posts);
         for cell in 0..cells {
             shared.front.sweep(shared.rt, cell, SWEPT);
         }
-        if ended.load(Ordering::SeqCst) {
+        if shared.cuts {
+            let _ = shared.front.cut(shared.rt, shared.clock.moment());
+        }
+        if is_last {
             return;
         }
         thread::sleep(shared.rt, Duration::from_millis(REST));
@@ -190,13 +182,13 @@ fn keep_to_the_end<R: Wait + Clock + Eprint, C: Ticks>(
     reloading: &mut Reloading<'_>,
     ended: &AtomicBool,
 ) {
-    if !shared.start.is_made(shared.rt) {
+    if !shared.board.start.is_made(shared.rt) {
         return;
     }
     let mut telling = Telling::new(shared.upkeep);
     for _ in shared.rt.forever() {
         if shared.upkeep.is_over() {
-            shared.over.store(true, Ordering::SeqCst);
+            shared.board.over.store(true, Ordering::SeqCst);
         }
         reload(shared, reloading);
         telling.tell(shared, cells);
@@ -209,9 +201,9 @@ fn keep_to_the_end<R: Wait + Clock + Eprint, C: Ticks>(
 
 /// Reads the logins again where it is time and they changed, and tells where they can't be had.
 fn reload<R: Wait + Eprint, C>(shared: &Shared<'_, R, C>, reloading: &mut Reloading<'_>) {
-    let now = shared.time.load(Ordering::SeqCst);
+    let now = shared.board.time.load(Ordering::SeqCst);
     if reloading.is_due(now) {
-        if let Err(fault) = reloading.read(shared.rt, shared.tables) {
+        if let Err(fault) = reloading.read(shared.rt, &shared.board.tables) {
             // Where this can't be written, nobody is told.
             let _ = eprintln!(shared.rt; "s4d: {fault}");
         }

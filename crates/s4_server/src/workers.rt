@@ -53,7 +53,7 @@ pub fn staff<'a, R, C>(
                 rt: shared.rt,
                 clock: shared.clock,
                 front: shared.front,
-                tally: shared.tally,
+                tally: &shared.board.tally,
                 pass,
             };
             workers.push(Worker {
@@ -84,11 +84,11 @@ impl<R: Wait + Clock, C: Ticks> Worker<'_, R, C> {
     /// ended.
     pub fn run(&mut self, shared: &Shared<'_, R, C>) {
         self.post.begin();
-        if !shared.start.is_made(shared.rt) {
+        if !shared.board.start.is_made(shared.rt) {
             return;
         }
         for _ in shared.rt.forever() {
-            let last = shared.accepted.load(Ordering::SeqCst);
+            let last = shared.board.accepted.load(Ordering::SeqCst);
             self.take(shared);
             if last && self.taken == self.post.given() && self.peers.is_empty() {
                 return;
@@ -113,8 +113,8 @@ impl<R: Wait + Clock, C: Ticks> Worker<'_, R, C> {
             if let Some(connection) = jobs.take(shared.rt, seat) {
                 *taken = taken.wrapping_add(1);
                 let stream = TcpStream::from_std(connection.stream);
-                let now = shared.time.load(Ordering::SeqCst);
-                let table = shared.tables.newest(shared.rt);
+                let now = shared.board.time.load(Ordering::SeqCst);
+                let table = shared.board.tables.newest(shared.rt);
                 if table.is_err()
                     || table.is_ok_and(|table| peers.add(watch, stream, table, now).is_err())
                 {
@@ -135,7 +135,7 @@ impl<R: Wait + Clock, C: Ticks> Worker<'_, R, C> {
         } = self;
         let before = peers.len();
         let events = watch.wait(peers.patience());
-        let now = shared.time.load(Ordering::SeqCst);
+        let now = shared.board.time.load(Ordering::SeqCst);
         for event in events.iter() {
             if let Some(place) = place_of(event.token()) {
                 peers.serve(shared, desk, now, place, event.is_read_closed());
@@ -145,7 +145,7 @@ impl<R: Wait + Clock, C: Ticks> Worker<'_, R, C> {
         if peers.look(shared, now) {
             post.show(&peers.states());
         }
-        if shared.over.load(Ordering::SeqCst) {
+        if shared.board.over.load(Ordering::SeqCst) {
             peers.end(now);
         }
         let ended = before.saturating_sub(peers.len());

@@ -1,12 +1,15 @@
 //! Peers with whom a server loses its patience.
 
-use crate::frames::{CALL, HELLO, SLOW_WRITE};
+use crate::frames::{CALL, CREATE, HELLO, READ, SLOW_WRITE, WRITE};
 use crate::scenes::{PAUSE, SILENT, TRIES, connect, tell};
 use std::alloc::Global;
 use std::io::{Error, ErrorKind, Read, Write};
-use std::net::{Net, TcpListener, TcpStream};
+use std::net::{Net, Shutdown, TcpListener, TcpStream};
 use std::time::{Clock, Duration};
 use std::{io, thread};
+
+/// How long it takes up to what is asked late, in milliseconds.
+const LATE: u64 = 2000;
 
 /// What a peer is sent that says this byte by byte, with a pause before each, until the connection ends;
 /// that has to be before all is said.
@@ -48,6 +51,23 @@ pub fn trickle<R: Net<Listener = TcpListener, Stream = TcpStream> + Clock>(
     let mut sent = welcome.to_vec(alloc)?;
     let rest = say_slowly(rt, alloc, stream, SLOW_WRITE)?;
     sent.extend_from_slice(rest.as_slice())?;
+    Ok(sent)
+}
+
+/// What a peer is sent that asks for a Create and a Write, and much later for a Read.
+pub fn read_late<R: Net<Listener = TcpListener, Stream = TcpStream> + Clock>(
+    rt: &R,
+    alloc: Global,
+) -> io::Result<Vec<u8>> {
+    let mut stream = connect(rt)?;
+    for said in [HELLO, CREATE, WRITE] {
+        stream.write_all(said)?;
+    }
+    thread::sleep(rt, Duration::from_millis(LATE));
+    stream.write_all(READ)?;
+    stream.shutdown(Shutdown::Write)?;
+    let mut sent = Vec::new(alloc);
+    stream.read_to_end(&mut sent)?;
     Ok(sent)
 }
 

@@ -4,7 +4,7 @@ use crate::asking::call_for;
 use crate::commands::obeyed;
 use crate::frames::{ANSWER, CALL, CREATE, HELLO, joined};
 use crate::guesses::guess;
-use crate::patience::{come_after_strangers, dribble, trickle};
+use crate::patience::{come_after_strangers, dribble, read_late, trickle};
 use crate::reloads::reload;
 use crate::statuses::read_status;
 use s4_command::Command;
@@ -71,6 +71,8 @@ pub enum Scene {
     Dribble,
     /// One is welcomed, and then sends a frame byte by byte, and slower than it may.
     Trickle,
+    /// One asks for a Create and a Write, and for a Read when these are older than the window.
+    ReadLate,
     /// As many as may be open are silent, and another one comes until it is served.
     Strangers,
     /// The secret of 7 is guessed until an answer waits while others are welcomed.
@@ -120,6 +122,7 @@ pub fn play<
         Scene::LateHearing => one(alloc, hear_late(rt, files, alloc, paths.end)),
         Scene::Dribble => one(alloc, dribble(rt, alloc)),
         Scene::Trickle => one(alloc, trickle(rt, alloc)),
+        Scene::ReadLate => one(alloc, read_late(rt, alloc)),
         Scene::Strangers => one(alloc, come_after_strangers(rt, alloc)),
         Scene::Guess => guess(rt, files, alloc, paths.end),
         Scene::Reload => reload(rt, files, alloc, paths),

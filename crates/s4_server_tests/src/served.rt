@@ -322,3 +322,21 @@ fn a_setup_is_carried_out_first(rt: HostRuntime) -> Result<(), Fail> {
         },
     )
 }
+
+#[test]
+fn what_no_reply_needs_any_more_is_cut(rt: HostRuntime) -> Result<(), Fail> {
+    check(
+        &rt,
+        &rt,
+        &Row {
+            cells: 1,
+            idle: 60000,
+            hello: 60000,
+            cuts: true,
+            scene: Scene::ReadLate,
+            sent: Sent::Count(WELCOME.len() + MADE.len() + DONE.len() + DATA.len()),
+            records: (0, 1),
+            ..PLAIN
+        },
+    )
+}

@@ -34,6 +34,7 @@ pub struct Row {
     /// What is carried out first.
     pub setup: &'static str,
     pub open: u32,
+    pub cuts: bool,
     pub scene: Scene,
     /// What the peers are sent, in their order.
     pub sent: Sent,
@@ -50,6 +51,7 @@ pub const PLAIN: Row = Row {
     hello: 0,
     setup: "",
     open: 1024,
+    cuts: false,
     scene: Scene::Silent,
     sent: Sent::Count(0),
     records: (1, 1),
@@ -105,6 +107,7 @@ fn service_of(alloc: Global, row: &Row, paths: &Paths<'_>) -> Result<Service, Fa
             },
             open: row.open,
             first: 0,
+            cuts: row.cuts,
         },
     })
 }

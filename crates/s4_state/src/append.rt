@@ -1,6 +1,6 @@
 //! Append: bytes after an object's data.
 
-ghost use Rattle.std.specs.Prelude.{◌≡◌, false, IfOk, OnOk, OnErr, ◌++◌, ◌∷◌, []};
+ghost use Rattle.std.specs.Prelude.{◌≡◌, false, OnOk, OnErr, ◌++◌, ◌∷◌, []};
 ghost use Rattle.s4_types.specs.declared.request.Request.TheVariants as request;
 ghost use Rattle.s4_types.specs.Kinds.{is_refused};
 ghost use Rattle.s4_state.specs.Sound.{IsSound, IsNext};
@@ -12,20 +12,6 @@ use s4_objects::Which;
 use s4_store::Store;
 use s4_types::{Bytes, Item, NoMemory, ObjectId, Record, Version};
 use std::alloc::Global;
-
-// The bytes, and the others behind them. Where there are none before them, those are shared.
-fn joined(alloc: Global, front: &[u8], back: &Bytes) -> Result<Bytes, NoMemory>
-    ensures { IfOk result (λ new. new ≡ front.now ++ back.now) }
-{
-    if front.is_empty() {
-        return back.copy();
-    }
-    let more = back.as_slice();
-    let mut new = Vec::with_capacity(alloc, front.len() + more.len())?;
-    new.extend_from_slice(front)?;
-    new.extend_from_slice(more)?;
-    Bytes::from_vec(new)
-}
 
 /// Carries out the Append that the record tells of.
 pub fn apply<S: Store<Version>>(
@@ -45,6 +31,6 @@ pub fn apply<S: Store<Version>>(
     ensures history { parts.new.history ≡ parts.old.history }
     ensures start { parts.new.start ≡ parts.old.start }
 {
-    let new = joined(alloc, parts.current_data(object), bytes)?;
+    let new = bytes.appended_to(alloc, parts.current_data(object))?;
     put(parts, added, object, Which::Data, Item::Data(new))
 }

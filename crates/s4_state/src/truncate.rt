@@ -1,8 +1,7 @@
 //! Truncate: an object's data cut, or filled with zeros.
 
-ghost use Rattle.std.specs.Prelude.{◌≡◌, false, IfOk, OnOk, OnErr, ◌++◌, ◌∷◌, []};
+ghost use Rattle.std.specs.Prelude.{◌≡◌, false, OnOk, OnErr, ◌++◌, ◌∷◌, []};
 ghost use Rattle.s4_types.specs.declared.request.Request.TheVariants as request;
-ghost use Rattle.s4_types.specs.Versions.{of_length as of_length_as};
 ghost use Rattle.s4_types.specs.Kinds.{is_refused};
 ghost use Rattle.s4_state.specs.Sound.{IsSound, IsNext};
 ghost use Rattle.s4_state.specs.Stands.{base_in, IsKept, StandsWith, StandsStill};
@@ -13,17 +12,6 @@ use s4_objects::Which;
 use s4_store::Store;
 use s4_types::{Bytes, Item, NoMemory, ObjectId, Record, Version};
 use std::alloc::Global;
-
-// The bytes, and zeros up to the length.
-fn of_length(alloc: Global, old: &[u8], length: u32) -> Result<Bytes, NoMemory>
-    ensures { IfOk result (λ new. new ≡ of_length_as length old.now) }
-{
-    let length = length as usize;
-    let mut new = Vec::with_capacity(alloc, length)?;
-    new.extend_from_slice(&old[..length.min(old.len())])?;
-    new.resize(length, 0)?;
-    Bytes::from_vec(new)
-}
 
 /// Carries out the Truncate that the record tells of.
 pub fn apply<S: Store<Version>>(
@@ -43,6 +31,6 @@ pub fn apply<S: Store<Version>>(
     ensures history { parts.new.history ≡ parts.old.history }
     ensures start { parts.new.start ≡ parts.old.start }
 {
-    let new = of_length(alloc, parts.current_data(object), length)?;
+    let new = Bytes::of_length(alloc, parts.current_data(object), length)?;
     put(parts, added, object, Which::Data, Item::Data(new))
 }

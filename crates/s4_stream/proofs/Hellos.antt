@@ -2,14 +2,14 @@
 use Rattle.std.proofs.Common.{◌≡◌, ℕ, zero, suc, true, List, [], ◌∷◌, Some, refl, sym, ap, ◌∙◌}
 use Rattle.s4_types.specs.declared.principal.WireVersion.{WireVersion}
 use Rattle.s4_types.specs.declared.principal.WireVersion.TheVariants.{One, Two}
-use Rattle.s4_types.specs.Limits.{number_of_version}
+use Rattle.s4_types.specs.Limits.{number_of_version, version_of}
 use Rattle.s4_codec.specs.Format.{◌>>=◌, ◌&◌, number, block, byte, byte_at, tested, only, case_at}
 use Rattle.std.specs.Prelude.{◌==◌}
 use Rattle.s4_codec.specs.Parts.{principal}
 use Rattle.s4_codec.proofs.Lawful.{IsFormat, some_is, bind_some, both_true, byte_is, block_is, only_is, pair_is, made_is, tested_some, whole_some, IsCase, cases_are}
 use Rattle.s4_codec.proofs.PartLaws.{principal_is, word_is}
 use Rattle.s4_stream.specs.declared.hello.Hello.{Hello}
-use Rattle.s4_stream.specs.Hello.{version_of, version, hello_fields, hello, hello_in}
+use Rattle.s4_stream.specs.Hello.{version, hello_fields, hello, hello_in}
 use Rattle.std.proofs.lemmas.Bool.{eqb-true}
 
 there_version : (n : ℕ) → (only (λ n. n == 1) byte).fits n ≡ true → number_of_version (version_of n) ≡ n

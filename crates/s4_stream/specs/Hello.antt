@@ -1,8 +1,7 @@
 -- How a connection begins.
 use Rattle.std.specs.Prelude.{ℕ, ◌==◌, if◌then◌else◌, Option, Some, None, List, [], ◌∷◌}
 use Rattle.s4_types.specs.declared.principal.WireVersion.{WireVersion}
-use Rattle.s4_types.specs.declared.principal.WireVersion.TheVariants.{One, Two}
-use Rattle.s4_types.specs.Limits.{number_of_version}
+use Rattle.s4_types.specs.Limits.{number_of_version, version_of}
 use Rattle.s4_codec.specs.Format.{Format, ◌&◌, byte, number, block, only, made, cases, whole}
 use Rattle.s4_codec.specs.Parts.{principal}
 use Rattle.s4_stream.specs.Logins.{Logins, is_login}
@@ -10,10 +9,6 @@ use Rattle.s4_stream.specs.declared.hello.Hello.{Hello}
 use Rattle.s4_stream.specs.declared.event.Event.{Event}
 use Rattle.s4_stream.specs.declared.event.Event.TheVariants.{Welcome, Fault}
 use Rattle.s4_stream.specs.declared.event.SessionFault.TheVariants as fault
-
--- the version of that number
-abbrev pub version_of : ℕ → WireVersion
-version_of n = if n == 1 then One else Two
 
 -- the version of the wire that a Hello names, which is 1 alone
 abbrev pub version : Format WireVersion

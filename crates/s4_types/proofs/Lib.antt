@@ -3,9 +3,9 @@ pub mod SameNames
 pub mod Ordered
 pub mod SameRequests
 pub mod SameReplies
+pub mod Sharing
 pub mod Snoc
 pub mod InTime
-pub mod Counting
 pub mod Windows
 pub mod Erasing
 pub mod Entries

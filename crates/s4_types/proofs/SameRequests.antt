@@ -1,5 +1,5 @@
 -- Requests that pass the test of being one are one.
-use Rattle.std.proofs.Common.{◌≡◌, ℕ, true, IsTrue, Some, None, nat_eq, ◌==◌, ◌&&◌, subst, rules, Decides}
+use Rattle.std.proofs.Common.{◌≡◌, true, IsTrue, Some, None, nat_eq, ◌==◌, ◌&&◌, subst, rules, Decides}
 use Rattle.std.specs.Cmp.Lexicographic.{bytes_decides, pointwise}
 use Rattle.std.proofs.lemmas.Bool.{false≢true, eqb-true}
 use Rattle.s4_types.specs.declared.request.After.{After}

@@ -2,6 +2,7 @@ pub mod Names
 pub mod Name
 pub mod Rights
 pub mod Acl
+pub mod Sharing
 pub mod Same
 pub mod SameAudit
 pub mod Changes

@@ -1,5 +1,5 @@
 -- How much data a request may name, and what every reply of the drive keeps to, so that it has a spelling in a frame.
-use Rattle.std.specs.Prelude.{ℕ, Bool, true, false, nat_le, nat_lt, ◌&&◌, length}
+use Rattle.std.specs.Prelude.{ℕ, Bool, true, false, nat_le, nat_lt, ◌==◌, ◌&&◌, if◌then◌else◌, length}
 use Rattle.std.specs.List.{list_all}
 use Rattle.s4_types.specs.declared.principal.WireVersion.{WireVersion}
 use Rattle.s4_types.specs.declared.principal.WireVersion.TheVariants.{One, Two}
@@ -19,6 +19,10 @@ data_limit Two = 65536
 abbrev pub number_of_version : WireVersion → ℕ
 number_of_version One = 1
 number_of_version Two = 2
+
+-- the version of that number
+abbrev pub version_of : ℕ → WireVersion
+version_of n = if n == 1 then One else Two
 
 -- the administrator's grant, or that of one of the at most 16 entries of an ACL
 abbrev pub is_shown_grant : Grant → Bool

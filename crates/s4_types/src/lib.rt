@@ -4,6 +4,7 @@
 
 mod acl;
 mod audit;
+mod byte_changes;
 mod byte_string;
 mod memory;
 mod moment;

@@ -29,7 +29,7 @@ returns-then-not-ordered c =
     let whole : AreWhole c.args.window cells = search rules in
     let merge : IsMergeOf (length cells) mine cells = c.in-Ok-merged_history.ensures.merge in
     let never = rw (c.if-not-ordered.true, c.as_slice.ensures.value) at c.in-Ok-are_in_order.ensures in
-    (whole, record { never = λ all is match order. never (climbs_of_order (length cells) mine ps (order_moves cells ps mine all c.requires merge is match order)) })
+    (whole, record { never = λ all is match order. never (climbs_of_order cells mine ps (order_moves cells ps mine all c.requires merge is match order)) })
 
 pub returns : goal.returns
 returns c =
@@ -39,16 +39,17 @@ returns c =
     let whole : AreWhole c.args.window cells = search rules in
     let merge : IsMergeOf (length cells) all cells = c.in-Ok-merged_history.ensures.merge in
     let match : AllMatch cells ps = rw c.if-not-matched.false at c.in-Ok.ensures in
-    let climbs : EachClimbs (length cells) (length cells) all ps = rw (c.if-not-ordered.false, c.as_slice.ensures.value) at c.in-Ok-are_in_order.ensures in (
+    let climbs : EachClimbs cells (length cells) all ps = rw (c.if-not-ordered.false, c.as_slice.ensures.value) at c.in-Ok-are_in_order.ensures in (
       whole,
       record {
         merge = merge;
+        came = c.in-Ok-merged_history.ensures.came;
         plain = c.in-Ok-merged_history.ensures.plain;
-        isolated = λ who z. records-strike c.args.window who (requests_in all) z ∙ ap (records_of who) c.in-Ok-merged_history.ensures.plain;
+        isolated = λ none who z. records-strike c.args.window who (requests_in all) z ∙ ap (records_of who) (c.in-Ok-merged_history.ensures.plain none);
         rises = c.in-Ok-merged_history.ensures.rises;
         matched = match;
-        stands = λ i x e. call_stands cells ps all i x merge match c.requires e;
-        order = order_of_climbs (length cells) all ps climbs;
-        earlier = λ i j x y e f lt. earlier_first all _ _ _ _ c.in-Ok-merged_history.ensures.rises (call_stands cells ps all i x merge match c.requires e) (call_stands cells ps all j y merge match c.requires f) lt;
+        stands = λ i x e left. call_stands cells ps all i x merge match c.requires e left;
+        order = order_of_climbs cells all ps climbs;
+        earlier = λ i j x y e f s t lt. earlier_first all _ _ _ _ c.in-Ok-merged_history.ensures.rises (call_stands cells ps all i x merge match c.requires e s) (call_stands cells ps all j y merge match c.requires f t) lt;
       },
     )

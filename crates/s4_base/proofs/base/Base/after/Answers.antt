@@ -1,4 +1,4 @@
-use Rattle.std.proofs.Common.{take, sym, subst, arith}
+use Rattle.std.proofs.Common.{take, sym, ◌∙◌, subst, arith}
 use Rattle.s4_types.specs.Play.{InOrder, UpTo}
 use Rattle.s4_base.specs.Changes.{CanFollowAll}
 use Rattle.s4_types.specs.Lists.{base_of_lists}
@@ -11,7 +11,7 @@ count_before-early-requires c = order-up 0 c.args.self.now.cut c.args.records.no
 
 pub follow_all-requires-clause-order : goal.follow_all-requires-clause-order
 follow_all-requires-clause-order c =
-    subst (λ l. InOrder l.cut (take c.count_before-early.result c.args.records.now)) (sym c.in_ok-base.ensures)
+    subst (λ l. InOrder l.cut (take c.count_before-early.result c.args.records.now)) (sym (c.base.view_is ∙ c.in_ok-base.ensures))
     (subst (InOrder c.args.self.now.cut) (sym c.count_before-early.ensures.before) (before-order c.args.self.now.cut c.args.records.now c.args.cut c.requires.order))
 
 pub follow_all-requires-clause-last : goal.follow_all-requires-clause-last
@@ -19,6 +19,6 @@ follow_all-requires-clause-last c = subst (UpTo c.args.cut) (sym c.count_before-
 
 pub follow_all-requires-clause-fits : goal.follow_all-requires-clause-fits
 follow_all-requires-clause-fits c =
-    subst (λ l. CanFollowAll (base_of_lists l) (take c.count_before-early.result c.args.records.now)) (sym c.in_ok-base.ensures)
+    subst (λ l. CanFollowAll (base_of_lists l) (take c.count_before-early.result c.args.records.now)) (sym (c.base.view_is ∙ c.in_ok-base.ensures))
     (subst (CanFollowAll (base_of_lists c.args.self.now)) (sym c.count_before-early.ensures.before)
     (before-fits (base_of_lists c.args.self.now) c.args.records.now c.args.cut c.requires.order c.requires.fits))

@@ -4,8 +4,8 @@ use Rattle.s4_pool.specs.Numbers.{HasAll}
 use Rattle.s4_server.specs.Setup.{Setup}
 use Rattle.s4_server.proofs.server.Server.run.Goals as goal
 
-pub returns-in-Ok-clause-there : goal.returns-in-Ok-clause-there
-returns-in-Ok-clause-there g c =
+pub returns-clause-there : goal.returns-clause-there
+returns-clause-there g c =
     let workers = ap (λ (s : Setup). s.workers) c.self.view_is in
     let opened = subst (λ n. HasAll n c.in_ok-passes.passes.items) c.self.invariant.2 c.in-Ok.ensures.there in
     let there = subst (λ n. HasAll n c.in_ok-passes.passes.items) workers opened in

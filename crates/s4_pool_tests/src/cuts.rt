@@ -1,0 +1,142 @@
+//! A front's cells are cut: places go on, and what is left is closed.
+
+use crate::calls::{Call, check_calls, is_set};
+use crate::given::{closed, receipt};
+use s4_cells::{Cell, cut_all};
+use s4_merge::{Verdict, judge};
+use s4_pool::{Front, OpenGate, Pass, Stretch};
+use s4_types::{Moment, Record};
+use std::alloc::Global;
+use std::process::Abort;
+use std::sync::Wait;
+use std::test::Fail;
+
+/// The worked case of two cells, up to where the administrator sets the window.
+const FIRST: &[Call] = &[Call(0, 7, 5, 1, (5, 1, 0)), Call(1, 8, 5, 1, (5, 0, 0))];
+
+/// What comes of it then.
+const BEHIND: &[Call] = &[Call(0, 7, 9, 2, (9, 1, 2)), Call(1, 8, 8, 2, (8, 0, 2))];
+
+/// Once the first two records of each cell went.
+const LATER: &[Call] = &[Call(0, 7, 9, 3, (9, 1, 3))];
+
+// Makes the calls of the worked case, where the window is set to 2 ticks.
+fn check_worked<R: Abort + Wait>(
+    rt: &R,
+    front: &Front<OpenGate>,
+    passes: &mut [Pass],
+) -> Result<(), Fail> {
+    check_calls(rt, front, passes, FIRST)?;
+    if passes.len() < 2 {
+        return Err("pass 1".into());
+    }
+    assert!(rt; is_set(rt, front, &mut passes[1], 3, 2)?);
+    assert_eq!(rt; receipt(&passes[1], 1), Some((5, 0, 1)));
+    check_calls(rt, front, passes, BEHIND)
+}
+
+// A front of the worked case, cut as far as its horizons let it.
+fn cut_front<R: Abort + Wait>(rt: &R, alloc: Global) -> Result<(Front<OpenGate>, Vec<Pass>), Fail> {
+    let (front, mut passes) = Front::open(alloc, 100, 2, 2, OpenGate)?;
+    check_worked(rt, &front, &mut passes)?;
+    assert_eq!(rt; front.cut(rt, Moment::new(9))?, Moment::new(6));
+    Ok((front, passes))
+}
+
+// That the history has the three records that are left, in their order.
+fn check_history<R: Abort>(rt: &R, history: &[Record]) {
+    let moments = [8, 9, 9];
+    let callers = [8, 7, 7];
+    assert_eq!(rt; history.len(), 3);
+    for i in 0..3 {
+        assert_eq!(rt; history[i].moment.tick(), moments[i]);
+        assert_eq!(rt; history[i].caller.who.number(), callers[i]);
+    }
+}
+
+#[test]
+fn places_go_on_after_a_cut(rt: HostRuntime) -> Result<(), Fail> {
+    let (front, mut passes) = cut_front(&rt, rt.alloc())?;
+    check_calls(&rt, &front, &mut passes, LATER)?;
+    let closed = closed(rt.alloc(), front, passes)?;
+    check_history(&rt, closed.history.as_slice());
+    for cell in &closed.cells {
+        assert_eq!(rt; cell.gone(), 2);
+    }
+    Ok(())
+}
+
+#[test]
+fn a_cut_goes_no_further_than_asked(rt: HostRuntime) -> Result<(), Fail> {
+    let (front, mut passes) = Front::open(rt.alloc(), 100, 2, 2, OpenGate)?;
+    check_worked(&rt, &front, &mut passes)?;
+    assert_eq!(rt; front.cut(&rt, Moment::new(5))?, Moment::new(5));
+    let closed = closed(rt.alloc(), front, passes)?;
+    assert_eq!(rt; closed.history.len(), 5);
+    Ok(())
+}
+
+// The place of the first record, and the moments of all.
+fn told(found: Option<Stretch>) -> Option<(u64, usize, Option<u64>)> {
+    let found = found?;
+    let newest = found.records.last().map(|it| it.moment.tick());
+    Some((found.first, found.records.len(), newest))
+}
+
+#[test]
+fn records_since_a_place_are_copied(rt: HostRuntime) -> Result<(), Fail> {
+    let (front, mut passes) = cut_front(&rt, rt.alloc())?;
+    check_calls(&rt, &front, &mut passes, LATER)?;
+    let rows = [
+        (1, 0, 10, Some((2, 2, Some(9)))),
+        (1, 3, 10, Some((3, 1, Some(9)))),
+        (1, 2, 1, Some((2, 1, Some(9)))),
+        (1, 4, 10, Some((4, 0, None))),
+        (0, 1, 10, Some((2, 1, Some(8)))),
+        (0, 2, 0, Some((2, 0, None))),
+        (2, 0, 10, None),
+    ];
+    for (cell, place, most, wanted) in rows {
+        let found = front.records_since(&rt, cell, place, most)?;
+        assert_eq!(rt;
+            told(found),
+            wanted,
+            "{most} of cell {cell} from {place} on"
+        );
+    }
+    Ok(())
+}
+
+// The cells, of which the last is cut at its own horizon alone.
+fn with_last_cut(alloc: Global, cells: Vec<Cell>) -> Result<Vec<Cell>, Fail> {
+    let mut cells = cells;
+    let last = cells.pop().ok_or("a cell")?;
+    let mut one = [last];
+    cut_all(alloc, &mut one, Moment::new(9))?;
+    let [last] = one;
+    cells.push(last)?;
+    Ok(cells)
+}
+
+// What is found of cells and passes, where it is whether they are whole or torn.
+fn is_whole(alloc: Global, cells: &[Cell], passes: &[Pass]) -> Option<bool> {
+    if cells.is_empty() {
+        return None;
+    }
+    match judge(alloc, 100, cells, passes) {
+        Verdict::Whole(_) => Some(true),
+        Verdict::Torn => Some(false),
+        _ => None,
+    }
+}
+
+#[test]
+fn cells_that_are_cut_at_two_moments_are_torn(rt: HostRuntime) -> Result<(), Fail> {
+    let (front, passes) = cut_front(&rt, rt.alloc())?;
+    let closed = closed(rt.alloc(), front, passes)?;
+    let (cells, passes) = (closed.cells, closed.passes);
+    assert_eq!(rt; is_whole(rt.alloc(), &cells, &passes), Some(true));
+    let cells = with_last_cut(rt.alloc(), cells)?;
+    assert_eq!(rt; is_whole(rt.alloc(), &cells, &passes), Some(false));
+    Ok(())
+}

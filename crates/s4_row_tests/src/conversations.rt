@@ -1,0 +1,129 @@
+//! Scripts as conversations: each request is asked in a connection of its own, and answered by a
+//! front whose cells are cut behind it.
+
+use s4_client::{CallFault, call, message};
+use s4_pool::{Front, OpenGate, Pass};
+use s4_run::RunFault;
+use s4_script::{Line, ReplyText};
+use s4_stream::{Hello, Logins};
+use s4_talk::{Answer, talk};
+use s4_types::{Caller, Moment, Reply, Request, Step};
+use std::alloc::Global;
+use std::collections::BTreeSet;
+use std::sync::Wait;
+
+/// The secret of all principals, and how a table of logins has it.
+const SECRET: [u8; 16] = [0, 1, 2, 3, 4, 5, 6, 7, 8, 9, 10, 11, 12, 13, 14, 15];
+
+const SECRET_TEXT: &str = "000102030405060708090a0b0c0d0e0f";
+
+/// Answers by a front, with one pass, at the moment that it is told, and cuts all cells behind each
+/// request. Its calls are those of the pass.
+#[derive(Drop)]
+struct Desk<'a, R> {
+    rt: &'a R,
+    front: &'a Front<OpenGate>,
+    pass: Pass,
+    moment: Moment,
+}
+
+impl<R: Wait> Answer for Desk<'_, R> {
+    ghost use Rattle.s4_row_tests.specs.Desks.{calls_told};
+
+    ghost calls = { λ desk. calls_told desk.pass.calls };
+
+    fn answer(&mut self, caller: Caller, request: Request) -> Reply {
+        let (rt, moment) = (self.rt, self.moment);
+        let reply = self
+            .front
+            .serve(rt, &mut self.pass, caller, moment, &request);
+        let _ = self.front.cut(rt, moment);
+        reply
+    }
+}
+
+/// Tells what is heard in connections that ask for the lines, one for each request.
+pub fn tell_conversations<R: Wait>(
+    rt: &R,
+    alloc: Global,
+    window: u64,
+    lines: &[Line],
+    cells: usize,
+    told: &mut String,
+) -> Result<(), RunFault> {
+    if cells == 0 || cells > 16 {
+        return Err(RunFault::CannotRead);
+    }
+    let logins = logins_of(alloc, lines)?;
+    let (front, mut passes) = Front::open(alloc, window, cells, 1, OpenGate)?;
+    let mut desk = Desk {
+        rt,
+        front: &front,
+        pass: passes.remove(0),
+        moment: Moment::new(0),
+    };
+    for line in lines {
+        match line {
+            Line::Step(
+                Step::Request {
+                    moment,
+                    caller,
+                    request,
+                },
+            ) => {
+                desk.moment = *moment;
+                let reply = heard(&mut desk, alloc, &logins, *caller, request)?;
+                writeln!(told, "{}", ReplyText(&reply))?;
+            }
+            Line::Step(Step::Sweep { n }) => {
+                for cell in 0..cells {
+                    front.sweep(rt, cell, *n);
+                }
+            }
+            Line::Used | Line::Cut(_) => {}
+        }
+    }
+    Ok(())
+}
+
+/// A table of the principals of the lines.
+fn logins_of(alloc: Global, lines: &[Line]) -> Result<Logins, RunFault> {
+    let mut known = BTreeSet::new(alloc);
+    let mut text = String::new(alloc);
+    for line in lines {
+        if let Line::Step(Step::Request { caller, .. }) = line {
+            let who = caller.who.number();
+            if known.insert(who)? {
+                writeln!(text, "{who} {SECRET_TEXT}")?;
+            }
+        }
+    }
+    Logins::read(alloc, text.as_bytes()).map_err(|_| RunFault::CannotReadLogins)
+}
+
+/// The reply that is heard in a connection whose caller asks this and no more. A request that no frame
+/// spells is asked without one.
+fn heard<R: Wait>(
+    desk: &mut Desk<'_, R>,
+    alloc: Global,
+    logins: &Logins,
+    caller: Caller,
+    request: &Request,
+) -> Result<Reply, RunFault> {
+    let hello = Hello {
+        caller,
+        secret: SECRET,
+    };
+    let message = match message(alloc, &hello, request) {
+        Ok(message) => message,
+        Err(CallFault::BadRequest) => return Ok(desk.answer(caller, request.copy()?)),
+        Err(_) => return Err(RunFault::NoMemory),
+    };
+    let mut said = message.as_slice();
+    let mut written = Vec::new(alloc);
+    talk(desk.rt, alloc, &mut said, &mut written, logins, desk);
+    let mut heard = written.as_slice();
+    let mut sent = Vec::new(alloc);
+    let reply = call(alloc, &mut heard, &mut sent, message.as_slice());
+    reply.map_err(|_| RunFault::CannotRead)
+}

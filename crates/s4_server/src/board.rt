@@ -1,0 +1,45 @@
+//! What the threads of a server tell each other.
+
+use crate::attempts::Attempts;
+use crate::start::Start;
+use crate::tables::Tables;
+use crate::tally::Tally;
+use crate::threads::OTHERS;
+use s4_stream::Logins;
+use s4_types::NoMemory;
+use std::alloc::Global;
+use std::sync::atomic::{AtomicBool, AtomicU64};
+
+/// Where each thread of a server reads what the others wrote.
+#[derive(Drop)]
+pub struct Board {
+    /// Where the threads wait for each other at the begin.
+    pub start: Start,
+    /// No more connections are accepted.
+    pub accepted: AtomicBool,
+    /// The server is to end: peers are not read any more, and leave once they are told what waits.
+    pub over: AtomicBool,
+    /// The time at which the sweeper began its round, in milliseconds.
+    pub time: AtomicU64,
+    /// The login tables.
+    pub tables: Tables,
+    /// The failed logins.
+    pub attempts: Attempts,
+    /// What is counted.
+    pub tally: Tally,
+}
+
+impl Board {
+    /// The board of a server of so many workers that begins now, with these logins.
+    pub fn new(alloc: Global, logins: Logins, workers: u64, now: u64) -> Result<Board, NoMemory> {
+        Ok(Board {
+            start: Start::new(workers.saturating_add(OTHERS)),
+            accepted: AtomicBool::new(false),
+            over: AtomicBool::new(false),
+            time: AtomicU64::new(now),
+            tables: Tables::new(alloc, logins)?,
+            attempts: Attempts::new(alloc),
+            tally: Tally::new(alloc)?,
+        })
+    }
+}
