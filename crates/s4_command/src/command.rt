@@ -1,6 +1,7 @@
 //! Commands.
 
 use crate::call::Call;
+use crate::history::History;
 use crate::service::Service;
 use s4_types::Principal;
 
@@ -19,4 +20,6 @@ pub enum Command {
     Call(Call),
     /// To serve a drive.
     Serve(Service),
+    /// To tell of a journal.
+    History(History),
 }

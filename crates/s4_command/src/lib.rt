@@ -5,11 +5,13 @@
 mod call;
 mod command;
 mod fault;
+mod history;
 mod service;
 mod settings;
 
 pub use call::Call;
 pub use command::Command;
 pub use fault::WordsFault;
+pub use history::{History, Telling};
 pub use service::Service;
 pub use settings::{Patience, Settings};

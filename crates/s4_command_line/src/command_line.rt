@@ -10,6 +10,7 @@ ghost use Rattle.s4_command.specs.Faults.{IsFaultOf};
 ghost use Rattle.s4_command.specs.declared.fault.WordsFault.TheVariants as fault;
 ghost use Rattle.s4_command_line.specs.Words.{IsCallOf, IsForTenant, IsHelloOf, client_in, word_of};
 
+use crate::history::history;
 use crate::meaning::{all_meant, secret_of};
 use crate::parser::{
     ADDRESS, CELLS, CLIENT, CONNECTIONS, CUT, FIRST, HELLO, IDLE, LOGINS, OPEN, RELOAD, SECRET,
@@ -57,6 +58,7 @@ fn chosen<R: Files + AllocGlobal>(rt: &R, matches: &ArgMatches) -> Result<Comman
         Some(("strike", words)) => strike(alloc, words.get_str(WHO).unwrap_or_default()),
         Some(("serve", words)) => serve(alloc, words),
         Some(("call", words)) => call(rt, words),
+        Some(("history", words)) => history(alloc, words),
         _ => Err(WordsFault::wrong(alloc, "error: a command is wanted, as run")),
     }
 }

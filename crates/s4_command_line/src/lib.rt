@@ -3,6 +3,7 @@
 #![tactic(auto)]
 
 mod command_line;
+mod history;
 mod meaning;
 mod parser;
 

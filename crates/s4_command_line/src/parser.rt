@@ -49,6 +49,11 @@ const CALL_PAGES: &str = "\
 Example: s4d call 127.0.0.1:4710 7 1 000102030405060708090a0b0c0d0e0f read 7.0.1 0 100 at 9
 docs/SCRIPTS.md has the words and the replies; \"Calls\" there says what else is told.";
 
+/// What the help of `history` ends with.
+const HISTORY_PAGES: &str = "\
+Example: s4d history list journal --from 60000
+docs/JOURNAL.md says what each tells, and what the sums find.";
+
 /// The argument that is the path of a file of logins.
 pub const LOGINS: &str = "LOGINS";
 
@@ -67,6 +72,20 @@ pub const WORD: &str = "WORD";
 
 /// The flag of a call.
 pub const WAIT: &str = "wait";
+
+/// The arguments of a history: what is told, and of which folder.
+pub const TELLING: &str = "TELLING";
+
+pub const FOLDER: &str = "FOLDER";
+
+/// The flags of a history.
+pub const START: &str = "start";
+
+pub const FROM: &str = "from";
+
+pub const TO: &str = "to";
+
+pub const SUM: &str = "sum";
 
 /// The flags of a server.
 pub const WINDOW: &str = "window";
@@ -106,7 +125,8 @@ pub fn parser<'a>(alloc: Global) -> Result<Parser<'a>, AllocError> {
     let parser = with(parser, hall_parser(alloc))?;
     let parser = with(parser, strike_parser(alloc))?;
     let parser = with(parser, serve_parser(alloc))?;
-    with(parser, call_parser(alloc))
+    let parser = with(parser, call_parser(alloc))?;
+    with(parser, history_parser(alloc))
 }
 
 /// Adds a command.
@@ -302,6 +322,29 @@ fn with_caller<'a>(alloc: Global, parser: Parser<'a>) -> Result<Parser<'a>, Allo
         "The principal's secret, 32 hexadecimal digits, or @ and a file that has them",
     );
     parser.arg(who)?.arg(client)?.arg(secret)
+}
+
+fn history_parser<'a>(alloc: Global) -> Result<Parser<'a>, AllocError> {
+    let parser = Parser::new(alloc, "history")
+        .about("Tells of the journals in a folder")
+        .after_help(HISTORY_PAGES)
+        .arg(wanted(alloc, TELLING, "What is told: list, script or check"))?
+        .arg(wanted(alloc, FOLDER, "The folder of the journals"))?;
+    let start = Arg::new(alloc, START).long(START).value_name("N").help(
+        "The number of the start; else the newest, or all for check",
+    );
+    let from = flag(alloc, FROM, "The first moment of which is told", "0");
+    let to = flag(
+        alloc,
+        TO,
+        "The last moment of which is told",
+        "18446744073709551615",
+    );
+    let sum = Arg::new(alloc, SUM)
+        .long(SUM)
+        .value_name("HEX")
+        .help("The last sum that check finds, as was told before");
+    parser.arg(start)?.arg(from)?.arg(to)?.arg(sum)
 }
 
 /// An argument that has to be given.

@@ -6,12 +6,13 @@ A drive that keeps what was written, and answers each principal by its rights
 Usage: s4d <COMMAND>
 
 Commands:
-  run     Runs a script from standard input, and writes the replies
-  hall    Runs arrivals from standard input, and writes what each connection is sent
-  strike  Writes a script from standard input without what a principal's strangers ask
-  serve   Serves a drive over TCP, and writes where it listens
-  call    Asks a served drive once, and writes the reply
-  help    Print this message or the help of the given subcommand(s)
+  run      Runs a script from standard input, and writes the replies
+  hall     Runs arrivals from standard input, and writes what each connection is sent
+  strike   Writes a script from standard input without what a principal's strangers ask
+  serve    Serves a drive over TCP, and writes where it listens
+  call     Asks a served drive once, and writes the reply
+  history  Tells of the journals in a folder
+  help     Print this message or the help of the given subcommand(s)
 
 Options:
   -h, --help     Print help
@@ -114,4 +115,24 @@ Options:
 
 Example: s4d call 127.0.0.1:4710 7 1 000102030405060708090a0b0c0d0e0f read 7.0.1 0 100 at 9
 docs/SCRIPTS.md has the words and the replies; \"Calls\" there says what else is told.
+";
+
+pub const HISTORY_HELP: &str = "\
+Tells of the journals in a folder
+
+Usage: s4d history [OPTIONS] <TELLING> <FOLDER>
+
+Arguments:
+  <TELLING>  What is told: list, script or check
+  <FOLDER>   The folder of the journals
+
+Options:
+      --start <N>  The number of the start; else the newest, or all for check
+      --from <N>   The first moment of which is told [default: 0]
+      --to <N>     The last moment of which is told [default: 18446744073709551615]
+      --sum <HEX>  The last sum that check finds, as was told before
+  -h, --help       Print help
+
+Example: s4d history list journal --from 60000
+docs/JOURNAL.md says what each tells, and what the sums find.
 ";

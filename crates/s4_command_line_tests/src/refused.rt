@@ -9,7 +9,7 @@ pub const WORDS: &[Row] = &[
         b"s4d",
         Refused(
             "'s4d' requires a subcommand but one was not provided\n\
-             \x20 [subcommands: run, hall, strike, serve, call, help]\n\n\
+             \x20 [subcommands: run, hall, strike, serve, call, history, help]\n\n\
              Usage: s4d <COMMAND>",
         ),
     ),
@@ -131,6 +131,20 @@ pub const PRINCIPALS: &[Row] = &[
 
 /// Flags that are out of their bounds, or no number.
 pub const FLAGS: &[Row] = &[
+    Row(
+        b"s4d|history|tell|kept",
+        Refused("invalid value 'tell' for '<TELLING>': it isn't list, script or check"),
+    ),
+    Row(
+        b"s4d|history|list|kept|--start|one",
+        Refused(
+            "invalid value for '--start <N>': it isn't a number from 0 to 18446744073709551615",
+        ),
+    ),
+    Row(
+        b"s4d|history|check|kept|--sum|00",
+        Refused("invalid value for '--sum <HEX>': it isn't 64 hexadecimal digits"),
+    ),
     Row(
         b"s4d|serve|nowhere|first.logins|--cells|0",
         Refused("invalid value for '--cells <N>': it isn't a number from 1 to 16"),

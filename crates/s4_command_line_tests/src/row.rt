@@ -1,6 +1,6 @@
 //! A command line, and what it is.
 
-use s4_command::{Call, Command, Patience, Service, Settings, WordsFault};
+use s4_command::{Call, Command, History, Patience, Service, Settings, Telling, WordsFault};
 use s4_command_line::given;
 use s4_stream::Hello;
 use s4_types::{
@@ -75,6 +75,11 @@ pub enum Wanted {
     Call(u32, u32, Asked),
     /// The same, where it is tried to connect for so many milliseconds.
     PatientCall(u32, u32, Asked, u64),
+    /// They ask for a list of the start of this number in `a folder/kept`, between these moments.
+    Listed(Option<u64>, u64, u64),
+    /// They ask whether the journals in `a folder/kept` are sound, and that their last sum is of the
+    /// bytes 0 to 31.
+    Checked,
     /// They name a file of this name in the folder, which can't be read.
     NoFile(&'static str),
     /// They ask for a call of words that are no request.
@@ -186,8 +191,35 @@ fn is_command(alloc: Global, command: &Command, wanted: &Wanted) -> Result<bool,
         (Command::Call(call), Wanted::PatientCall(who, client, asked, wait)) => {
             Ok(*call == call_of(alloc, *who, *client, asked)?.waiting(*wait))
         }
+        (Command::History(history), Wanted::Listed(start, from, to)) => {
+            Ok(*history == history_of(alloc, Telling::List, *start, *from, *to)?)
+        }
+        (Command::History(history), Wanted::Checked) => {
+            let mut sum = [0; 32];
+            for place in 0..32 {
+                sum[place] = place as u8;
+            }
+            Ok(*history == history_of(alloc, Telling::Check(Some(sum)), None, 0, u64::MAX)?)
+        }
         _ => Ok(false),
     }
+}
+
+/// What is to be told of `a folder/kept`.
+fn history_of(
+    alloc: Global,
+    telling: Telling,
+    start: Option<u64>,
+    from: u64,
+    to: u64,
+) -> Result<History, Fail> {
+    Ok(History {
+        telling,
+        folder: String::from_str(alloc, "a folder/kept")?,
+        start,
+        from: Moment::new(from),
+        to: Moment::new(to),
+    })
 }
 
 /// Whether these are the settings of the service, how often it looks at its logins, and the files that end

@@ -1,10 +1,10 @@
 //! Command lines that spell a command.
 
-use crate::helps::{CALL_HELP, HALL_HELP, HELP, RUN_HELP, SERVE_HELP, STRIKE_HELP};
+use crate::helps::{CALL_HELP, HALL_HELP, HELP, HISTORY_HELP, RUN_HELP, SERVE_HELP, STRIKE_HELP};
 use crate::row::Asked::{Create, Read, Write};
 use crate::row::Row;
 use crate::row::Wanted::{
-    Call, GreatestServer, Hall, PatientCall, Run, Show, StandardServer, Strike,
+    Call, Checked, GreatestServer, Hall, Listed, PatientCall, Run, Show, StandardServer, Strike,
 };
 
 /// The flags of the greatest server.
@@ -24,6 +24,7 @@ pub const TEXTS: &[Row] = &[
     Row(b"s4d|help|strike", Show(STRIKE_HELP)),
     Row(b"s4d|serve|--help", Show(SERVE_HELP)),
     Row(b"s4d|call|--help", Show(CALL_HELP)),
+    Row(b"s4d|history|--help", Show(HISTORY_HELP)),
     Row(b"s4d|--version", Show("s4d 0.1.0\n")),
     Row(b"s4d|-V", Show("s4d 0.1.0\n")),
 ];
@@ -37,6 +38,20 @@ pub const RUNS: &[Row] = &[
     Row(b"s4d|strike|1", Strike(1)),
     Row(b"s4d|strike|9", Strike(9)),
     Row(b"s4d|strike|4294967294", Strike(4294967294)),
+];
+
+/// Histories.
+pub const HISTORIES: &[Row] = &[
+    Row(b"s4d|history|list|a folder/kept", Listed(None, 0, u64::MAX)),
+    Row(
+        b"s4d|history|list|a folder/kept|--start|3|--from|5|--to|9",
+        Listed(Some(3), 5, 9),
+    ),
+    Row(
+        b"s4d|history|check|a folder/kept|--sum\
+        |000102030405060708090a0b0c0d0e0f101112131415161718191a1b1c1d1e1f",
+        Checked,
+    ),
 ];
 
 /// Servers.

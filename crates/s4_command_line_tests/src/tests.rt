@@ -1,13 +1,13 @@
 use crate::refused::{CALLERS, FLAGS, PRINCIPALS, REQUESTS, VALUES, WORDS};
 use crate::row::{check, spelled};
-use crate::spelled::{CALLS, RUNS, SERVERS, TEXTS};
+use crate::spelled::{CALLS, HISTORIES, RUNS, SERVERS, TEXTS};
 use s4_command::{Command, WordsFault};
 use std::test::Fail;
 
 #[test]
 fn each_command_line_is_what_is_wanted(rt: HostRuntime) -> Result<(), Fail> {
     for rows in [
-        TEXTS, RUNS, SERVERS, CALLS, WORDS, PRINCIPALS, FLAGS, VALUES, CALLERS, REQUESTS,
+        TEXTS, RUNS, HISTORIES, SERVERS, CALLS, WORDS, PRINCIPALS, FLAGS, VALUES, CALLERS, REQUESTS,
     ] {
         for row in rows {
             check(&rt, "", row)?;

@@ -6,6 +6,7 @@ use Rattle.s4_client.specs.Texts.{call_fault_text}
 use Rattle.s4_command.specs.Faults as words
 use Rattle.s4_run.specs.Texts as run
 use Rattle.s4_server.specs.Faults as server
+use Rattle.s4_starts.specs.Texts as starts
 
 -- what the program exits with: what words that spell no command have it exit with, or else 1
 abbrev pub exit_status : Fault → ℕ
@@ -25,3 +26,4 @@ fault_text (fault.SetupRefused number told) = codes "setup line " ++ decimal num
 fault_text (fault.CannotWriteFile path) = codes "cannot write " ++ string_bytes path
 fault_text fault.CannotListen = codes "cannot listen"
 fault_text (fault.Serve why) = server.fault_text why
+fault_text (fault.History why) = starts.fault_text why

@@ -9,6 +9,7 @@ use s4_client::CallFault;
 use s4_command::WordsFault;
 use s4_run::RunFault;
 use s4_server::ServerFault;
+use s4_starts::StartFault;
 use std::alloc::{AllocError, AllocFailed};
 use std::fmt;
 use thiserror::Error;
@@ -38,6 +39,8 @@ pub enum Fault {
     CannotListen,
     /// The server ended so.
     Serve(ServerFault),
+    /// The journal can't be told of, or isn't sound.
+    History(StartFault),
 }
 
 impl Fault {
@@ -68,6 +71,7 @@ impl fmt::Display for Fault {
             Fault::CannotWriteFile(path) => write!(f, "cannot write {path}"),
             Fault::CannotListen => write!(f, "cannot listen"),
             Fault::Serve(fault) => write!(f, "{fault}"),
+            Fault::History(fault) => write!(f, "{fault}"),
         }
     }
 }
@@ -101,6 +105,14 @@ impl From<ServerFault> for Fault {
 
     fn from(fault: ServerFault) -> Fault {
         Fault::Serve(fault)
+    }
+}
+
+impl From<StartFault> for Fault {
+    ghost from_gives = { λ start why. why ≡ fault.History start };
+
+    fn from(fault: StartFault) -> Fault {
+        Fault::History(fault)
     }
 }
 

@@ -5,6 +5,7 @@
 mod calling;
 mod descriptors;
 mod fault;
+mod history;
 mod obeying;
 mod serving;
 mod setting_up;

@@ -6,6 +6,7 @@ ghost use Rattle.s4_commands.specs.Commands.{IsObeyed};
 
 use crate::calling::call_at;
 use crate::fault::Fault;
+use crate::history::tell_history;
 use crate::serving::serve_at;
 use s4_command::Command;
 use s4_run::RunFault;
@@ -39,6 +40,7 @@ pub fn obey<
         Command::Strike(who) => s4_run::run_strike(system.alloc(), *who, input, output)?,
         Command::Serve(service) => serve_at(system, files, service, output)?,
         Command::Call(call) => call_at(system, system.alloc(), call, output)?,
+        Command::History(history) => tell_history(files, history, output)?,
     }
     Ok(())
 }

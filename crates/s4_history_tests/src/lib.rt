@@ -5,6 +5,8 @@
 #[cfg(test)]
 mod example;
 #[cfg(test)]
+mod kept;
+#[cfg(test)]
 mod listed;
 #[cfg(test)]
 mod replayed;
