@@ -13,5 +13,5 @@ pub use call::Call;
 pub use command::Command;
 pub use fault::WordsFault;
 pub use history::{History, Telling};
-pub use service::Service;
+pub use service::{Journal, Service};
 pub use settings::{Patience, Settings};

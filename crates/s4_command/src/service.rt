@@ -15,5 +15,16 @@ pub struct Service {
     pub setup: Option<String>,
     /// The path of the file in which the server tells of itself, where there is one.
     pub status: Option<String>,
+    /// Where it keeps its history, if it does.
+    pub journal: Option<Journal>,
     pub settings: Settings,
+}
+
+/// Where a server keeps its history (docs/JOURNAL.md).
+#[derive(Debug, PartialEq, Drop)]
+pub struct Journal {
+    /// The path of the folder of its starts.
+    pub folder: String,
+    /// Whether the system is to write each second what it was given, to where it lasts.
+    pub syncs: bool,
 }

@@ -13,12 +13,12 @@ ghost use Rattle.s4_command_line.specs.Words.{IsCallOf, IsForTenant, IsHelloOf, 
 use crate::history::history;
 use crate::meaning::{all_meant, secret_of};
 use crate::parser::{
-    ADDRESS, CELLS, CLIENT, CONNECTIONS, CUT, FIRST, HELLO, IDLE, LOGINS, OPEN, RELOAD, SECRET,
-    SETUP, STATUS, UNTIL, WAIT, WHO, WINDOW, WORD, WORKERS, parser,
+    ADDRESS, CELLS, CLIENT, CONNECTIONS, CUT, FIRST, HELLO, IDLE, JOURNAL, LOGINS, OPEN, RELOAD,
+    SECRET, SETUP, STATUS, SYNC, UNTIL, WAIT, WHO, WINDOW, WORD, WORKERS, parser,
 };
 use clap::error::ErrorKind;
 use clap::{ArgMatches, Error};
-use s4_command::{Call, Command, Patience, Service, Settings, WordsFault};
+use s4_command::{Call, Command, Journal, Patience, Service, Settings, WordsFault};
 use s4_script::{parse_number, parse_principal, parse_request};
 use s4_stream::{Hello, principal_in};
 use s4_types::{Caller, Principal, Request, WireVersion};
@@ -105,6 +105,7 @@ fn serve(alloc: Global, words: &ArgMatches) -> Result<Command, WordsFault> {
     let until = path(alloc, words, UNTIL)?;
     let setup = path(alloc, words, SETUP)?;
     let status = path(alloc, words, STATUS)?;
+    let journal = journal(alloc, words)?;
     let reload = number(alloc, words, RELOAD, 0, u64::MAX)?;
     Ok(Command::Serve(Service {
         address,
@@ -113,8 +114,33 @@ fn serve(alloc: Global, words: &ArgMatches) -> Result<Command, WordsFault> {
         reload,
         setup,
         status,
+        journal,
         settings,
     }))
+}
+
+/// Where a server keeps its history. What is cut would be missing there.
+fn journal(alloc: Global, words: &ArgMatches) -> Result<Option<Journal>, WordsFault> {
+    let syncs = match word(words, SYNC) {
+        "second" => true,
+        "never" => false,
+        word => {
+            let text = format!(in alloc;
+                "error: invalid value '{word}' for '--{SYNC} <WHEN>': it isn't second or never\n\n\
+                 For more information, try '--help'."
+            )?;
+            return Err(WordsFault::Wrong(text));
+        }
+    };
+    match path(alloc, words, JOURNAL)? {
+        Some(_) if words.get_flag(CUT) => Err(WordsFault::wrong(
+            alloc,
+            "error: the argument '--journal <FOLDER>' cannot be used with '--cut'\n\n\
+             For more information, try '--help'.",
+        )),
+        Some(folder) => Ok(Some(Journal { folder, syncs })),
+        None => Ok(None),
+    }
 }
 
 /// The path behind a flag, where that is given.

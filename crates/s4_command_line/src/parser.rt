@@ -114,6 +114,10 @@ pub const SETUP: &str = "setup";
 
 pub const STATUS: &str = "status";
 
+pub const JOURNAL: &str = "journal";
+
+pub const SYNC: &str = "sync";
+
 /// What parses a command line.
 pub fn parser<'a>(alloc: Global) -> Result<Parser<'a>, AllocError> {
     let parser = Parser::new(alloc, "s4d")
@@ -259,7 +263,21 @@ fn with_flags_of_files<'a>(alloc: Global, parser: Parser<'a>) -> Result<Parser<'
         STATUS,
         "It tells of itself in this file each second, as JSON",
     );
-    parser.arg(until)?.arg(setup)?.arg(status)
+    let journal = Arg::new(alloc, JOURNAL)
+        .long(JOURNAL)
+        .value_name("FOLDER")
+        .help("It keeps its history in this folder");
+    let sync = Arg::new(alloc, SYNC)
+        .long(SYNC)
+        .value_name("WHEN")
+        .help("When the system writes the journal to where it lasts: second or never")
+        .default_value("second");
+    parser
+        .arg(until)?
+        .arg(setup)?
+        .arg(status)?
+        .arg(journal)?
+        .arg(sync)
 }
 
 /// A flag with a file.

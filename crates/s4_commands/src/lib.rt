@@ -6,6 +6,7 @@ mod calling;
 mod descriptors;
 mod fault;
 mod history;
+mod keeping;
 mod obeying;
 mod serving;
 mod setting_up;

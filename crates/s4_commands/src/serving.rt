@@ -5,7 +5,7 @@ ghost use Rattle.std.specs.Io.KnownBytes.{Appends};
 ghost use Rattle.s4_commands.specs.Serving.{TellsService, closed_line, listening_line};
 
 use crate::fault::Fault;
-use crate::{descriptors, setting_up};
+use crate::{descriptors, keeping, setting_up};
 use s4_command::Service;
 use s4_run::RunFault;
 use s4_server::{Server, Stopwatch, Ticks, Upkeep, beside};
@@ -86,11 +86,12 @@ pub fn serve_on<R: Net + Threads + Wait + Clock + Eprint + Sync + AllocGlobal, C
     ensures told { OnOk result (TellsService (string_bytes service.now.address)
         (W.contents output.old) (W.contents output.new)) }
 {
+    let keeper = keeping::keeper(rt, files, service)?;
     let mut server = Server::open(rt, rt.alloc(), service.settings)?;
     setting_up::set_up(rt, files, &mut server, clock, path_in(&service.setup))?;
     tell_listening(output, service.address.as_str())?;
     let upkeep = upkeep_of(files, service);
-    let closed = server.run(rt, clock, &upkeep, listener, logins)?;
+    let closed = server.run(rt, clock, &upkeep, listener, logins, keeper)?;
     tell_closed(output, closed.history.len())?;
     Ok(())
 }

@@ -12,6 +12,7 @@ mod desk;
 mod ending;
 mod fault;
 mod gauge;
+mod keeper;
 mod opening;
 mod peer;
 mod peers;
@@ -29,6 +30,7 @@ mod workers;
 
 pub use clock::{Stopwatch, Ticks};
 pub use fault::ServerFault;
+pub use keeper::Keeper;
 pub use server::Server;
 pub use telling::beside;
 pub use upkeep::Upkeep;

@@ -16,6 +16,7 @@ use crate::board::Board;
 use crate::clock::Ticks;
 use crate::connection::Connection;
 use crate::fault::ServerFault;
+use crate::keeper::Keeper;
 use crate::post::Post;
 use crate::threads::{Shared, serve_all};
 use crate::upkeep::{Reloading, Upkeep};
@@ -126,7 +127,8 @@ impl Server {
     /// so many: they are served to their ends, the workers are joined, and the front is closed.
     /// What it then gives is what the closing of a front gives (docs/ARCHITECTURE.md, "Fronts").
     /// Once the file that ends it is there it ends too: no connection is accepted or read any more,
-    /// and each is closed once all that it was answered is written. It waits.
+    /// and each is closed once all that it was answered is written. `keeper` writes the history into
+    /// a journal meanwhile. It waits.
     pub fn run<'x, R: Threads + Wait + Clock + Eprint + Sync, C: Ticks>(
         self,
         rt: &'x R,
@@ -134,6 +136,7 @@ impl Server {
         upkeep: &'x Upkeep<'x>,
         listener: &TcpListener,
         logins: Logins,
+        keeper: Option<Keeper>,
     ) -> Result<Closed, ServerFault>
         ensures there { IfOk result (λ closed. HasAll self.workers closed.passes.items) }
         ensures whole { IfOk result (λ closed. AreWhole self.window closed.cells.items) }
@@ -179,7 +182,9 @@ impl Server {
         let table = board.tables.newest(rt)?.logins;
         let reloading = Reloading::new(alloc, upkeep, table, now);
         let serving = workers.as_mut_slice();
-        serve_all(&shared, &settings, door, &jobs, seat, serving, reloading);
+        serve_all(
+            &shared, &settings, door, &jobs, seat, serving, reloading, keeper,
+        );
         if board.start.has_failed() {
             return Err(ServerFault::NoMemory);
         }

@@ -2,6 +2,7 @@
 
 use crate::attempts::FailedLogins;
 use crate::clock::Ticks;
+use crate::keeper::{Keeper, Kept};
 use crate::peers::States;
 use crate::post::Post;
 use crate::tally::{KINDS, Tally};
@@ -9,6 +10,7 @@ use crate::threads::Shared;
 use s4_pool::Measure;
 use s4_types::NoMemory;
 use serde::Serialize;
+use std::alloc::Global;
 use std::sync::Wait;
 
 /// What a server tells of itself at a moment.
@@ -26,6 +28,21 @@ pub struct Status {
     pub cells: Vec<CellStatus>,
     pub replies: u64,
     pub refusals: Refusals,
+    /// How far its journal is, where it keeps one.
+    pub journal: Option<JournalStatus>,
+}
+
+/// The journal of a server.
+#[derive(Drop, Serialize)]
+pub struct JournalStatus {
+    /// The number of the start.
+    pub start: u64,
+    /// How many bytes it has.
+    pub bytes: u64,
+    /// The newest sum, as hexadecimal digits.
+    pub sum: String,
+    /// Whether it couldn't be written when that was last tried.
+    pub fails: bool,
 }
 
 /// The connections of a server.
@@ -87,6 +104,18 @@ impl From<Measure> for CellStatus {
     }
 }
 
+impl JournalStatus {
+    /// What is told of a journal that is so far.
+    fn of(alloc: Global, kept: Kept) -> Result<JournalStatus, NoMemory> {
+        Ok(JournalStatus {
+            start: kept.start,
+            bytes: kept.bytes,
+            sum: hex::encode(alloc, kept.sum.as_slice())?,
+            fails: kept.fails,
+        })
+    }
+}
+
 impl Refusals {
     /// Those that were counted.
     fn of(tally: &Tally) -> Refusals {
@@ -143,6 +172,7 @@ impl Status {
     pub fn now<R: Wait, C: Ticks>(
         shared: &Shared<'_, R, C>,
         cells: usize,
+        keeper: Option<&Keeper>,
         resident_bytes: Option<u64>,
     ) -> Result<Status, NoMemory> {
         let mut status = Status {
@@ -156,6 +186,10 @@ impl Status {
             cells: Vec::new(shared.alloc),
             replies: 0,
             refusals: Refusals::of(&shared.board.tally),
+            journal: match keeper {
+                Some(keeper) => Some(JournalStatus::of(shared.alloc, keeper.kept())?),
+                None => None,
+            },
         };
         status.count_cells(shared, cells)?;
         status.count_replies(&shared.board.tally);

@@ -3,6 +3,7 @@
 ghost use Rattle.std.specs.Prelude.{◌≡◌, ◌++◌, IfOk, codes, string_bytes};
 
 use crate::clock::Ticks;
+use crate::keeper::Keeper;
 use crate::status::Status;
 use crate::threads::Shared;
 use crate::upkeep::Upkeep;
@@ -39,7 +40,12 @@ impl<'a> Telling<'a> {
 
     /// Tells how the server is, where there is a file for that and it is time. Where it can't, it
     /// says so on standard error, once until it can again.
-    pub fn tell<R: Wait + Eprint, C: Ticks>(&mut self, shared: &Shared<'_, R, C>, cells: usize) {
+    pub fn tell<R: Wait + Eprint, C: Ticks>(
+        &mut self,
+        shared: &Shared<'_, R, C>,
+        cells: usize,
+        keeper: Option<&Keeper>,
+    ) {
         let now = shared.board.time.load(Ordering::SeqCst);
         let is_told = self
             .told
@@ -51,7 +57,7 @@ impl<'a> Telling<'a> {
             return;
         }
         self.told = Some(now);
-        let written = self.write(shared, cells, path);
+        let written = self.write(shared, cells, keeper, path);
         if written.is_err() && !self.failed {
             // Where this can't be written, nobody is told.
             let _ = eprintln!(shared.rt; "s4d: cannot write {path}");
@@ -65,11 +71,12 @@ impl<'a> Telling<'a> {
         &self,
         shared: &Shared<'_, R, C>,
         cells: usize,
+        keeper: Option<&Keeper>,
         path: &str,
     ) -> io::Result<()> {
         let alloc = shared.alloc;
         let files = self.upkeep.files;
-        let status = Status::now(shared, cells, resident(files))?;
+        let status = Status::now(shared, cells, keeper, resident(files))?;
         let text = serde_json::to_string(alloc, &status).map_err(|_| AllocError)?;
         let beside = beside(alloc, path)?;
         fs::write(files, beside.as_str(), text.as_str())?;

@@ -6,6 +6,7 @@ use crate::accepting::{Door, accept_all};
 use crate::board::Board;
 use crate::clock::Ticks;
 use crate::connection::Connection;
+use crate::keeper::Keeper;
 use crate::post::{Post, wake_all};
 use crate::telling::Telling;
 use crate::upkeep::{Reloading, Upkeep};
@@ -57,6 +58,7 @@ pub fn serve_all<R: Threads + Wait + Clock + Eprint + Sync, C: Ticks>(
     seat: Seat<Connection>,
     workers: &mut [Worker<'_, R, C>],
     reloading: Reloading<'_>,
+    keeper: Option<Keeper>,
 )
     requires cells { settings.now.cells ≡ shared.now.front.now.cells }
     requires seat { seat.queue ≡ jobs.now.queue }
@@ -71,7 +73,7 @@ pub fn serve_all<R: Threads + Wait + Clock + Eprint + Sync, C: Ticks>(
         { serve_to_the_end(shared, settings, door, jobs, seat, workers, ended) },
         || -> ()
             requires { cells ≡ shared.now.front.now.cells }
-        { look_after(shared, cells, reloading, ended) },
+        { look_after(shared, cells, reloading, keeper, ended) },
     );
 }
 
@@ -80,6 +82,7 @@ fn look_after<R: Threads + Wait + Clock + Eprint + Sync, C: Ticks>(
     shared: &Shared<'_, R, C>,
     cells: usize,
     mut reloading: Reloading<'_>,
+    mut keeper: Option<Keeper>,
     ended: &AtomicBool,
 )
     requires { cells ≡ shared.now.front.now.cells }
@@ -89,7 +92,7 @@ fn look_after<R: Threads + Wait + Clock + Eprint + Sync, C: Ticks>(
         || -> ()
             requires { cells ≡ shared.now.front.now.cells }
         { sweep_to_the_end(shared, cells, ended) },
-        || keep_to_the_end(shared, cells, &mut reloading, ended),
+        || keep_to_the_end(shared, cells, &mut reloading, &mut keeper, ended),
     );
 }
 
@@ -175,11 +178,12 @@ fn sweep_to_the_end<R: Wait + Clock, C: Ticks>(
 }
 
 /// Looks after the server's files, round by round, until the end: whether it is to end, whether the
-/// logins have changed, and what is told of it.
+/// logins have changed, its journal, and what is told of it.
 fn keep_to_the_end<R: Wait + Clock + Eprint, C: Ticks>(
     shared: &Shared<'_, R, C>,
     cells: usize,
     reloading: &mut Reloading<'_>,
+    keeper: &mut Option<Keeper>,
     ended: &AtomicBool,
 ) {
     if !shared.board.start.is_made(shared.rt) {
@@ -187,12 +191,16 @@ fn keep_to_the_end<R: Wait + Clock + Eprint, C: Ticks>(
     }
     let mut telling = Telling::new(shared.upkeep);
     for _ in shared.rt.forever() {
+        let is_last = ended.load(Ordering::SeqCst);
         if shared.upkeep.is_over() {
             shared.board.over.store(true, Ordering::SeqCst);
         }
         reload(shared, reloading);
-        telling.tell(shared, cells);
-        if ended.load(Ordering::SeqCst) {
+        if let Some(keeper) = keeper {
+            keeper.keep(shared, cells, is_last);
+        }
+        telling.tell(shared, cells, keeper.as_ref());
+        if is_last {
             return;
         }
         thread::sleep(shared.rt, Duration::from_millis(REST));

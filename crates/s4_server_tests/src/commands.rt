@@ -123,6 +123,7 @@ fn command_of<F: Files>(
             reload: 0,
             setup: None,
             status: None,
+            journal: None,
             settings: Settings::standard(),
         })),
     }

@@ -22,6 +22,8 @@ mod frames;
 #[cfg(test)]
 mod guesses;
 #[cfg(test)]
+mod journals;
+#[cfg(test)]
 mod patience;
 #[cfg(test)]
 mod reloads;

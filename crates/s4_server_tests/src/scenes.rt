@@ -84,13 +84,14 @@ pub enum Scene {
 }
 
 /// The paths of the file that ends the server, of that of its logins, of that in which it tells of itself,
-/// and of that which it carries out first.
+/// of that which it carries out first, and of the folder in which it keeps its history.
 #[derive(Drop)]
 pub struct Paths<'a> {
     pub end: &'a str,
     pub logins: &'a str,
     pub status: &'a str,
     pub setup: &'a str,
+    pub journal: &'a str,
 }
 
 /// What the peers are sent in their order, and a connection that is still open.

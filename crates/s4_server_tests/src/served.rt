@@ -340,3 +340,47 @@ fn what_no_reply_needs_any_more_is_cut(rt: HostRuntime) -> Result<(), Fail> {
         },
     )
 }
+
+#[test]
+fn a_journal_has_what_was_recorded(rt: HostRuntime) -> Result<(), Fail> {
+    check(
+        &rt,
+        &rt,
+        &Row {
+            workers: 2,
+            connections: 4,
+            keeps: true,
+            scene: Scene::Say(&[
+                &[HELLO, CREATE, CUT_WRITE],
+                &[b"\x00\x00\x00\x00"],
+                &[WRONG_HELLO],
+                &[HELLO, WRITE, READ],
+            ]),
+            sent: Sent::Pieces(&[
+                &[WELCOME, MADE],
+                &[BAD_LENGTH],
+                &[BAD_LOGIN],
+                &[WELCOME, DONE, DATA],
+            ]),
+            records: (3, 3),
+            ..PLAIN
+        },
+    )
+}
+
+#[test]
+fn a_journal_has_all_of_a_server_that_is_ended(rt: HostRuntime) -> Result<(), Fail> {
+    check(
+        &rt,
+        &rt,
+        &Row {
+            connections: 9,
+            idle: 60000,
+            keeps: true,
+            scene: Scene::LateHearing,
+            sent: Sent::EachRecorded,
+            records: (4, 20002),
+            ..PLAIN
+        },
+    )
+}

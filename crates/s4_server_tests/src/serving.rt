@@ -1,8 +1,9 @@
 //! How a drive is served over TCP while its peers do what they do.
 
 use crate::frames::{DATA, DONE, MADE, WELCOME};
+use crate::journals::check_journal;
 use crate::scenes::{ADDRESS, Heard, PAUSE, Paths, Scene, TRIES, play};
-use s4_command::{Patience, Service, Settings};
+use s4_command::{Journal, Patience, Service, Settings};
 use s4_commands::{Fault, serve_on};
 use s4_script::parse_number;
 use s4_server::{Stopwatch, Ticks};
@@ -35,6 +36,8 @@ pub struct Row {
     pub setup: &'static str,
     pub open: u32,
     pub cuts: bool,
+    /// Whether it keeps its history in a folder, which then has all of it.
+    pub keeps: bool,
     pub scene: Scene,
     /// What the peers are sent, in their order.
     pub sent: Sent,
@@ -52,6 +55,7 @@ pub const PLAIN: Row = Row {
     setup: "",
     open: 1024,
     cuts: false,
+    keeps: false,
     scene: Scene::Silent,
     sent: Sent::Count(0),
     records: (1, 1),
@@ -95,6 +99,7 @@ fn service_of(alloc: Global, row: &Row, paths: &Paths<'_>) -> Result<Service, Fa
         reload: RELOAD,
         setup: Some(String::from_str(alloc, paths.setup)?),
         status: Some(String::from_str(alloc, paths.status)?),
+        journal: journal_of(alloc, row, paths)?,
         until: Some(String::from_str(alloc, paths.end)?),
         settings: Settings {
             window: 100,
@@ -110,6 +115,17 @@ fn service_of(alloc: Global, row: &Row, paths: &Paths<'_>) -> Result<Service, Fa
             cuts: row.cuts,
         },
     })
+}
+
+fn journal_of(alloc: Global, row: &Row, paths: &Paths<'_>) -> Result<Option<Journal>, Fail> {
+    if !row.keeps {
+        return Ok(None);
+    }
+    let folder = String::from_str(alloc, paths.journal)?;
+    Ok(Some(Journal {
+        folder,
+        syncs: true,
+    }))
 }
 
 /// Has the port.
@@ -251,11 +267,13 @@ pub fn check<
     let logins = format!(in alloc; "/tmp/s4d_logins_{id}")?;
     let status = format!(in alloc; "/tmp/s4d_status_{id}")?;
     let setup = format!(in alloc; "/tmp/s4d_begin_{id}")?;
+    let journal = format!(in alloc; "/tmp/s4d_journal_{id}")?;
     let paths = Paths {
         end: end.as_str(),
         logins: logins.as_str(),
         status: status.as_str(),
         setup: setup.as_str(),
+        journal: journal.as_str(),
     };
     let _ = fs::remove_file(files, paths.end);
     fs::write(files, paths.logins, LOGINS)?;
@@ -268,5 +286,8 @@ pub fn check<
     }
     let served = str::from_utf8(&told.served);
     assert!(rt; is_told(&told, row), "{served:?}");
+    if row.keeps {
+        check_journal(rt, files, paths.journal, records_of(told.served.as_slice()))?;
+    }
     Ok(())
 }

@@ -42,6 +42,7 @@ fn service_of(alloc: Global, setup: &str, status: Option<&str>) -> Result<Comman
         reload: 0,
         setup: Some(String::from_str(alloc, setup)?),
         status,
+        journal: None,
         settings: Settings::standard(),
     }))
 }
