@@ -1,5 +1,5 @@
-//! Tests of journals: against bytes that another program made, cut anywhere, changed anywhere, and
-//! of what no block holds.
+//! Tests of journals: against bytes that another program made, cut anywhere, changed anywhere, on
+//! disks that are full at any byte, and of what no block holds.
 #![tactic(auto)]
 
 #[cfg(test)]
@@ -8,5 +8,7 @@ mod example;
 mod limits;
 #[cfg(test)]
 mod read;
+#[cfg(test)]
+mod scribe;
 #[cfg(test)]
 mod write;
