@@ -102,9 +102,9 @@ fn serve(alloc: Global, words: &ArgMatches) -> Result<Command, WordsFault> {
     };
     let address = String::from_str(alloc, word(words, ADDRESS))?;
     let logins = String::from_str(alloc, word(words, LOGINS))?;
-    let until = path(alloc, words, UNTIL)?;
-    let setup = path(alloc, words, SETUP)?;
-    let status = path(alloc, words, STATUS)?;
+    let until = path(alloc, words, UNTIL, "FILE")?;
+    let setup = path(alloc, words, SETUP, "FILE")?;
+    let status = path(alloc, words, STATUS, "FILE")?;
     let journal = journal(alloc, words)?;
     let reload = number(alloc, words, RELOAD, 0, u64::MAX)?;
     Ok(Command::Serve(Service {
@@ -132,7 +132,7 @@ fn journal(alloc: Global, words: &ArgMatches) -> Result<Option<Journal>, WordsFa
             return Err(WordsFault::Wrong(text));
         }
     };
-    match path(alloc, words, JOURNAL)? {
+    match path(alloc, words, JOURNAL, "FOLDER")? {
         Some(_) if words.get_flag(CUT) => Err(WordsFault::wrong(
             alloc,
             "error: the argument '--journal <FOLDER>' cannot be used with '--cut'\n\n\
@@ -143,12 +143,18 @@ fn journal(alloc: Global, words: &ArgMatches) -> Result<Option<Journal>, WordsFa
     }
 }
 
-/// The path behind a flag, where that is given.
-fn path(alloc: Global, words: &ArgMatches, flag: &str) -> Result<Option<String>, WordsFault> {
+/// The path of a file or a folder behind a flag, where that is given.
+fn path(
+    alloc: Global,
+    words: &ArgMatches,
+    flag: &str,
+    named: &str,
+) -> Result<Option<String>, WordsFault> {
     match words.get_str(flag) {
         Some("") => {
             let text = format!(in alloc;
-                "error: invalid value for '--{flag} <FILE>': it is no path\n\nFor more information, try '--help'."
+                "error: invalid value for '--{flag} <{named}>': it is no path\n\n\
+                 For more information, try '--help'."
             )?;
             Err(WordsFault::Wrong(text))
         }

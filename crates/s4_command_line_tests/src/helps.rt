@@ -91,6 +91,8 @@ Options:
       --until <FILE>      It ends once there is this file
       --setup <FILE>      It carries out the lines of this file before it listens
       --status <FILE>     It tells of itself in this file each second, as JSON
+      --journal <FOLDER>  It keeps its history in this folder
+      --sync <WHEN>       When the system writes the journal to where it lasts: second or never [default: second]
   -h, --help              Print help
 
 Example: s4d serve 127.0.0.1:4710 examples/first.logins

@@ -216,6 +216,18 @@ pub const FLAGS: &[Row] = &[
         Refused("invalid value for '--status <FILE>': it is no path"),
     ),
     Row(
+        b"s4d|serve|nowhere|first.logins|--journal|",
+        Refused("invalid value for '--journal <FOLDER>': it is no path"),
+    ),
+    Row(
+        b"s4d|serve|nowhere|first.logins|--sync|often",
+        Refused("invalid value 'often' for '--sync <WHEN>': it isn't second or never"),
+    ),
+    Row(
+        b"s4d|serve|nowhere|first.logins|--journal|kept|--cut",
+        Refused("the argument '--journal <FOLDER>' cannot be used with '--cut'"),
+    ),
+    Row(
         b"s4d|serve|nowhere|first.logins|--open|0",
         Refused("invalid value for '--open <N>': it isn't a number from 1 to 4294967295"),
     ),

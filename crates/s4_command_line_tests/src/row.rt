@@ -70,6 +70,9 @@ pub enum Wanted {
     /// The same with the greatest settings, but for the least number of open connections, and with the
     /// files `end`, `begin` and `told` of `a folder`, each for its flag.
     GreatestServer,
+    /// They ask for the server without flags, which keeps its history in `a folder/kept`, and syncs it or
+    /// doesn't.
+    KeepingServer(bool),
     /// They ask for a call at `nowhere` as this principal and client, with the secret of bytes 0
     /// to 15.
     Call(u32, u32, Asked),
@@ -180,10 +183,16 @@ fn is_command(alloc: Global, command: &Command, wanted: &Wanted) -> Result<bool,
         (Command::Hall(path), Wanted::Hall(wanted)) => Ok(path.as_str() == *wanted),
         (Command::Strike(who), Wanted::Strike(wanted)) => Ok(who.number() == *wanted),
         (Command::Serve(service), Wanted::StandardServer) => {
-            Ok(is_service(service, &STANDARD, 0, &[None; 3]))
+            Ok(service.journal.is_none() && is_service(service, &STANDARD, 0, &[None; 3]))
         },
         (Command::Serve(service), Wanted::GreatestServer) => {
-            Ok(is_service(service, &GREATEST, u64::MAX, &FILES))
+            Ok(service.journal.is_none() && is_service(service, &GREATEST, u64::MAX, &FILES))
+        },
+        (Command::Serve(service), Wanted::KeepingServer(syncs)) => {
+            let keeps = service.journal.as_ref().is_some_and(|journal| {
+                journal.syncs == *syncs && journal.folder.as_str() == "a folder/kept"
+            });
+            Ok(keeps && is_service(service, &STANDARD, 0, &[None; 3]))
         },
         (Command::Call(call), Wanted::Call(who, client, asked)) => {
             Ok(*call == call_of(alloc, *who, *client, asked)?)

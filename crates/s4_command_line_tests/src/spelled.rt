@@ -4,7 +4,8 @@ use crate::helps::{CALL_HELP, HALL_HELP, HELP, HISTORY_HELP, RUN_HELP, SERVE_HEL
 use crate::row::Asked::{Create, Read, Write};
 use crate::row::Row;
 use crate::row::Wanted::{
-    Call, Checked, GreatestServer, Hall, Listed, PatientCall, Run, Show, StandardServer, Strike,
+    Call, Checked, GreatestServer, Hall, KeepingServer, Listed, PatientCall, Run, Show,
+    StandardServer, Strike,
 };
 
 /// The flags of the greatest server.
@@ -58,6 +59,14 @@ pub const HISTORIES: &[Row] = &[
 pub const SERVERS: &[Row] = &[
     Row(b"s4d|serve|127.0.0.1:4710|first.logins", StandardServer),
     Row(GREATEST_WORDS, GreatestServer),
+    Row(
+        b"s4d|serve|127.0.0.1:4710|first.logins|--journal|a folder/kept",
+        KeepingServer(true),
+    ),
+    Row(
+        b"s4d|serve|127.0.0.1:4710|first.logins|--journal|a folder/kept|--sync|never",
+        KeepingServer(false),
+    ),
 ];
 
 /// Calls, among them those of the least and the greatest numbers, and of a secret in upper case.
