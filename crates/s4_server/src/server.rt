@@ -1,6 +1,6 @@
 //! The server.
 
-ghost use Rattle.std.specs.Prelude.{◌≡◌, ◌==◌, ℕ, false, IfOk, IsTrue};
+ghost use Rattle.std.specs.Prelude.{◌≡◌, ◌==◌, ℕ, false, true, IfOk, IsTrue};
 ghost use Rattle.s4_types.specs.Base.{opened};
 ghost use Rattle.s4_types.specs.Limits.{is_within_limits};
 ghost use Rattle.s4_types.specs.Play.{replies};
@@ -22,6 +22,7 @@ use crate::threads::{Shared, serve_all};
 use crate::upkeep::{Reloading, Upkeep};
 use crate::watch::Watch;
 use crate::workers::{gather, staff};
+use s4_cells::Cell;
 use s4_command::Settings;
 use s4_jobs::{Jobs, Seat};
 use s4_merge::none_went;
@@ -193,11 +194,19 @@ impl Server {
             Ok(closed) => closed,
             Err(fault) => return Err(ServerFault::of(fault.why)),
         };
-        if !settings.cuts && !none_went(&closed.cells) {
+        let cells = closed.cells.as_slice();
+        if !is_as_wanted(cells, settings.cuts) {
             return Err(ServerFault::Torn);
         }
         Ok(closed)
     }
+}
+
+/// Whether no record of any cell went, or records were to go.
+fn is_as_wanted(cells: &[Cell], cuts: bool) -> bool
+    ensures { result ≡ true → cuts ≡ false → NoneWent cells.now }
+{
+    cuts || none_went(cells)
 }
 
 /// The port at which it is listened; 0 where that can't be told.

@@ -1,5 +1,6 @@
-use Rattle.std.proofs.Common.{List, ap, subst, sym}
+use Rattle.std.proofs.Common.{List, ap, subst, sym, ◌∙◌}
 use Rattle.s4_calls.specs.Calls.{CallList}
+use Rattle.s4_merge.specs.Order.{NoneWent}
 use Rattle.s4_pool.specs.Numbers.{HasAll}
 use Rattle.s4_server.specs.Setup.{Setup}
 use Rattle.s4_server.proofs.server.Server.run.Goals as goal
@@ -10,3 +11,8 @@ returns-clause-there g c =
     let opened = subst (λ n. HasAll n c.in_ok-passes.passes.items) c.self.invariant.2 c.in-Ok.ensures.there in
     let there = subst (λ n. HasAll n c.in_ok-passes.passes.items) workers opened in
     subst (λ (p : List CallList). HasAll c.args.self.workers p) (sym c.in-Ok.ensures.passes) there
+
+pub returns-clause-uncut : goal.returns-clause-uncut
+returns-clause-uncut g c uncut =
+    let cuts = ap (λ (s : Setup). s.cuts) c.self.view_is in
+    subst NoneWent c.as_slice-cells.ensures.value (c.is_as_wanted.ensures c.if-not-is_as_wanted.false (cuts ∙ uncut))
