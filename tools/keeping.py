@@ -20,6 +20,26 @@ WINDOW = 400
 ROUND = 0.5
 
 
+# Programs that do as the right one does, but for these words: what is put behind what they write.
+PLANTED = {
+    "a script without its third line": ('"$1 $2" = "history script"', "sed 3d"),
+    "a script whose requests are another principal's": ('"$1 $2" = "history script"', "sed 's/ 7 / 8 /'"),
+    "a run that replies otherwise": ('"$1" = run', "sed 's/^done$/no-memory/'"),
+    "a strike that leaves a line out": ('"$1" = strike', "sed '$d'"),
+    "a check that finds nothing sound": ('"$1 $2" = "history check"', "sed '$d'"),
+    "a server that counts one record more": ('"$1" = serve', "sed 's/^closed /closed 1/'"),
+}
+
+
+def planted(program, mistake, path):
+    """A program at this path that makes the mistake."""
+    where, what = mistake
+    right = Path(program).resolve()
+    path.write_text(f'#!/bin/sh\nif [ {where} ]; then {right} "$@" | {what}; else exec {right} "$@"; fi\n', encoding="utf-8")
+    path.chmod(0o755)
+    return path
+
+
 class Wrong(Exception):
     """What a journal tells wrongly."""
 
