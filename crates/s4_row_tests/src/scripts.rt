@@ -61,10 +61,14 @@ fn tell_at_once(alloc: Global, script: &str, told: &mut String) -> Result<(), Ru
     tell_lines(alloc, &mut drive, lines, told)
 }
 
-/// The window that the first line of a script names.
+/// The window that the first line of a script names; 0 where there is none.
 fn window_of(alloc: Global, script: &str) -> Result<u64, RunFault> {
-    let first = script.lines().next().unwrap_or("");
-    parse_window(alloc, first.as_bytes()).map_err(|why| RunFault::parsing(why, 1))
+    match script.lines().next() {
+        Some(first) => {
+            parse_window(alloc, first.as_bytes()).map_err(|why| RunFault::parsing(why, 1))
+        }
+        None => Ok(0),
+    }
 }
 
 /// What the lines of a script after its first ask for.
