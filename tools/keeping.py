@@ -27,7 +27,7 @@ PLANTED = {
     "a run that replies otherwise": ('"$1" = run', "sed 's/^done$/no-memory/'"),
     "a strike that leaves a line out": ('"$1" = strike', "sed '$d'"),
     "a check that finds nothing sound": ('"$1 $2" = "history check"', "sed '$d'"),
-    "a server that counts one record more": ('"$1" = serve', "sed 's/^closed /closed 1/'"),
+    "a server that counts one record more": ('"$1" = serve', "sed -u 's/^closed /closed 1/'"),
 }
 
 
