@@ -96,7 +96,7 @@ def told(program, *words, script=None):
     """What the program writes; it has to succeed."""
     done = subprocess.run([program, *words], input=script, capture_output=True, text=True, check=False)
     if done.returncode != 0:
-        raise Wrong(f"{' '.join(words)}: status {done.returncode}: {done.stderr.strip()} behind {done.stdout[-200:]!r}")
+        raise Wrong(f"{' '.join(map(str, words))}: status {done.returncode}: {done.stderr.strip()} behind {done.stdout[-200:]!r}")
     return done.stdout
 
 
