@@ -1,6 +1,9 @@
-//! Who asks in the cases, and for which object.
+//! What is asked in the cases, as lines of scripts say it, and whether a reply is what a line says.
 
-use s4_types::{Caller, ObjectId, Principal, Purse, PurseNo, Serial, WireVersion};
+use s4_pool::Asked;
+use s4_script::{Line, ParseError, ReplyText, parse_line};
+use s4_types::{Reply, Step};
+use std::alloc::{AllocError, Global};
 use std::io;
 use std::io::ErrorKind;
 
@@ -9,30 +12,34 @@ pub fn invalid() -> io::Error {
     io::Error::from(ErrorKind::InvalidData)
 }
 
-pub fn caller(who: u32, client: u32) -> io::Result<Caller> {
-    let version = WireVersion::One;
-    match Principal::new(who) {
-        Some(who) => Ok(Caller {
-            who,
-            client,
-            version,
-        }),
-        None => Err(invalid()),
+pub fn error_of(error: ParseError) -> io::Error {
+    match error {
+        ParseError::Bad => invalid(),
+        ParseError::NoMemory => io::Error::from(AllocError),
     }
 }
 
-pub fn purse(creator: u32, number: u8) -> io::Result<Purse> {
-    match (Principal::new(creator), PurseNo::new(number)) {
-        (Some(creator), Some(number)) => Ok(Purse { creator, number }),
+/// Who asks in a line, at which moment, and for what.
+pub fn asked(alloc: Global, line: &str) -> io::Result<Asked> {
+    let line = parse_line(alloc, line.as_bytes()).map_err(error_of)?;
+    match &line {
+        Line::Step(
+            Step::Request {
+                moment,
+                caller,
+                request,
+            },
+        ) => Ok(Asked {
+            caller: *caller,
+            clock: *moment,
+            request: request.copy()?,
+        }),
         _ => Err(invalid()),
     }
 }
 
-/// The object with that serial in the creator's first purse.
-pub fn object(creator: u32, serial: u16) -> io::Result<ObjectId> {
-    let purse = purse(creator, 0)?;
-    match Serial::new(serial) {
-        Some(serial) => Ok(ObjectId { purse, serial }),
-        None => Err(invalid()),
-    }
+/// Whether a reply is what the line says.
+pub fn is_told(alloc: Global, reply: &Reply, line: &str) -> io::Result<bool> {
+    let text = format!(in alloc; "{}", ReplyText(reply))?;
+    Ok(text.as_str() == line)
 }

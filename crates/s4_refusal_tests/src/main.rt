@@ -5,8 +5,10 @@
 #![tactic(auto)]
 
 mod asked;
+mod calls;
 mod case;
 mod fronts;
+mod lent;
 mod many;
 mod pieces;
 mod reads;
@@ -15,7 +17,8 @@ mod steps;
 mod windows;
 
 use crate::case::Case;
-use crate::windows::Before;
+use crate::fronts::Marked;
+use crate::lent::Served;
 use std::sync::Wait;
 use std::{env, io};
 
@@ -33,16 +36,10 @@ enum Called {
     Feed(usize),
     /// A hall hears a stream, a frame at a time. Its requests are those of the row three_calls_at_five.
     Arrive,
-    /// A front of five cells serves seven requests.
-    Serve,
-    /// It is closed.
-    Close,
-    /// A front serves four thousand requests by one pass.
-    ServeMany,
-    /// A front serves two thousand reads of so many bytes of one value.
-    ReadMany(u32),
-    /// A front of two cells serves a SetWindow, behind such requests.
-    SetWindow(Before),
+    /// A front of five cells serves seven requests, and is closed.
+    Front(Marked),
+    /// A front of two cells serves these.
+    Lent(Served),
 }
 
 const CASES: [(&str, Called); 26] = [
@@ -89,13 +86,19 @@ const CASES: [(&str, Called); 26] = [
     ("feed_pieces_of_3", Called::Feed(3)),
     ("feed_pieces_of_64", Called::Feed(64)),
     ("arrive", Called::Arrive),
-    ("serve", Called::Serve),
-    ("close", Called::Close),
-    ("serve_many", Called::ServeMany),
-    ("read_whole_values", Called::ReadMany(4096)),
-    ("read_single_bytes", Called::ReadMany(1)),
-    ("set_window_over_none", Called::SetWindow(Before::Reads)),
-    ("set_window_over_values", Called::SetWindow(Before::Creates)),
+    ("serve", Called::Front(Marked::Calls)),
+    ("close", Called::Front(Marked::Closing)),
+    ("serve_many", Called::Lent(Served::Many)),
+    ("read_whole_values", Called::Lent(Served::Reads(4096))),
+    ("read_single_bytes", Called::Lent(Served::Reads(1))),
+    (
+        "set_window_over_none",
+        Called::Lent(Served::SetWindow("0 7 read 7.0.1 0 1", "0 8 read 8.0.1 0 1")),
+    ),
+    (
+        "set_window_over_values",
+        Called::Lent(Served::SetWindow("0 7 create 0", "0 8 create 0")),
+    ),
 ];
 
 fn main(rt: HostRuntime) -> io::Result<()> {
@@ -122,10 +125,7 @@ fn carry_out<R: Wait>(case: &mut Case, rt: &R, called: Called) -> io::Result<()>
         Called::Reserve(items, before, after) => rooms::reserve(case, items, before, after),
         Called::Feed(size) => pieces::feed(case, size),
         Called::Arrive => pieces::arrive(case),
-        Called::Serve => fronts::serve(case, rt),
-        Called::Close => fronts::close(case, rt),
-        Called::ServeMany => many::serve(case, rt),
-        Called::ReadMany(length) => reads::read(case, rt, length),
-        Called::SetWindow(before) => windows::set(case, rt, before),
+        Called::Front(marked) => fronts::serve(case, rt, marked),
+        Called::Lent(served) => lent::serve(case, rt, served),
     }
 }

@@ -1,69 +1,47 @@
 //! Many reads of one value by one pass. What they hold in the end is measured (`tools/calls.py`): a
 //! read leaves its record and its receipt, and no copy of the value.
 
-use crate::asked::{caller, object, purse};
+use crate::asked::asked;
+use crate::calls::ask;
 use crate::case::Case;
-use s4_pool::{Front, OpenGate, Pass};
-use s4_types::{Bytes, Caller, Moment, Reply, Request};
-use std::alloc::Global;
+use s4_pool::{Asked, Front, OpenGate, Pass};
+use s4_types::{Moment, Reply};
 use std::io;
 use std::sync::Wait;
 
-/// How many bytes the value has.
-const BYTES: usize = 4096;
-
-/// How often it is read.
+/// How often the value is read.
 const READS: u64 = 2000;
 
 /// Reads the first so many bytes of the value again and again. The reads are what is marked, all at
 /// once.
-pub fn read<R: Wait>(case: &mut Case, rt: &R, length: u32) -> io::Result<()> {
-    let (front, mut passes) = Front::open(case.alloc(), 100, 2, 1, OpenGate)?;
-    let create = create()?;
-    let write = write(case.alloc())?;
-    let read = read_of(length)?;
-    for pass in &mut passes {
-        make(case, rt, &front, pass, &create);
-        make(case, rt, &front, pass, &write);
-    }
+pub fn read<R: Wait>(
+    case: &mut Case,
+    rt: &R,
+    front: &Front<OpenGate>,
+    pass: &mut Pass,
+    length: u32,
+) -> io::Result<()> {
+    write(case, rt, front, pass)?;
+    let line = format!(in case.alloc(); "0 7 read 7.0.1 0 {length}")?;
+    let mut asked = asked(case.alloc(), line.as_str())?;
     case.begins();
-    for pass in &mut passes {
-        read_all(case, rt, &front, pass, &read);
-    }
+    read_all(case, rt, front, pass, &mut asked);
     case.ends();
     Ok(())
 }
 
-/// Principal 7 makes an object.
-fn create() -> io::Result<(Caller, Request)> {
-    let number = purse(7, 0)?.number;
-    let create = Request::Create { number };
-    Ok((caller(7, 0)?, create))
-}
-
-/// They write the value.
-fn write(alloc: Global) -> io::Result<(Caller, Request)> {
-    let bytes = Bytes::from_vec(Vec::from_elem(alloc, 0x61, BYTES)?)?;
-    let object = object(7, 1)?;
-    let by = caller(7, 0)?;
-    let offset = 0;
-    let write = Request::Write {
-        object,
-        offset,
-        bytes,
-    };
-    Ok((by, write))
-}
-
-/// They read so many bytes of it.
-fn read_of(length: u32) -> io::Result<(Caller, Request)> {
-    let read = Request::Read {
-        object: object(7, 1)?,
-        offset: 0,
-        length,
-        at: None,
-    };
-    Ok((caller(7, 0)?, read))
+/// Principal 7 makes an object, and writes a value of 4096 bytes to it.
+fn write<R: Wait>(
+    case: &mut Case,
+    rt: &R,
+    front: &Front<OpenGate>,
+    pass: &mut Pass,
+) -> io::Result<()> {
+    let zeros = format!(in case.alloc(); "0 7 write 7.0.1 0 {:08192}", 0)?;
+    for line in ["0 7 create 0", zeros.as_str()] {
+        make(case, rt, front, pass, line)?;
+    }
+    Ok(())
 }
 
 fn make<R: Wait>(
@@ -71,10 +49,12 @@ fn make<R: Wait>(
     rt: &R,
     front: &Front<OpenGate>,
     pass: &mut Pass,
-    asked: &(Caller, Request),
-) {
-    let reply = front.serve(rt, pass, asked.0, Moment::new(0), &asked.1);
+    line: &str,
+) -> io::Result<()> {
+    let asked = asked(case.alloc(), line)?;
+    let reply = ask(rt, front, pass, &asked);
     case.check(!matches!(reply, Reply::Refused(_)), "there is no value");
+    Ok(())
 }
 
 /// Makes all reads, at a moment more each.
@@ -83,10 +63,11 @@ fn read_all<R: Wait>(
     rt: &R,
     front: &Front<OpenGate>,
     pass: &mut Pass,
-    asked: &(Caller, Request),
+    asked: &mut Asked,
 ) {
     for clock in 0..READS {
-        let reply = front.serve(rt, pass, asked.0, Moment::new(clock), &asked.1);
+        asked.clock = Moment::new(clock);
+        let reply = ask(rt, front, pass, asked);
         case.check(matches!(reply, Reply::Data { .. }), "another reply");
     }
 }

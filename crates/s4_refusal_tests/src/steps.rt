@@ -1,14 +1,14 @@
 //! The requests of a row, given to a drive one by one. Where one is answered that there was no
 //! memory, the drive is as before, and the same request then gets the row's reply.
 
-use crate::asked::{invalid, purse};
+use crate::asked::{asked, error_of, invalid};
 use crate::case::Case;
 use s4_arena::Arena;
 use s4_drive::Drive;
-use s4_script::{Line, ParseError, ReplyText, parse_line, parse_window};
+use s4_pool::Asked;
+use s4_script::{ReplyText, parse_window};
 use s4_store::{PlainStore, Store};
-use s4_types::{Caller, Moment, Refusal, Reply, Request, Step, Version};
-use std::alloc::AllocError;
+use s4_types::{Moment, Principal, Purse, PurseNo, Refusal, Reply, Version};
 use std::{fs, io};
 
 pub fn over_plain_store(case: &mut Case, row: &str) -> io::Result<()> {
@@ -30,13 +30,6 @@ pub fn over_arena(case: &mut Case, row: &str) -> io::Result<()> {
 fn text(case: &Case, row: &str, kind: &str) -> io::Result<String> {
     let path = format!(in case.alloc(); "{row}.{kind}")?;
     fs::read_to_string(case.rt, path.as_str())
-}
-
-fn error_of(error: ParseError) -> io::Error {
-    match error {
-        ParseError::Bad => invalid(),
-        ParseError::NoMemory => io::Error::from(AllocError),
-    }
 }
 
 /// The window that a script's first line names.
@@ -67,40 +60,21 @@ fn give<S: Store<Version>>(
     line: &str,
     told: &mut String,
 ) -> io::Result<()> {
-    let line = parse_line(case.alloc(), line.as_bytes()).map_err(error_of)?;
-    let reply = reply_to(case, drive, &line)?;
+    let asked = asked(case.alloc(), line)?;
+    let reply = replied(case, drive, &asked)?;
     let text = format!(in case.alloc(); "{}\n", ReplyText(&reply))?;
     told.push_str(text.as_str())?;
     Ok(())
-}
-
-/// The reply to the request of a line.
-fn reply_to<S: Store<Version>>(
-    case: &mut Case,
-    drive: &mut Drive<S>,
-    line: &Line,
-) -> io::Result<Reply> {
-    match line {
-        Line::Step(
-            Step::Request {
-                moment,
-                caller,
-                request,
-            },
-        ) => replied(case, drive, (*moment, *caller), request),
-        _ => Err(invalid()),
-    }
 }
 
 /// The reply to a request, which is given again where there was no memory.
 fn replied<S: Store<Version>>(
     case: &mut Case,
     drive: &mut Drive<S>,
-    asked: (Moment, Caller),
-    request: &Request,
+    asked: &Asked,
 ) -> io::Result<Reply> {
     let before = stand_of(drive)?;
-    let reply = step(case, drive, asked, request)?;
+    let reply = step(case, drive, asked)?;
     if !is_no_memory(&reply) {
         let is_longer = drive.history().len() > before.records;
         case.check(is_longer, "a request left no record");
@@ -112,7 +86,7 @@ fn replied<S: Store<Version>>(
         "without memory the drive changed",
     );
     case.is_marking = false;
-    let reply = step(case, drive, asked, request);
+    let reply = step(case, drive, asked);
     case.is_marking = true;
     reply
 }
@@ -122,15 +96,10 @@ pub fn is_no_memory(reply: &Reply) -> bool {
 }
 
 /// The call that the case is about.
-fn step<S: Store<Version>>(
-    case: &Case,
-    drive: &mut Drive<S>,
-    (moment, caller): (Moment, Caller),
-    request: &Request,
-) -> io::Result<Reply> {
-    if drive.last() <= moment {
+fn step<S: Store<Version>>(case: &Case, drive: &mut Drive<S>, asked: &Asked) -> io::Result<Reply> {
+    if drive.last() <= asked.clock {
         case.begins();
-        let reply = drive.step(moment, caller, request);
+        let reply = drive.step(asked.clock, asked.caller, &asked.request);
         case.ends();
         Ok(reply)
     } else {
@@ -161,6 +130,8 @@ fn stand_of<S: Store<Version>>(drive: &Drive<S>) -> io::Result<Stand> {
 }
 
 fn spent<S: Store<Version>>(drive: &Drive<S>, (creator, number): (u32, u8)) -> io::Result<u32> {
-    let purse = purse(creator, number)?;
-    Ok(drive.spent(&purse))
+    match (Principal::new(creator), PurseNo::new(number)) {
+        (Some(creator), Some(number)) => Ok(drive.spent(&Purse { creator, number })),
+        _ => Err(invalid()),
+    }
 }

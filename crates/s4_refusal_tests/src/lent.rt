@@ -1,0 +1,41 @@
+//! Cases of one front with two cells and one pass, which it lends to them.
+
+use crate::asked::invalid;
+use crate::case::Case;
+use crate::{many, reads, windows};
+use s4_pool::{Front, OpenGate, Pass};
+use std::io;
+use std::sync::Wait;
+
+/// What the front serves.
+#[derive(Clone, Copy)]
+pub enum Served {
+    /// Four thousand requests.
+    Many,
+    /// Two thousand reads of so many bytes of one value.
+    Reads(u32),
+    /// A SetWindow, behind requests of these lines.
+    SetWindow(&'static str, &'static str),
+}
+
+pub fn serve<R: Wait>(case: &mut Case, rt: &R, served: Served) -> io::Result<()> {
+    let (front, mut passes) = Front::open(case.alloc(), 100, 2, 1, OpenGate)?;
+    match passes.first_mut() {
+        Some(pass) => lend(case, rt, &front, pass, served),
+        None => Err(invalid()),
+    }
+}
+
+fn lend<R: Wait>(
+    case: &mut Case,
+    rt: &R,
+    front: &Front<OpenGate>,
+    pass: &mut Pass,
+    served: Served,
+) -> io::Result<()> {
+    match served {
+        Served::Many => many::serve(case, rt, front, pass),
+        Served::Reads(length) => reads::read(case, rt, front, pass, length),
+        Served::SetWindow(first, second) => windows::set(case, rt, front, pass, (first, second)),
+    }
+}
