@@ -1,0 +1,52 @@
+"""Mistakes that are planted in a copy of the pictures, to see that each is found."""
+import shutil
+import tempfile
+from pathlib import Path
+
+from tools.pictures import CRATES, FOLDER, wrong_pictures
+
+OLDER, LACKS, WRONG, GROUP = "it is older than", "the arrow from {} to {} isn't there", "the arrow from {} to {} is no edge", "the group '{}' isn't"
+# What is put in the place of what in a file, and where which faults are found then.
+PLANTED = [
+    (CRATES, "s4_talk -> s4_stream", "s4_talk -> s4_codec", [
+        (CRATES, LACKS.format("s4_talk", "s4_stream")), (CRATES, WRONG.format("s4_talk", "s4_codec")), (f"{FOLDER}/crates.svg", OLDER)]),
+    (CRATES, "s4_judge -> s4_acl", "s4_judge -> s4_acl -> s4_store", [(CRATES, WRONG.format("s4_acl", "s4_store")), (f"{FOLDER}/crates.svg", OLDER)]),
+    (CRATES, "s4_judge -> s4_acl", "s4_judge -> { s4_acl s4_types }", [(CRATES, WRONG.format("s4_judge", "s4_types")), (f"{FOLDER}/crates.svg", OLDER)]),
+    (CRATES, "  s4_names -> s4_types", "  // s4_names -> s4_types", [(CRATES, LACKS.format("s4_names", "s4_types")), (f"{FOLDER}/crates.svg", OLDER)]),
+    (CRATES, "s4_laws -> s4_types", 's4_laws -> s4_types "s4_jobs" -> s4_types', [(CRATES, "an arrow stands in a form"), (f"{FOLDER}/crates.svg", OLDER)]),
+    ("crates.txt", "s4_jobs: ", "s4_jobs: s4_types ", [(CRATES, LACKS.format("s4_jobs", "s4_types"))]),
+    ("crates.txt", "s4_client: s4_types s4_codec s4_stream", "s4_client: s4_types s4_codec", [
+        (CRATES, LACKS.format("s4_client", "s4_codec")), (CRATES, LACKS.format("s4_command", "s4_stream")), (CRATES, WRONG.format("s4_client", "s4_stream"))]),
+    ("crates.txt", "# the hall\n", "", [(CRATES, GROUP.format("bytes and texts")), (CRATES, GROUP.format("the hall"))]),
+    (f"{FOLDER}/threads.dot", "puts", "hands", [(f"{FOLDER}/threads.svg", OLDER)]),
+    (f"{FOLDER}/request.svg", "<!-- SHA-256", "<!-- Sum", [(f"{FOLDER}/request.svg", OLDER)]),
+    ("docs/THREADS.md", "(pictures/threads.svg)", "(pictures/nothing.svg)", [(f"{FOLDER}/threads.svg", "no page shows it")]),
+]
+
+
+def faults_of_plant(room, before, plant):
+    """What isn't found once this is planted, and what else is found."""
+    file, old, new, wanted = plant
+    path = room / file
+    kept = path.read_text(encoding="utf-8")
+    path.write_text(kept.replace(old, new), encoding="utf-8")
+    found = [(it.file, it.fault) for it in wrong_pictures(room) if it not in before]
+    path.write_text(kept, encoding="utf-8")
+    for where, fault in wanted:
+        if old not in kept or not any(it[0] == where and it[1].startswith(fault) for it in found):
+            yield f"once {file} has {new!r} for {old!r}, {fault!r} isn't said of {where}"
+    for where, said in found:
+        if not any(it[0] == where and said.startswith(it[1]) for it in wanted):
+            yield f"once {file} has {new!r} for {old!r}, {said!r} is said of {where}"
+
+
+def self_test(root):
+    """Plants mistakes in a copy. Returns whether each is found, and nothing else."""
+    with tempfile.TemporaryDirectory(prefix="pictures-") as folder:
+        room = Path(folder)
+        shutil.copytree(root / "docs", room / "docs")
+        shutil.copy(root / "crates.txt", room)
+        before = wrong_pictures(room)
+        faults = [fault for plant in PLANTED for fault in faults_of_plant(room, before, plant)]
+    print("\n".join(f"pictures: {it}" for it in faults) or f"pictures: {len(PLANTED)} planted mistakes are found")
+    return not faults
