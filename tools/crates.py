@@ -37,7 +37,9 @@ class Repository:
             head, found, below = line.partition("#")[0].partition(":")
             if found:
                 self.crates[head.split()[0]] = below.split()
-        self.kit = subprocess.run(["rt", "version"], capture_output=True, text=True, check=True).stdout
+        version = subprocess.run(["rt", "version"], capture_output=True, text=True, check=True).stdout
+        # (what a check refuses goes by the kit's logic; its name says more)
+        self.kit = version.strip().partition(" ")[2]
 
     def folder(self, name):
         return self.root / "crates" / name

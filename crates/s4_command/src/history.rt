@@ -7,6 +7,8 @@ use s4_types::Moment;
 pub enum Telling {
     /// A line for each record.
     List,
+    /// A line of JSON for each record.
+    Json,
     /// Its records as a script.
     Script,
     /// Whether it is sound, and whether its last sum is this one, where one is named.

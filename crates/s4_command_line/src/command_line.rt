@@ -119,7 +119,7 @@ fn serve(alloc: Global, words: &ArgMatches) -> Result<Command, WordsFault> {
     }))
 }
 
-/// Where a server keeps its history. What is cut would be missing there.
+/// Where a server keeps its history.
 fn journal(alloc: Global, words: &ArgMatches) -> Result<Option<Journal>, WordsFault> {
     let syncs = match word(words, SYNC) {
         "second" => true,
@@ -133,11 +133,6 @@ fn journal(alloc: Global, words: &ArgMatches) -> Result<Option<Journal>, WordsFa
         }
     };
     match path(alloc, words, JOURNAL, "FOLDER")? {
-        Some(_) if words.get_flag(CUT) => Err(WordsFault::wrong(
-            alloc,
-            "error: the argument '--journal <FOLDER>' cannot be used with '--cut'\n\n\
-             For more information, try '--help'.",
-        )),
         Some(folder) => Ok(Some(Journal { folder, syncs })),
         None => Ok(None),
     }

@@ -1,6 +1,6 @@
 //! The words of a history.
 
-use crate::parser::{FOLDER, FROM, START, SUM, TELLING, TO};
+use crate::parser::{FOLDER, FROM, JSON, START, SUM, TELLING, TO};
 use clap::ArgMatches;
 use s4_command::{Command, History, Telling, WordsFault};
 use s4_script::parse_number;
@@ -32,8 +32,15 @@ fn telling(alloc: Global, words: &ArgMatches) -> Result<Telling, WordsFault> {
         Some(word) => Some(sum_in(alloc, word)?),
         None => None,
     };
+    let is_json = words.get_flag(JSON);
     match words.get_str(TELLING).unwrap_or_default() {
+        "list" if is_json => Ok(Telling::Json),
         "list" => Ok(Telling::List),
+        _ if is_json => Err(WordsFault::wrong(
+            alloc,
+            "error: the argument '--json' cannot be used but with 'list'\n\n\
+             For more information, try '--help'.",
+        )),
         "script" => Ok(Telling::Script),
         "check" => Ok(Telling::Check(sum)),
         word => {

@@ -87,6 +87,8 @@ pub const TO: &str = "to";
 
 pub const SUM: &str = "sum";
 
+pub const JSON: &str = "json";
+
 /// The flags of a server.
 pub const WINDOW: &str = "window";
 
@@ -361,8 +363,12 @@ fn history_parser<'a>(alloc: Global) -> Result<Parser<'a>, AllocError> {
     let sum = Arg::new(alloc, SUM)
         .long(SUM)
         .value_name("HEX")
-        .help("The last sum that check finds, as was told before");
-    parser.arg(start)?.arg(from)?.arg(to)?.arg(sum)
+        .help("A last sum that check has to find, as was told before");
+    let json = Arg::new(alloc, JSON)
+        .long(JSON)
+        .action(ArgAction::SetTrue)
+        .help("The list has lines of JSON, with connections and peers");
+    parser.arg(start)?.arg(from)?.arg(to)?.arg(sum)?.arg(json)
 }
 
 /// An argument that has to be given.

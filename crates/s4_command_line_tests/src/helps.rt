@@ -132,7 +132,8 @@ Options:
       --start <N>  The number of the start; else the newest, or all for check
       --from <N>   The first moment of which is told [default: 0]
       --to <N>     The last moment of which is told [default: 18446744073709551615]
-      --sum <HEX>  The last sum that check finds, as was told before
+      --sum <HEX>  A last sum that check has to find, as was told before
+      --json       The list has lines of JSON, with connections and peers
   -h, --help       Print help
 
 Example: s4d history list journal --from 60000

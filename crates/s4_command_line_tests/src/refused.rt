@@ -142,6 +142,10 @@ pub const FLAGS: &[Row] = &[
         ),
     ),
     Row(
+        b"s4d|history|check|kept|--json",
+        Refused("the argument '--json' cannot be used but with 'list'"),
+    ),
+    Row(
         b"s4d|history|check|kept|--sum|00",
         Refused("invalid value for '--sum <HEX>': it isn't 64 hexadecimal digits"),
     ),
@@ -222,10 +226,6 @@ pub const FLAGS: &[Row] = &[
     Row(
         b"s4d|serve|nowhere|first.logins|--sync|often",
         Refused("invalid value 'often' for '--sync <WHEN>': it isn't second or never"),
-    ),
-    Row(
-        b"s4d|serve|nowhere|first.logins|--journal|kept|--cut",
-        Refused("the argument '--journal <FOLDER>' cannot be used with '--cut'"),
     ),
     Row(
         b"s4d|serve|nowhere|first.logins|--open|0",

@@ -70,9 +70,9 @@ pub enum Wanted {
     /// The same with the greatest settings, but for the least number of open connections, and with the
     /// files `end`, `begin` and `told` of `a folder`, each for its flag.
     GreatestServer,
-    /// They ask for the server without flags, which keeps its history in `a folder/kept`, and syncs it or
-    /// doesn't.
-    KeepingServer(bool),
+    /// They ask for the server without flags, which keeps its history in `a folder/kept`, syncs it or
+    /// doesn't, and cuts or doesn't.
+    KeepingServer(bool, bool),
     /// They ask for a call at `nowhere` as this principal and client, with the secret of bytes 0
     /// to 15.
     Call(u32, u32, Asked),
@@ -80,6 +80,8 @@ pub enum Wanted {
     PatientCall(u32, u32, Asked, u64),
     /// They ask for a list of the start of this number in `a folder/kept`, between these moments.
     Listed(Option<u64>, u64, u64),
+    /// They ask for a list of the newest start in `a folder/kept`, as lines of JSON.
+    JsonListed,
     /// They ask whether the journals in `a folder/kept` are sound, and that their last sum is of the
     /// bytes 0 to 31.
     Checked,
@@ -188,11 +190,13 @@ fn is_command(alloc: Global, command: &Command, wanted: &Wanted) -> Result<bool,
         (Command::Serve(service), Wanted::GreatestServer) => {
             Ok(service.journal.is_none() && is_service(service, &GREATEST, u64::MAX, &FILES))
         },
-        (Command::Serve(service), Wanted::KeepingServer(syncs)) => {
+        (Command::Serve(service), Wanted::KeepingServer(syncs, cuts)) => {
             let keeps = service.journal.as_ref().is_some_and(|journal| {
                 journal.syncs == *syncs && journal.folder.as_str() == "a folder/kept"
             });
-            Ok(keeps && is_service(service, &STANDARD, 0, &[None; 3]))
+            let mut settings = STANDARD;
+            settings.cuts = *cuts;
+            Ok(keeps && is_service(service, &settings, 0, &[None; 3]))
         },
         (Command::Call(call), Wanted::Call(who, client, asked)) => {
             Ok(*call == call_of(alloc, *who, *client, asked)?)
@@ -202,6 +206,9 @@ fn is_command(alloc: Global, command: &Command, wanted: &Wanted) -> Result<bool,
         }
         (Command::History(history), Wanted::Listed(start, from, to)) => {
             Ok(*history == history_of(alloc, Telling::List, *start, *from, *to)?)
+        }
+        (Command::History(history), Wanted::JsonListed) => {
+            Ok(*history == history_of(alloc, Telling::Json, None, 0, u64::MAX)?)
         }
         (Command::History(history), Wanted::Checked) => {
             let mut sum = [0; 32];

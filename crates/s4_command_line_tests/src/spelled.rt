@@ -4,7 +4,7 @@ use crate::helps::{CALL_HELP, HALL_HELP, HELP, HISTORY_HELP, RUN_HELP, SERVE_HEL
 use crate::row::Asked::{Create, Read, Write};
 use crate::row::Row;
 use crate::row::Wanted::{
-    Call, Checked, GreatestServer, Hall, KeepingServer, Listed, PatientCall, Run, Show,
+    Call, Checked, GreatestServer, Hall, JsonListed, KeepingServer, Listed, PatientCall, Run, Show,
     StandardServer, Strike,
 };
 
@@ -44,6 +44,7 @@ pub const RUNS: &[Row] = &[
 /// Histories.
 pub const HISTORIES: &[Row] = &[
     Row(b"s4d|history|list|a folder/kept", Listed(None, 0, u64::MAX)),
+    Row(b"s4d|history|list|--json|a folder/kept", JsonListed),
     Row(
         b"s4d|history|list|a folder/kept|--start|3|--from|5|--to|9",
         Listed(Some(3), 5, 9),
@@ -61,11 +62,15 @@ pub const SERVERS: &[Row] = &[
     Row(GREATEST_WORDS, GreatestServer),
     Row(
         b"s4d|serve|127.0.0.1:4710|first.logins|--journal|a folder/kept",
-        KeepingServer(true),
+        KeepingServer(true, false),
     ),
     Row(
         b"s4d|serve|127.0.0.1:4710|first.logins|--journal|a folder/kept|--sync|never",
-        KeepingServer(false),
+        KeepingServer(false, false),
+    ),
+    Row(
+        b"s4d|serve|127.0.0.1:4710|first.logins|--cut|--journal|a folder/kept",
+        KeepingServer(true, true),
     ),
 ];
 

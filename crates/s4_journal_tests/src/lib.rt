@@ -7,6 +7,8 @@ mod example;
 #[cfg(test)]
 mod limits;
 #[cfg(test)]
+mod lines;
+#[cfg(test)]
 mod read;
 #[cfg(test)]
 mod scribe;

@@ -112,7 +112,10 @@ fn calls_are_read(rt: HostRuntime) -> Result<(), Fail> {
     assert_eq!(rt; read.ending, Ending::Whole);
     assert_eq!(rt; read.blocks.len(), 1);
     for one in &read.blocks {
-        assert_eq!(rt; one.as_slice(), calls(alloc)?.as_slice());
+        let wanted = calls(alloc)?;
+        assert_eq!(rt; one.worker(), wanted.worker());
+        assert_eq!(rt; one.calls(), wanted.calls());
+        assert_eq!(rt; one.told(), wanted.told());
     }
     Ok(())
 }

@@ -1,19 +1,22 @@
 //! Journals that are written into files.
 
-use crate::example::{FIRST, FRONT, JOURNAL, creation, denial, header};
-use s4_scribe::{Scribe, ScribeFault};
+use crate::example::{FIRST, FRONT, JOURNAL, LINES, TEXTS, creation, denial, header};
+use s4_journal::begin;
+use s4_scribe::{Lines, Scribe, ScribeFault, file_path};
 use s4_types::Record;
 use std::alloc::Global;
 use std::fs::{File, Metadata, OpenFile, OpenOptions};
 use std::io::{Error, ErrorKind, Write};
+use std::process::Abort;
 use std::test::Fail;
 use std::{fs, io, process};
 
-/// A file on a disk that has room for so many more bytes.
+/// A file on a disk that has room for so many more bytes, and may be broken so that no sync works.
 #[derive(Drop)]
 struct Narrow {
     file: File,
     room: usize,
+    broken: bool,
 }
 
 impl Write for Narrow {
@@ -46,6 +49,9 @@ impl OpenFile for Narrow {
     }
 
     fn sync_data(&self) -> io::Result<()> {
+        if self.broken {
+            return Err(Error::from(ErrorKind::Other));
+        }
         self.file.sync_data()
     }
 }
@@ -60,7 +66,11 @@ fn on_disk(files: &HostRuntime, path: &str, room: usize) -> io::Result<Narrow> {
         .append(true)
         .create_new(true)
         .open(files, path)?;
-    Ok(Narrow { file, room })
+    Ok(Narrow {
+        file,
+        room,
+        broken: false,
+    })
 }
 
 fn one(alloc: Global, record: Record) -> Result<Vec<Record>, Fail> {
@@ -75,7 +85,7 @@ fn records_are_written_in_turn(rt: HostRuntime) -> Result<(), Fail> {
     let id = process::id(rt.process());
     let path = format!(in alloc; "/tmp/s4d_turns_{id}")?;
     let file = on_disk(&rt, path.as_str(), AMPLE)?;
-    let mut scribe = Scribe::begin(alloc, file, &header())?;
+    let mut scribe = Scribe::begin(alloc, file, &header(), true)?;
     let early = scribe.write(alloc, 3, 1, one(alloc, creation()?)?);
     assert_eq!(rt; early, Err(ScribeFault::OutOfTurn));
     scribe.write(alloc, 3, 0, one(alloc, creation()?)?)?;
@@ -84,7 +94,8 @@ fn records_are_written_in_turn(rt: HostRuntime) -> Result<(), Fail> {
     let nowhere = scribe.write(alloc, 4, 0, one(alloc, denial()?)?);
     assert_eq!(rt; nowhere, Err(ScribeFault::OutOfTurn));
     scribe.write(alloc, 0, 0, one(alloc, denial()?)?)?;
-    scribe.roll.sync()?;
+    scribe.roll.scroll.sync()?;
+    assert!(rt; scribe.roll.scroll.unsynced.is_empty());
     assert_eq!(rt; scribe.place(3), Some(1));
     assert_eq!(rt; scribe.place(0), Some(1));
     assert_eq!(rt; scribe.place(1), Some(0));
@@ -107,13 +118,13 @@ fn a_full_disk_leaves_no_gap(rt: HostRuntime) -> Result<(), Fail> {
     let path = format!(in alloc; "/tmp/s4d_narrow_{id}")?;
     for room in 0..FIRST - FRONT {
         let file = on_disk(&rt, path.as_str(), FRONT + room)?;
-        let mut scribe = Scribe::begin(alloc, file, &header())?;
+        let mut scribe = Scribe::begin(alloc, file, &header(), true)?;
         for _ in 0..2 {
             let full = scribe.write(alloc, 3, 0, one(alloc, creation()?)?);
             assert_eq!(rt; full, Err(ScribeFault::Writing), "{room}");
         }
         assert_eq!(rt; scribe.place(3), Some(0), "{room}");
-        scribe.roll.file.room = AMPLE;
+        scribe.roll.scroll.file.room = AMPLE;
         scribe.write(alloc, 3, 0, one(alloc, creation()?)?)?;
         scribe.write(alloc, 0, 0, one(alloc, denial()?)?)?;
         let written = fs::read(&rt, path.as_str())?;
@@ -129,10 +140,101 @@ fn a_disk_without_room_for_a_header_has_no_journal(rt: HostRuntime) -> Result<()
     let path = format!(in alloc; "/tmp/s4d_small_{id}")?;
     for room in 0..FRONT {
         let file = on_disk(&rt, path.as_str(), room)?;
-        match Scribe::begin(alloc, file, &header()) {
+        match Scribe::begin(alloc, file, &header(), true) {
             Ok(_) => assert!(rt; false, "{room}"),
             Err(fault) => assert_eq!(rt; fault, ScribeFault::Writing),
         }
     }
     Ok(fs::remove_file(&rt, path.as_str())?)
+}
+
+/// Has a sync of the scribe's file fail behind one block, after which the file takes nothing more.
+fn lose<R: Abort>(rt: &R, alloc: Global, scribe: &mut Scribe<Narrow>) -> Result<(), Fail> {
+    scribe.write(alloc, 3, 0, one(alloc, creation()?)?)?;
+    scribe.roll.scroll.file.broken = true;
+    assert_eq!(rt; scribe.roll.scroll.sync(), Err(ScribeFault::Syncing));
+    scribe.roll.scroll.file.broken = false;
+    assert_eq!(rt; scribe.roll.scroll.sync(), Err(ScribeFault::Syncing));
+    assert!(rt; scribe.roll.scroll.is_lost());
+    let refused = scribe.write(alloc, 0, 0, one(alloc, denial()?)?);
+    assert_eq!(rt; refused, Err(ScribeFault::Syncing));
+    Ok(())
+}
+
+/// Has the scribe go on in another file, whose disk is full at first.
+fn find<R: Abort>(
+    rt: &R,
+    files: &HostRuntime,
+    scribe: &mut Scribe<Narrow>,
+    path: &str,
+) -> Result<(), Fail> {
+    let alloc = files.alloc();
+    let full = scribe.roll.scroll.go_on(on_disk(files, path, 10)?);
+    assert_eq!(rt; full, Err(ScribeFault::Writing));
+    scribe.roll.scroll.go_on(on_disk(files, path, AMPLE)?)?;
+    assert!(rt; !scribe.roll.scroll.is_lost());
+    scribe.write(alloc, 0, 0, one(alloc, denial()?)?)?;
+    scribe.roll.scroll.sync()?;
+    assert_eq!(rt; scribe.roll.scroll.lasting(), 237);
+    Ok(())
+}
+
+/// A file of which a sync failed takes nothing more. It goes on in another one at the place up to which
+/// it is known to last.
+#[test]
+fn a_failed_sync_leaves_no_gap(rt: HostRuntime) -> Result<(), Fail> {
+    let id = process::id(rt.process());
+    let first = format!(in rt.alloc(); "/tmp/s4d_lost_{id}")?;
+    let second = format!(in rt.alloc(); "/tmp/s4d_found_{id}")?;
+    go_on(&rt, &rt, first.as_str(), second.as_str())?;
+    let begun = fs::read(&rt, first.as_str())?;
+    let behind = fs::read(&rt, second.as_str())?;
+    assert!(rt; begun.as_slice().get(..FRONT) == JOURNAL.get(..FRONT));
+    assert!(rt; Some(behind.as_slice()) == JOURNAL.get(FRONT..));
+    fs::remove_file(&rt, first.as_str())?;
+    Ok(fs::remove_file(&rt, second.as_str())?)
+}
+
+/// Writes the example into two files: a sync of the first one fails.
+fn go_on<R: Abort>(rt: &R, files: &HostRuntime, first: &str, second: &str) -> Result<(), Fail> {
+    let file = on_disk(files, first, AMPLE)?;
+    let mut scribe = Scribe::begin(files.alloc(), file, &header(), true)?;
+    scribe.roll.scroll.sync()?;
+    assert_eq!(rt; scribe.roll.scroll.lasting(), FRONT as u64);
+    lose(rt, files.alloc(), &mut scribe)?;
+    find(rt, files, &mut scribe, second)
+}
+
+#[test]
+fn lines_are_kept_in_turn(rt: HostRuntime) -> Result<(), Fail> {
+    let alloc = rt.alloc();
+    let id = process::id(rt.process());
+    let path = format!(in alloc; "/tmp/s4d_lines_{id}")?;
+    let (_, writer) = begin(alloc, &header())?;
+    let file = on_disk(&rt, path.as_str(), 10)?;
+    let mut lines = Lines::new(alloc, file, writer.sum(), false);
+    let full = lines.add(alloc, TEXTS[0]);
+    assert_eq!(rt; full, Err(ScribeFault::Writing));
+    lines.scroll.file.room = AMPLE;
+    lines.add(alloc, TEXTS[0])?;
+    lines.add(alloc, TEXTS[1])?;
+    let wanted = format!(in alloc; "{}\n{}\n", LINES[0], LINES[1])?;
+    let written = fs::read(&rt, path.as_str())?;
+    assert_eq!(rt; written.as_slice(), wanted.as_bytes());
+    assert_eq!(rt; lines.scroll.end(), wanted.len() as u64);
+    Ok(fs::remove_file(&rt, path.as_str())?)
+}
+
+#[test]
+fn files_of_a_start_are_named(rt: HostRuntime) -> Result<(), Fail> {
+    let alloc = rt.alloc();
+    assert_eq!(rt;
+        file_path(alloc, "kept/1", "calls", 0)?.as_str(),
+        "kept/1/calls"
+    );
+    assert_eq!(rt;
+        file_path(alloc, "kept/1", "calls", 44)?.as_str(),
+        "kept/1/calls-44"
+    );
+    Ok(())
 }

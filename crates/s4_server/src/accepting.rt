@@ -5,12 +5,14 @@ ghost use Rattle.s4_jobs.specs.Seats.{having_put};
 ghost use Rattle.s4_server.specs.Places.{PutsSome, numbers_to};
 
 use crate::board::Board;
+use crate::clock::Ticks;
 use crate::connection::{Connection, number_after};
+use crate::event::{Entrant, Event, Kind};
 use crate::post::{Post, least, open};
 use crate::watch::Watch;
 use s4_jobs::{Jobs, Seat};
 use std::io::ErrorKind;
-use std::net::{TcpListener, TcpStream};
+use std::net::{SocketAddr, TcpListener, TcpStream};
 use std::sync::Wait;
 use std::sync::atomic::Ordering;
 use std::time::{Clock, Duration};
@@ -56,14 +58,21 @@ impl<'a> Door<'a> {
 
     /// Accepts a connection, and tries again where that fails or where there are too many; none
     /// once the server is to end.
-    fn accept<R: Wait + Clock>(&mut self, rt: &R) -> Option<TcpStream> {
+    fn accept<R: Wait + Clock, C: Ticks>(
+        &mut self,
+        rt: &R,
+        clock: &C,
+    ) -> Option<(TcpStream, SocketAddr)> {
         for _ in rt.forever() {
             if self.board.over.load(Ordering::SeqCst) {
                 return None;
             }
             match self.listener.accept() {
-                Ok((stream, _)) if self.lets_in(&stream) => return Some(stream),
-                Ok(_) => {}
+                Ok((stream, address)) => {
+                    if self.lets_in(rt, clock, &stream, address) {
+                        return Some((stream, address));
+                    }
+                }
                 Err(error) => self.rest(rt, &error),
             }
         }
@@ -71,14 +80,33 @@ impl<'a> Door<'a> {
     }
 
     /// Whether the connection is let in.
-    fn lets_in(&self, stream: &TcpStream) -> bool {
+    fn lets_in<R: Wait, C: Ticks>(
+        &self,
+        rt: &R,
+        clock: &C,
+        stream: &TcpStream,
+        address: SocketAddr,
+    ) -> bool {
         // A reply is sent at once, also where the peer has not yet told that it has the last one.
         let _ = stream.set_nodelay(true);
         let has_place = open(self.posts) < u64::from(self.most);
         if !has_place {
             self.board.tally.turn_away();
+            self.tell_turned_away(rt, clock, address);
         }
         stream.set_nonblocking(true).is_ok() && has_place
+    }
+
+    /// Leaves word of a connection that is closed at once.
+    fn tell_turned_away<R: Wait, C: Ticks>(&self, rt: &R, clock: &C, address: SocketAddr) {
+        if let Some(notes) = self.board.notes.last() {
+            let entrant = Entrant {
+                connection: 0,
+                address: Some(address),
+            };
+            let event = Event::new(&entrant, clock.moment().tick(), Kind::TurnedAway);
+            notes.tell(rt, event);
+        }
     }
 
     /// Waits for a connection where there is none now, and else for a while.
@@ -95,8 +123,9 @@ impl<'a> Door<'a> {
 /// Accepts so many connections, by their numbers from 1 on, or without end where that is 0. Each is
 /// put into the queue, and given to the worker with the fewest. Tells whether there were so many
 /// before the server was to end.
-pub fn accept_all<R: Wait + Clock>(
+pub fn accept_all<R: Wait + Clock, C: Ticks>(
     rt: &R,
+    clock: &C,
     door: &mut Door<'_>,
     jobs: &Jobs<Connection>,
     seat: &mut Seat<Connection>,
@@ -109,11 +138,16 @@ pub fn accept_all<R: Wait + Clock>(
 {
     let mut number = 0u64;
     for _ in rt.forever() {
-        let Some(stream) = door.accept(rt) else {
+        let Some((stream, address)) = door.accept(rt, clock) else {
             return false;
         };
         number = number_after(number);
-        put(rt, jobs, seat, Connection { number, stream });
+        let connection = Connection {
+            number,
+            address,
+            stream,
+        };
+        put(rt, jobs, seat, connection);
         give(rt, door.posts);
         if number == u64::from(connections) {
             return true;

@@ -1,6 +1,7 @@
 //! What the threads of a server tell each other.
 
 use crate::attempts::Attempts;
+use crate::notes::Notes;
 use crate::start::Start;
 use crate::tables::Tables;
 use crate::tally::Tally;
@@ -27,11 +28,27 @@ pub struct Board {
     pub attempts: Attempts,
     /// What is counted.
     pub tally: Tally,
+    /// What is left for the keeper of a journal: by each worker, and last by the one who accepts.
+    pub notes: Vec<Notes>,
+    /// Before this moment no record is missing in the journal, as far as that is known to last; the
+    /// greatest moment where none is kept.
+    pub kept: AtomicU64,
 }
 
 impl Board {
-    /// The board of a server of so many workers that begins now, with these logins.
-    pub fn new(alloc: Global, logins: Logins, workers: u64, now: u64) -> Result<Board, NoMemory> {
+    /// The board of a server of so many workers that begins now, with these logins. `keeps` says
+    /// whether it keeps a journal.
+    pub fn new(
+        alloc: Global,
+        logins: Logins,
+        workers: u64,
+        now: u64,
+        keeps: bool,
+    ) -> Result<Board, NoMemory> {
+        let mut notes = Vec::new(alloc);
+        for _ in 0..workers.saturating_add(1) {
+            notes.push(Notes::new(alloc, keeps))?;
+        }
         Ok(Board {
             start: Start::new(workers.saturating_add(OTHERS)),
             accepted: AtomicBool::new(false),
@@ -40,6 +57,8 @@ impl Board {
             tables: Tables::new(alloc, logins)?,
             attempts: Attempts::new(alloc),
             tally: Tally::new(alloc)?,
+            notes,
+            kept: AtomicU64::new(if keeps { 0 } else { u64::MAX }),
         })
     }
 }

@@ -2,14 +2,26 @@
 
 ghost use Rattle.std.specs.Prelude.{◌≡◌, ◌==◌, ◌+◌, cond};
 
+use crate::event::Entrant;
 use s4_jobs::Numbered;
-use std::net::TcpStream;
+use std::net::{SocketAddr, TcpStream};
 
-/// A connection that was accepted, with its number.
+/// A connection that was accepted, with its number and its peer's address.
 #[derive(Drop)]
 pub struct Connection {
     pub number: u64,
+    pub address: SocketAddr,
     pub stream: TcpStream,
+}
+
+impl Connection {
+    /// Who is at its other end.
+    pub fn entrant(&self) -> Entrant {
+        Entrant {
+            connection: self.number,
+            address: Some(self.address),
+        }
+    }
 }
 
 impl Numbered for Connection {

@@ -1,10 +1,12 @@
 //! How a connection begins.
 
-/// How many bytes there are up to the principal's end.
-const LENGTH: usize = 10;
+use s4_types::{Caller, Principal, WireVersion};
 
-/// The first bytes that were heard on a connection, up to those that name who wants to log in
-/// (docs/PROTOCOL.md, "Greeting").
+/// How many bytes there are up to the client's end.
+const LENGTH: usize = 14;
+
+/// The first bytes that were heard on a connection, up to those that name who wants to log in, and
+/// as which client (docs/PROTOCOL.md, "Greeting").
 #[derive(Clone, Copy, Debug)]
 pub struct Opening {
     bytes: [u8; LENGTH],
@@ -38,7 +40,17 @@ impl Opening {
 
     /// The number that stands where the principal of a Hello does.
     pub fn who(&self) -> u32 {
-        let [_, _, _, _, _, _, a, b, c, d] = self.bytes;
+        let [_, _, _, _, _, _, a, b, c, d, ..] = self.bytes;
         u32::from_be_bytes([a, b, c, d])
+    }
+
+    /// The caller whom a good Hello names.
+    pub fn caller(&self) -> Option<Caller> {
+        let [.., a, b, c, d] = self.bytes;
+        Some(Caller {
+            who: Principal::new(self.who())?,
+            client: u32::from_be_bytes([a, b, c, d]),
+            version: WireVersion::One,
+        })
     }
 }

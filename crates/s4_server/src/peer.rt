@@ -4,6 +4,7 @@ use crate::clock::Ticks;
 use crate::conversation::Conversation;
 use crate::desk::Desk;
 use crate::ending::{Drained, Leaving, drain_some};
+use crate::event::{Entrant, Kind};
 use crate::gauge::{Gauge, Tap};
 use crate::opening::Opening;
 use crate::tables::Table;
@@ -25,9 +26,13 @@ const TURNS: u32 = 8;
 /// How long it is listened to a peer who leaves, in milliseconds.
 const FAREWELL: u64 = 1000;
 
+/// How many bytes the frame of a fault has.
+const FAULT_FRAME: usize = 6;
+
 /// A peer: its connection, and what was said there.
 #[derive(Drop)]
 pub struct Peer {
+    entrant: Entrant,
     stream: TcpStream,
     stage: Stage,
     opening: Opening,
@@ -72,13 +77,14 @@ pub enum Next {
     /// There may be more to read at once.
     GoesOn,
     /// Its connection is over.
-    Over,
+    Over(Kind),
 }
 
 impl Peer {
     /// A peer with whom nothing was said. Takes no memory.
-    pub fn new(alloc: Global, stream: TcpStream, table: Table, now: u64) -> Peer {
+    pub fn new(alloc: Global, entrant: Entrant, stream: TcpStream, table: Table, now: u64) -> Peer {
         Peer {
+            entrant,
             stream,
             stage: Stage::Talks(Conversation::open(alloc, table)),
             opening: Opening::new(),
@@ -88,6 +94,11 @@ impl Peer {
             last: false,
             eager: false,
         }
+    }
+
+    /// Who it is.
+    pub fn entrant(&self) -> &Entrant {
+        &self.entrant
     }
 
     /// The stream, to be watched.
@@ -115,14 +126,15 @@ impl Peer {
     ) -> Next {
         self.last = self.last || last;
         if !self.meets(shared) {
-            return Next::Over;
+            return Next::Over(Kind::Revoked);
         }
+        desk.connection = self.entrant.connection;
         for _ in 0..TURNS {
             match self.talk(shared, desk, now) {
                 Some(TurnEnd::More) => {}
                 Some(TurnEnd::Waits) | Some(TurnEnd::Stuck) => return Next::Waits,
                 Some(TurnEnd::Ended(TalkEnd::Faulted(_))) => return self.leave(now),
-                Some(TurnEnd::Ended(_)) => return Next::Over,
+                Some(TurnEnd::Ended(end)) => return Next::Over(parting_of(end)),
                 None => match self.hear_out() {
                     Next::GoesOn => {}
                     next => return next,
@@ -143,6 +155,7 @@ impl Peer {
         now: u64,
     ) -> Option<TurnEnd> {
         let Peer {
+            entrant,
             stream,
             stage,
             opening,
@@ -159,6 +172,7 @@ impl Peer {
         }
         let waited = talk.waiting();
         let greets = talk.is_greeting();
+        let heard = talk.fault().is_some();
         let stream: &TcpStream = stream;
         let mut reader = Gauge::new(stream, shared.board.over.load(Ordering::SeqCst), *opening);
         let mut writer = Tap::new(stream, greets);
@@ -166,6 +180,12 @@ impl Peer {
         *opening = reader.opening();
         if writer.has_given() || talk.waiting() != waited {
             *since = now;
+        }
+        if greets {
+            tell_welcome(desk, entrant, talk, opening);
+        }
+        if !heard {
+            tell_fault(desk, entrant, talk, opening);
         }
         match end {
             TurnEnd::Stuck if greets => {
@@ -214,25 +234,34 @@ impl Peer {
                 if leaving.hear(&mut reader) {
                     Next::Waits
                 } else {
-                    Next::Over
+                    Next::Over(Kind::Closed)
                 }
             }
             Stage::Ends => next_after(drain_some(&mut reader)),
-            Stage::Talks(_) => Next::Over,
+            Stage::Talks(_) => Next::Over(Kind::Closed),
         }
     }
 
-    /// Whether the peer was silent, or took nothing of what waits for it, for too long, or isn't
-    /// welcomed yet and should be.
-    pub fn is_idle(&self, now: u64, patience: &Patience) -> bool {
+    /// Why the peer may not stay, if so: it was silent, or took nothing of what waits for it, for
+    /// too long; or it isn't welcomed yet and should be; or its login isn't in the newest table.
+    pub fn overdue<R: Wait, C>(&mut self, shared: &Shared<'_, R, C>, now: u64) -> Option<Kind> {
+        match self.tires(now, &shared.patience) {
+            None if !self.meets(shared) => Some(Kind::Revoked),
+            parting => parting,
+        }
+    }
+
+    /// Why nobody has patience with the peer any more, if so.
+    fn tires(&self, now: u64, patience: &Patience) -> Option<Kind> {
         let passed = now.saturating_sub(self.since);
+        let begun = now.saturating_sub(self.begun);
         match &self.stage {
-            Stage::Talks(talk) => {
-                is_past(passed, patience.idle)
-                    || !talk.is_welcomed()
-                        && is_past(now.saturating_sub(self.begun), patience.hello)
+            Stage::Talks(_) if is_past(passed, patience.idle) => Some(Kind::Idle),
+            Stage::Talks(talk) if !talk.is_welcomed() && is_past(begun, patience.hello) => {
+                Some(Kind::Late)
             }
-            Stage::Leaves(_) | Stage::Ends => passed >= FAREWELL,
+            Stage::Leaves(_) | Stage::Ends if passed >= FAREWELL => Some(Kind::Closed),
+            _ => None,
         }
     }
 
@@ -292,6 +321,48 @@ fn next_after(drained: Drained) -> Next {
     match drained {
         Drained::Some => Next::GoesOn,
         Drained::Waits => Next::Waits,
-        Drained::Over => Next::Over,
+        Drained::Over => Next::Over(Kind::Closed),
+    }
+}
+
+/// Why the connection is over whose talk ended so.
+fn parting_of(end: TalkEnd) -> Kind {
+    match end {
+        TalkEnd::PeerClosed | TalkEnd::Faulted(_) => Kind::Closed,
+        TalkEnd::ReadFailed | TalkEnd::WriteFailed => Kind::Reset,
+        TalkEnd::NoMemory => Kind::NoMemory,
+    }
+}
+
+/// Leaves word of the peer's welcome, where the turn brought it. A fault in the same turn ends it
+/// again; then more waits than the frame that tells the fault.
+fn tell_welcome<R: Wait, C: Ticks>(
+    desk: &Desk<'_, R, C, OpenGate>,
+    entrant: &Entrant,
+    talk: &Conversation,
+    opening: &Opening,
+) {
+    let is_welcome = match talk.fault() {
+        Some(_) => talk.waiting() > FAULT_FRAME,
+        None => talk.is_welcomed(),
+    };
+    if let Some(caller) = opening.caller() {
+        if is_welcome {
+            desk.tell_welcome(entrant, &caller);
+        }
+    }
+}
+
+/// Leaves word of the fault that ended the peer's session, where there is one.
+fn tell_fault<R: Wait, C: Ticks>(
+    desk: &Desk<'_, R, C, OpenGate>,
+    entrant: &Entrant,
+    talk: &Conversation,
+    opening: &Opening,
+) {
+    match talk.fault() {
+        Some(SessionFault::BadLogin) => desk.tell_bad_login(entrant, opening.who()),
+        Some(fault) => desk.tell(entrant, Kind::of_fault(fault)),
+        None => {}
     }
 }

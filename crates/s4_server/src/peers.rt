@@ -2,6 +2,7 @@
 
 use crate::clock::Ticks;
 use crate::desk::Desk;
+use crate::event::{Entrant, Kind};
 use crate::peer::{Next, Peer, State};
 use crate::tables::Table;
 use crate::threads::Shared;
@@ -69,11 +70,12 @@ impl Peers {
     pub fn add(
         &mut self,
         watch: &Watch,
+        entrant: Entrant,
         stream: TcpStream,
         table: Table,
         now: u64,
     ) -> io::Result<()> {
-        let peer = Peer::new(self.alloc, stream, table, now);
+        let peer = Peer::new(self.alloc, entrant, stream, table, now);
         let place = self.places.insert(peer)?;
         let watched = match self.places.get_mut(place) {
             Some(peer) => watch.add(peer.stream_mut(), place),
@@ -97,12 +99,14 @@ impl Peers {
         let Some(peer) = self.places.get_mut(place) else {
             return;
         };
-        let over = match peer.serve(shared, desk, now, last) {
-            Next::Waits => false,
-            Next::GoesOn => peer.becomes_eager() && self.eager.push_back(place).is_err(),
-            Next::Over => true,
+        let parting = match peer.serve(shared, desk, now, last) {
+            Next::Waits => None,
+            Next::GoesOn if !peer.becomes_eager() => None,
+            Next::GoesOn => noted(&mut self.eager, place),
+            Next::Over(parting) => Some(parting),
         };
-        if over {
+        if let Some(parting) = parting {
+            desk.tell(peer.entrant(), parting);
             self.places.try_remove(place);
         }
     }
@@ -125,24 +129,38 @@ impl Peers {
     }
 
     /// Ends with those for whom nothing waits to be written.
-    pub fn end(&mut self, now: u64) {
+    pub fn end<R: Wait, C: Ticks>(&mut self, desk: &Desk<'_, R, C, OpenGate>, now: u64) {
         let Peers { places, eager, .. } = self;
-        places.retain(|place, peer| !peer.ends(now) || eager.push_back(place).is_ok());
+        places.retain(|place, peer| {
+            let parting = if peer.ends(now) {
+                noted(eager, place)
+            } else {
+                None
+            };
+            stays(desk, peer, parting)
+        });
     }
 
     /// Looks after all, once at each time: closes those that were idle for too long, or whose login
     /// isn't in the newest table any more, and has those go on whose answer had to wait and is due.
     /// Tells whether it was time for that.
-    pub fn look<R: Wait, C>(&mut self, shared: &Shared<'_, R, C>, now: u64) -> bool {
+    pub fn look<R: Wait, C: Ticks>(
+        &mut self,
+        shared: &Shared<'_, R, C>,
+        desk: &Desk<'_, R, C, OpenGate>,
+        now: u64,
+    ) -> bool {
         if now == self.looked {
             return false;
         }
         self.looked = now;
         let Peers { places, eager, .. } = self;
         places.retain(|place, peer| {
-            !peer.is_idle(now, &shared.patience)
-                && peer.meets(shared)
-                && (!peer.is_due(now) || eager.push_back(place).is_ok())
+            let parting = match peer.overdue(shared, now) {
+                None if peer.is_due(now) => noted(eager, place),
+                parting => parting,
+            };
+            stays(desk, peer, parting)
         });
         true
     }
@@ -162,5 +180,28 @@ impl Peers {
             }
         }
         states
+    }
+}
+
+/// Notes the place of a peer that goes on at once. Where there is no memory for that it leaves.
+fn noted(eager: &mut VecDeque<usize>, place: usize) -> Option<Kind> {
+    match eager.push_back(place) {
+        Ok(()) => None,
+        Err(_) => Some(Kind::NoMemory),
+    }
+}
+
+/// Whether the peer stays: where it doesn't, word is left why.
+fn stays<R: Wait, C: Ticks>(
+    desk: &Desk<'_, R, C, OpenGate>,
+    peer: &Peer,
+    parting: Option<Kind>,
+) -> bool {
+    match parting {
+        Some(parting) => {
+            desk.tell(peer.entrant(), parting);
+            false
+        }
+        None => true,
     }
 }

@@ -17,6 +17,7 @@ use crate::clock::Ticks;
 use crate::connection::Connection;
 use crate::fault::ServerFault;
 use crate::keeper::Keeper;
+use crate::notes::note_passes;
 use crate::post::Post;
 use crate::threads::{Shared, serve_all};
 use crate::upkeep::{Reloading, Upkeep};
@@ -165,7 +166,8 @@ impl Server {
             outer,
         } = self;
         let now = clock.moment().tick();
-        let board = Board::new(alloc, logins, settings.workers, now)?;
+        let board = Board::new(alloc, logins, settings.workers, now, keeper.is_some())?;
+        note_passes(rt, &board.notes, &passes)?;
         let shared = Shared {
             rt,
             alloc,

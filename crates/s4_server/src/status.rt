@@ -2,7 +2,7 @@
 
 use crate::attempts::FailedLogins;
 use crate::clock::Ticks;
-use crate::keeper::{Keeper, Kept};
+use crate::keeper::{FileKept, Keeper, Kept};
 use crate::peers::States;
 use crate::post::Post;
 use crate::tally::{KINDS, Tally};
@@ -37,12 +37,23 @@ pub struct Status {
 pub struct JournalStatus {
     /// The number of the start.
     pub start: u64,
+    /// How many bytes its records have.
+    pub bytes: u64,
+    /// The newest sum of the records, as hexadecimal digits.
+    pub sum: String,
+    pub calls: FileStatus,
+    pub connections: FileStatus,
+    /// Whether it couldn't be written when that was last tried.
+    pub fails: bool,
+}
+
+/// A further file of a journal.
+#[derive(Drop, Serialize)]
+pub struct FileStatus {
     /// How many bytes it has.
     pub bytes: u64,
     /// The newest sum, as hexadecimal digits.
     pub sum: String,
-    /// Whether it couldn't be written when that was last tried.
-    pub fails: bool,
 }
 
 /// The connections of a server.
@@ -109,9 +120,21 @@ impl JournalStatus {
     fn of(alloc: Global, kept: Kept) -> Result<JournalStatus, NoMemory> {
         Ok(JournalStatus {
             start: kept.start,
+            bytes: kept.records.bytes,
+            sum: hex::encode(alloc, kept.records.sum.as_slice())?,
+            calls: FileStatus::of(alloc, kept.calls)?,
+            connections: FileStatus::of(alloc, kept.events)?,
+            fails: kept.fails,
+        })
+    }
+}
+
+impl FileStatus {
+    /// What is told of a file that is so far.
+    fn of(alloc: Global, kept: FileKept) -> Result<FileStatus, NoMemory> {
+        Ok(FileStatus {
             bytes: kept.bytes,
             sum: hex::encode(alloc, kept.sum.as_slice())?,
-            fails: kept.fails,
         })
     }
 }

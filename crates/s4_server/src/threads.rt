@@ -14,6 +14,7 @@ use crate::workers::Worker;
 use s4_command::{Patience, Settings};
 use s4_jobs::{Jobs, Seat};
 use s4_pool::{Front, OpenGate};
+use s4_types::Moment;
 use std::alloc::Global;
 use std::sync::Wait;
 use std::sync::atomic::{AtomicBool, Ordering};
@@ -119,7 +120,7 @@ fn serve_to_the_end<R: Threads + Wait + Clock + Eprint + Sync, C: Ticks>(
 }
 
 /// Accepts connections, and tells the workers of the last one.
-fn accept_to_the_end<R: Wait + Clock, C>(
+fn accept_to_the_end<R: Wait + Clock, C: Ticks>(
     shared: &Shared<'_, R, C>,
     settings: &Settings,
     door: &mut Door<'_>,
@@ -129,7 +130,14 @@ fn accept_to_the_end<R: Wait + Clock, C>(
     requires { seat.old.queue ≡ jobs.now.queue }
 {
     if shared.board.start.is_made(shared.rt) {
-        accept_all(shared.rt, door, jobs, seat, settings.connections);
+        accept_all(
+            shared.rt,
+            shared.clock,
+            door,
+            jobs,
+            seat,
+            settings.connections,
+        );
     }
     shared.board.accepted.store(true, Ordering::SeqCst);
     wake_all(shared.posts);
@@ -148,7 +156,8 @@ fn work_all<R: Threads + Wait + Clock + Sync, C: Ticks>(
 
 /// Sweeps the cells in turn, round by round, and once more at the end. At each round it tells the time, and
 /// has the workers look after their peers. Where the server cuts, the records that no reply needs any
-/// more are cut after each round; a cut that memory was refused for is made up for by the next one.
+/// more are cut after each round, but none that its journal may lack; a cut that memory was refused
+/// for is made up for by the next one.
 fn sweep_to_the_end<R: Wait + Clock, C: Ticks>(
     shared: &Shared<'_, R, C>,
     cells: usize,
@@ -168,7 +177,8 @@ fn sweep_to_the_end<R: Wait + Clock, C: Ticks>(
             shared.front.sweep(shared.rt, cell, SWEPT);
         }
         if shared.cuts {
-            let _ = shared.front.cut(shared.rt, shared.clock.moment());
+            let kept = Moment::new(shared.board.kept.load(Ordering::SeqCst));
+            let _ = shared.front.cut(shared.rt, shared.clock.moment().min(kept));
         }
         if is_last {
             return;

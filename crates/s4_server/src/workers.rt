@@ -6,6 +6,7 @@ ghost use Rattle.s4_server.specs.Places.{AreOf};
 use crate::clock::Ticks;
 use crate::connection::Connection;
 use crate::desk::Desk;
+use crate::event::Kind;
 use crate::peers::Peers;
 use crate::post::Post;
 use crate::threads::Shared;
@@ -46,14 +47,17 @@ pub fn staff<'a, R, C>(
 {
     let mut seats = seats;
     let mut workers = Vec::new(shared.alloc);
-    let places = watches.into_iter().zip(shared.posts.iter());
-    for (pass, (watch, post)) in passes.into_iter().zip(places) {
+    let places = shared.posts.iter().zip(shared.board.notes.iter());
+    let places = watches.into_iter().zip(places);
+    for (pass, (watch, (post, notes))) in passes.into_iter().zip(places) {
         if let Some(seat) = seats.pop() {
             let desk = Desk {
                 rt: shared.rt,
                 clock: shared.clock,
                 front: shared.front,
                 tally: &shared.board.tally,
+                notes,
+                connection: 0,
                 pass,
             };
             workers.push(Worker {
@@ -108,16 +112,21 @@ impl<R: Wait + Clock, C: Ticks> Worker<'_, R, C> {
                 post,
                 watch,
                 peers,
-                ..
+                desk,
             } = &mut *self;
             if let Some(connection) = jobs.take(shared.rt, seat) {
                 *taken = taken.wrapping_add(1);
+                let entrant = connection.entrant();
                 let stream = TcpStream::from_std(connection.stream);
                 let now = shared.board.time.load(Ordering::SeqCst);
                 let table = shared.board.tables.newest(shared.rt);
+                desk.tell(&entrant, Kind::Opened);
                 if table.is_err()
-                    || table.is_ok_and(|table| peers.add(watch, stream, table, now).is_err())
+                    || table.is_ok_and(|table| peers
+                        .add(watch, entrant, stream, table, now)
+                        .is_err())
                 {
+                    desk.tell(&entrant, Kind::NoMemory);
                     post.end(1);
                 }
             }
@@ -142,11 +151,11 @@ impl<R: Wait + Clock, C: Ticks> Worker<'_, R, C> {
             }
         }
         peers.serve_eager(shared, desk, now);
-        if peers.look(shared, now) {
+        if peers.look(shared, desk, now) {
             post.show(&peers.states());
         }
         if shared.board.over.load(Ordering::SeqCst) {
-            peers.end(now);
+            peers.end(desk, now);
         }
         let ended = before.saturating_sub(peers.len());
         if ended > 0 {
