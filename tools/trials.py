@@ -40,11 +40,25 @@ class Trials:
         """How many edits aren't refused, as far as is known."""
         return len(self.edits) - len(self.refused)
 
+    def take_over(self, kept, below):
+        """Gives the copies what is made already: of the crates below by their own trials, and of this one where it was checked before. A
+        library is only read, or made anew as a whole, so all of its files get second names: copies would fill a disk."""
+        for name, trials in below.items():
+            made = trials.as_it_stands() / "rlib"
+            if made.is_dir():
+                shutil.copytree(made, self.folder.parent / name / "out" / "rlib", copy_function=os.link)
+        if kept.is_dir():
+            shutil.copytree(kept, self.folder / "out", copy_function=link_or_copy)
+
+    def as_it_stands(self):
+        """The folder of what was made of the crate before its edits, which change `out`, were tried."""
+        return self.folder / ("out-begun" if self.edits else "out")
+
     def begin(self):
         """Proves the crate as it stands, over which its edits are tried, and builds it for those above it."""
         report, self.seconds_first = run_check(self.folder, "lib" if self.is_below else "check")
         if report.is_proved and self.edits:
-            shutil.copytree(self.folder / "out", self.folder / "out-begun", copy_function=link_or_copy)
+            shutil.copytree(self.folder / "out", self.as_it_stands(), copy_function=link_or_copy)
         elif not report.is_proved:
             self.say(f"{self.crate}: it isn't proved as it stands: {report.first_complaint()}")
         return report.is_proved
@@ -53,7 +67,7 @@ class Trials:
         """Checks the crate with these texts in the place of its own, over what was proved of it at first."""
         was = {file: (self.folder / file).read_text(encoding="utf-8") for file in texts}
         shutil.rmtree(self.folder / "out")
-        shutil.copytree(self.folder / "out-begun", self.folder / "out", copy_function=link_or_copy)
+        shutil.copytree(self.as_it_stands(), self.folder / "out", copy_function=link_or_copy)
         try:
             for file, text in texts.items():
                 (self.folder / file).write_text(text, encoding="utf-8")
@@ -136,6 +150,10 @@ def try_crates(repository, names, jobs, say, ended=lambda trials: None):
     needed = dict.fromkeys(below for it in names for below in [*repository.below(it), it])
     trials = {}
 
+    def begin(it):
+        it.take_over(repository.folder(it.crate) / "out", {below: trials[below] for below in repository.below(it.crate)})
+        return it.begin()
+
     def run(done, it):
         if done["first", it.crate]:
             it.run()
@@ -150,7 +168,7 @@ def try_crates(repository, names, jobs, say, ended=lambda trials: None):
             folder = copied(repository, name, Path(room) / name)
             it = trials[name] = Trials(name, folder, edits, is_below, say)
             first = [("first", below) for below in repository.below(name)]
-            lanes.add(("first", name), first, (0, -repository.height(name)), lambda done, it=it: it.begin())
+            lanes.add(("first", name), first, (0, -repository.height(name)), lambda done, it=it: begin(it))
             lanes.add(("edits", name), [("first", name)], (1, -len(edits)), lambda done, it=it: run(done, it))
         lanes.run()
     return trials
