@@ -8,6 +8,7 @@ use s4_run::{RunFault, open_logins};
 use s4_stream::Logins;
 use std::alloc::Global;
 use std::fs;
+use std::os::unix::fs::MetadataExt;
 use std::sync::{Arc, Wait};
 use std::time::SystemTime;
 
@@ -41,15 +42,18 @@ impl Upkeep<'_> {
         Some(Stamp {
             length: metadata.len(),
             modified: metadata.modified().ok(),
+            inode: metadata.ino(),
         })
     }
 }
 
-/// How a file looks from outside.
+/// How a file looks from outside. A file that takes another's place may have its length, and its
+/// time too, for times go in steps of some milliseconds; but it isn't the same file.
 #[derive(Clone, Copy, Debug, PartialEq)]
 pub struct Stamp {
     length: u64,
     modified: Option<SystemTime>,
+    inode: u64,
 }
 
 /// Who reads the logins again where their file has changed.

@@ -230,7 +230,14 @@ fn serve_beside<
     let (served, heard) = thread::join(
         rt,
         || serve(rt, files, service, &listener, logins),
-        || play(rt, files, scene, paths),
+        || {
+            let heard = play(rt, files, scene, paths);
+            if heard.is_err() {
+                // Else a server that waits for its end would hide what went wrong.
+                let _ = fs::write(files, paths.end, "");
+            }
+            heard
+        },
     );
     Ok(Told {
         served: served?,
