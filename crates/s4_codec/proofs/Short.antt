@@ -14,7 +14,7 @@ use Rattle.s4_types.specs.declared.reply.Reply.TheVariants.{Done, Made, Data, At
 use Rattle.s4_types.specs.Rights.{number_of}
 use Rattle.s4_types.specs.Name.{is_name, is_name_byte}
 use Rattle.s4_types.specs.Limits.{is_shown_grant, is_within_limits}
-use Rattle.s4_codec.specs.Format.{Format, nothing, ◌&◌, byte, number, only, made, fits_part, spell_part, optional, list_up_to}
+use Rattle.s4_codec.specs.Format.{Format, ◌&◌, byte, number, only, made, fits_part, spell_part, optional, list_up_to}
 use Rattle.s4_codec.specs.Parts.{moment, principal, user, purse_number, index, serial, pad, object, name, byte_string, rights_given, grant, flag, flag_of, number_of_flag, right_needed, right_of, is_right}
 use Rattle.s4_codec.specs.Frames.{frame_limit, framed, front_of, Whole}
 use Rattle.s4_codec.specs.Replies.{name_line, code, reply_code, audit_line, refusal, reply, reply_in, has_body}

@@ -9,6 +9,9 @@ use byteorder::{BigEndian, ByteOrder};
 /// The most bytes that the body of a request or a reply has, 8192.
 pub const FRAME_LIMIT: usize = 8192;
 
+/// How many bytes most bodies without data have at most.
+pub const USUAL_LENGTH: usize = 64;
+
 /// What stands at the front of bytes.
 #[derive(Clone, Copy, Debug, PartialEq, Eq)]
 pub enum Front<'a> {

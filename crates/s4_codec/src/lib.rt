@@ -24,5 +24,5 @@ pub use laws::{
 pub use read_parts::{read_block, read_byte, read_principal, read_u32};
 pub use read_replies::read_reply;
 pub use read_requests::read_request;
-pub use write_replies::write_reply;
-pub use write_requests::write_request;
+pub use write_replies::{spell_reply, write_reply};
+pub use write_requests::{spell_request, write_request};

@@ -1,6 +1,6 @@
 //! Writing requests.
 
-ghost use Rattle.std.specs.Prelude.{IfOk, IsErrOf, ℕ, List};
+ghost use Rattle.std.specs.Prelude.{IfOk, IsErrOf, OnOk, ℕ, List};
 ghost use Rattle.s4_types.specs.declared.request.Request.TheVariants as requests;
 ghost use Rattle.s4_types.specs.Audit.{code_of};
 ghost use Rattle.s4_codec.specs.Format.{in_place};
@@ -10,7 +10,7 @@ ghost use Rattle.s4_codec.specs.Writings.{Puts};
 ghost use Rattle.s4_codec.specs.declared.error.WriteError.TheVariants as write_error;
 
 use crate::error::WriteError;
-use crate::frames::FRAME_LIMIT;
+use crate::frames::{FRAME_LIMIT, USUAL_LENGTH};
 use crate::write_parts::{
     write_byte, write_bytes, write_moment, write_name, write_object, write_optional_after,
     write_optional_moment, write_principal, write_purse, write_purse_number, write_rights,
@@ -29,12 +29,24 @@ pub fn write_request(alloc: Global, request: &Request) -> Result<Vec<u8>, WriteE
     ensures too_big { IsErrOf result write_error.TooBig
         → (body : List ℕ) → IsRequestBody body request.now → ⊥ }
 {
-    let mut body = Vec::new(alloc);
-    write_code_and_fields(&mut body, request)?;
+    let mut body = Vec::with_capacity(alloc, USUAL_LENGTH)?;
+    spell_request(&mut body, request)?;
+    Ok(body)
+}
+
+/// Has the buffer hold the request's spelling and nothing else. It takes memory only where the
+/// buffer has too little.
+pub fn spell_request(body: &mut Vec<u8>, request: &Request) -> Result<(), WriteError>
+    ensures written { OnOk result (IsRequestBody body.new.items request.now) }
+    ensures too_big { IsErrOf result write_error.TooBig
+        → (body : List ℕ) → IsRequestBody body request.now → ⊥ }
+{
+    body.clear();
+    write_code_and_fields(body, request)?;
     if body.len() > FRAME_LIMIT {
         return Err(WriteError::TooBig);
     }
-    Ok(body)
+    Ok(())
 }
 
 fn write_code_and_fields(out: &mut Vec<u8>, request: &Request) -> Result<(), WriteError>
