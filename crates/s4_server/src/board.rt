@@ -22,6 +22,8 @@ pub struct Board {
     pub over: AtomicBool,
     /// The time at which the sweeper began its round, in milliseconds.
     pub time: AtomicU64,
+    /// The cells in which a worker is to ask, since nobody did for long: a bit each.
+    pub quiet: AtomicU64,
     /// The login tables.
     pub tables: Tables,
     /// The failed logins.
@@ -54,6 +56,7 @@ impl Board {
             accepted: AtomicBool::new(false),
             over: AtomicBool::new(false),
             time: AtomicU64::new(now),
+            quiet: AtomicU64::new(0),
             tables: Tables::new(alloc, logins)?,
             attempts: Attempts::new(alloc),
             tally: Tally::new(alloc)?,

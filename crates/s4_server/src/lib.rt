@@ -21,6 +21,7 @@ mod opening;
 mod peer;
 mod peers;
 mod post;
+mod quiet;
 mod record_file;
 mod server;
 mod start;

@@ -8,6 +8,7 @@ use crate::clock::Ticks;
 use crate::connection::Connection;
 use crate::keeper::Keeper;
 use crate::post::{Post, wake_all};
+use crate::quiet::find_quiet;
 use crate::telling::Telling;
 use crate::upkeep::{Reloading, Upkeep};
 use crate::workers::Worker;
@@ -22,8 +23,11 @@ use std::thread;
 use std::thread::Threads;
 use std::time::{Clock, Duration};
 
-/// How many values of a cell are freed at a time.
+/// How many values of a cell are freed at a time, while its lock is held.
 const SWEPT: u64 = 256;
+
+/// How long it is swept in a round at most, in milliseconds, where there is always more to free.
+const SWEEPING: u64 = 10;
 
 /// How long a thread rests after each round, in milliseconds. So often it is looked for idle peers.
 const REST: u64 = 100;
@@ -154,10 +158,10 @@ fn work_all<R: Threads + Wait + Clock + Sync, C: Ticks>(
     }
 }
 
-/// Sweeps the cells in turn, round by round, and once more at the end. At each round it tells the time, and
-/// has the workers look after their peers. Where the server cuts, the records that no reply needs any
-/// more are cut after each round, but none that its journal may lack; a cut that memory was refused
-/// for is made up for by the next one.
+/// Sweeps round by round, and once more at the end. At each round it tells the time, and has the
+/// workers look after their peers. Where the server cuts, the records that no reply needs any more
+/// are cut after each round, but none that its journal may lack; a cut that memory was refused for
+/// is made up for by the next one. And cells that nobody asks are found, which would hold it up.
 fn sweep_to_the_end<R: Wait + Clock, C: Ticks>(
     shared: &Shared<'_, R, C>,
     cells: usize,
@@ -173,10 +177,9 @@ fn sweep_to_the_end<R: Wait + Clock, C: Ticks>(
         let now = shared.clock.moment().tick();
         shared.board.time.store(now, Ordering::SeqCst);
         wake_all(shared.posts);
-        for cell in 0..cells {
-            shared.front.sweep(shared.rt, cell, SWEPT);
-        }
+        sweep_all(shared, cells, now);
         if shared.cuts {
+            find_quiet(shared, cells);
             let kept = Moment::new(shared.board.kept.load(Ordering::SeqCst));
             let _ = shared.front.cut(shared.rt, shared.clock.moment().min(kept));
         }
@@ -184,6 +187,23 @@ fn sweep_to_the_end<R: Wait + Clock, C: Ticks>(
             return;
         }
         thread::sleep(shared.rt, Duration::from_millis(REST));
+    }
+}
+
+/// Sweeps the cells in turn, piece by piece, until there is no more to free or the time for that is
+/// over.
+fn sweep_all<R: Wait, C: Ticks>(shared: &Shared<'_, R, C>, cells: usize, begun: u64)
+    requires { cells ≡ shared.now.front.now.cells }
+{
+    for _ in shared.rt.forever() {
+        let mut most = 0;
+        for cell in 0..cells {
+            most = shared.front.sweep(shared.rt, cell, SWEPT).max(most);
+        }
+        let passed = shared.clock.moment().tick().saturating_sub(begun);
+        if most < SWEPT || passed >= SWEEPING {
+            return;
+        }
     }
 }
 

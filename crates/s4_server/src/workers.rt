@@ -9,6 +9,7 @@ use crate::desk::Desk;
 use crate::event::Kind;
 use crate::peers::Peers;
 use crate::post::Post;
+use crate::quiet::move_on;
 use crate::threads::Shared;
 use crate::watch::{Watch, place_of};
 use mio::net::TcpStream;
@@ -153,6 +154,7 @@ impl<R: Wait + Clock, C: Ticks> Worker<'_, R, C> {
         peers.serve_eager(shared, desk, now);
         if peers.look(shared, desk, now) {
             post.show(&peers.states());
+            move_on(shared, desk);
         }
         if shared.board.over.load(Ordering::SeqCst) {
             peers.end(desk, now);

@@ -1,6 +1,6 @@
 //! Peers with whom a server loses its patience.
 
-use crate::frames::{CALL, CREATE, HELLO, READ, SLOW_WRITE, WRITE};
+use crate::frames::{CALL, HELLO, SLOW_WRITE};
 use crate::scenes::{PAUSE, SILENT, TRIES, connect, tell};
 use std::alloc::Global;
 use std::io::{Error, ErrorKind, Read, Write};
@@ -54,17 +54,21 @@ pub fn trickle<R: Net<Listener = TcpListener, Stream = TcpStream> + Clock>(
     Ok(sent)
 }
 
-/// What a peer is sent that asks for a Create and a Write, and much later for a Read.
+/// What a peer is sent that says some frames, and each of others much later than all before.
 pub fn read_late<R: Net<Listener = TcpListener, Stream = TcpStream> + Clock>(
     rt: &R,
     alloc: Global,
+    first: &[&[u8]],
+    later: &[&[u8]],
 ) -> io::Result<Vec<u8>> {
     let mut stream = connect(rt)?;
-    for said in [HELLO, CREATE, WRITE] {
+    for said in first {
         stream.write_all(said)?;
     }
-    thread::sleep(rt, Duration::from_millis(LATE));
-    stream.write_all(READ)?;
+    for said in later {
+        thread::sleep(rt, Duration::from_millis(LATE));
+        stream.write_all(said)?;
+    }
     stream.shutdown(Shutdown::Write)?;
     let mut sent = Vec::new(alloc);
     stream.read_to_end(&mut sent)?;

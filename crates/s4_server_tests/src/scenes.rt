@@ -2,7 +2,7 @@
 
 use crate::asking::call_for;
 use crate::commands::obeyed;
-use crate::frames::{ANSWER, CALL, CREATE, HELLO, joined};
+use crate::frames::{ANSWER, CALL, CREATE, HELLO, READ, WRITE, joined};
 use crate::guesses::guess;
 use crate::patience::{come_after_strangers, dribble, read_late, trickle};
 use crate::reloads::reload;
@@ -42,6 +42,11 @@ const BEGUN: usize = 8000;
 const LONG_WRITE: &[u8] =
     b"\x00\x00\x0f\xaf\x04\x00\x00\x00\x07\x00\x00\x00\x01\x00\x00\x00\x00\x0f\xa0";
 
+/// A Create, a Write and eight Reads.
+const OFTEN: &[&[u8]] = &[
+    HELLO, CREATE, WRITE, READ, READ, READ, READ, READ, READ, READ, READ,
+];
+
 /// It reads them.
 const LONG_READ: &[u8] =
     b"\x00\x00\x00\x12\x03\x00\x00\x00\x07\x00\x00\x00\x01\x00\x00\x00\x00\x00\x00\x0f\xa0\x00";
@@ -73,6 +78,9 @@ pub enum Scene {
     Trickle,
     /// One asks for a Create and a Write, and for a Read when these are older than the window.
     ReadLate,
+    /// One asks for a Create, a Write and Reads, and twice for a Read when all before is older than
+    /// the window.
+    ReadLater,
     /// As many as may be open are silent, and another one comes until it is served.
     Strangers,
     /// The secret of 7 is guessed until an answer waits while others are welcomed.
@@ -123,7 +131,11 @@ pub fn play<
         Scene::LateHearing => one(alloc, hear_late(rt, files, alloc, paths.end)),
         Scene::Dribble => one(alloc, dribble(rt, alloc)),
         Scene::Trickle => one(alloc, trickle(rt, alloc)),
-        Scene::ReadLate => one(alloc, read_late(rt, alloc)),
+        Scene::ReadLate => one(
+            alloc,
+            read_late(rt, alloc, &[HELLO, CREATE, WRITE], &[READ]),
+        ),
+        Scene::ReadLater => one(alloc, read_late(rt, alloc, OFTEN, &[READ, READ])),
         Scene::Strangers => one(alloc, come_after_strangers(rt, alloc)),
         Scene::Guess => guess(rt, files, alloc, paths.end),
         Scene::Reload => reload(rt, files, alloc, paths),

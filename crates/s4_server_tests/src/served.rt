@@ -342,6 +342,24 @@ fn what_no_reply_needs_any_more_is_cut(rt: HostRuntime) -> Result<(), Fail> {
 }
 
 #[test]
+fn a_cell_that_nobody_asks_holds_up_no_cut(rt: HostRuntime) -> Result<(), Fail> {
+    // Twelve requests are asked, all in one of two cells.
+    check(
+        &rt,
+        &rt,
+        &Row {
+            idle: 60000,
+            hello: 60000,
+            cuts: true,
+            scene: Scene::ReadLater,
+            sent: Sent::Count(WELCOME.len() + MADE.len() + DONE.len() + 10 * DATA.len()),
+            records: (2, 6),
+            ..PLAIN
+        },
+    )
+}
+
+#[test]
 fn a_journal_has_what_was_recorded(rt: HostRuntime) -> Result<(), Fail> {
     check(
         &rt,

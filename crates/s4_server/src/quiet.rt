@@ -1,0 +1,100 @@
+//! Cells that nobody asks.
+
+ghost use Rattle.std.specs.Prelude.{◌↔◌, ◌+◌, ◌-◌, ◌<◌, ◌/◌, max, IsTrue};
+
+use crate::clock::Ticks;
+use crate::desk::Desk;
+use crate::threads::Shared;
+use s4_pool::{Gate, MOST_CELLS};
+use s4_talk::Answer;
+use s4_types::{Caller, Moment, Principal, Request, WireVersion};
+use std::sync::Wait;
+use std::sync::atomic::Ordering;
+
+/// Into how many parts a window is cut: a cell may be one of them behind the cell that was asked
+/// last.
+const PARTS: u64 = 20;
+
+/// How far a cell may be behind it in any case, in milliseconds: rounds come ten times as often.
+const LEAST: u64 = 1000;
+
+/// Has a worker ask in each cell that is behind, since it would hold up what is cut.
+pub fn find_quiet<R: Wait, C>(shared: &Shared<'_, R, C>, cells: usize) {
+    let mut newest = 0;
+    let mut horizon = 0;
+    for cell in 0..cells {
+        if let Some(measure) = shared.front.measure(shared.rt, cell) {
+            newest = newest.max(measure.last.tick());
+            horizon = horizon.max(measure.horizon.tick());
+        }
+    }
+    // Until a window is over no cell holds anything up.
+    if horizon == 0 {
+        return;
+    }
+    let mut quiet = 0;
+    for cell in 0..cells {
+        let last = shared
+            .front
+            .measure(shared.rt, cell)
+            .map_or(0, |measure| measure.last.tick());
+        if is_behind(last, newest, horizon) {
+            quiet |= bit(cell);
+        }
+    }
+    shared.board.quiet.store(quiet, Ordering::SeqCst);
+}
+
+/// Whether a cell whose newest record has the moment `last` is behind the cells' newest record, by
+/// which their greatest horizon is that one.
+fn is_behind(last: u64, newest: u64, horizon: u64) -> bool
+    ensures { IsTrue result ↔ (last + max ((newest - horizon) / 20) 1000 < newest) }
+{
+    let window = newest.saturating_sub(horizon);
+    let allowed = (window / PARTS).max(LEAST);
+    last.saturating_add(allowed) < newest
+}
+
+/// The bit of a cell; none where there are no such cells.
+fn bit(cell: usize) -> u64 {
+    if cell < MOST_CELLS { 1 << cell } else { 0 }
+}
+
+/// Asks in each cell that was found behind: the administrator, for the partitions of a principal
+/// there at a moment that isn't yet. That is answered Future, looks nothing up, and leaves a record,
+/// so the cell's horizon moves on.
+pub fn move_on<R: Wait, C: Ticks, G: Gate>(
+    shared: &Shared<'_, R, C>,
+    desk: &mut Desk<'_, R, C, G>,
+) {
+    let quiet = shared.board.quiet.swap(0, Ordering::SeqCst);
+    if quiet == 0 {
+        return;
+    }
+    desk.connection = 0;
+    for cell in 0..MOST_CELLS {
+        if quiet & bit(cell) != 0 {
+            if let Some(range) = Principal::new(cell as u32) {
+                desk.answer(steward(), in_the_future(range));
+            }
+        }
+    }
+}
+
+/// Who asks there.
+fn steward() -> Caller {
+    Caller {
+        who: Principal::administrator(),
+        client: 0,
+        version: WireVersion::One,
+    }
+}
+
+/// What is asked there.
+fn in_the_future(range: Principal) -> Request {
+    Request::PList {
+        range,
+        after: None,
+        at: Some(Moment::new(u64::MAX)),
+    }
+}
