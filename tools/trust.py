@@ -28,6 +28,14 @@ THEOREMS = [
 # The rules that all theorems speak of: a name, and the definitions with their modules.
 RULES = ("the rules: answers, histories and strikes", (("s4_types.specs.Answer", "answer"), ("s4_types.specs.Play", "play"), ("s4_types.specs.Strike", "strike")))
 
+# Definitions that a law says in other words: whoever reads these needn't read those. The law's clauses name both.
+LAWS = [
+    ("s4_codec", "laws.rt", "spellings_are_in_the_table", ("said", "read"), "s4_codec.specs.Requests", "request_in", ("s4_codec.specs.Table",)),
+    ("s4_codec", "laws.rt", "spellings_are_in_the_table", ("reply",), "s4_codec.specs.Replies", "reply", ("s4_codec.specs.Table",)),
+    ("s4_codec", "laws.rt", "spellings_are_in_the_table", ("bodies",), "s4_codec.specs.Replies", "has_body", ("s4_codec.specs.Table", "s4_codec.specs.Versions")),
+    ("s4_stream", "laws.rt", "hellos_are_their_rows", ("said", "read"), "s4_stream.specs.Hello", "hello_in", ("s4_stream.specs.Rows",)),
+]
+
 IMPORTED = re.compile(r"\s*(?:ghost )?use Rattle\.([\w.]+)\.\{(.*)\};?\s*$")
 RENAMED = re.compile(r"\s*(?:ghost )?use Rattle\.([\w.]+?)(?: as (\w+))?;?\s*$")
 HEAD = re.compile(r"(?:abbrev )?(?:pub )?(?:record |data |abbrev )?([^\s:()]+)")
@@ -88,9 +96,23 @@ class Specs:
         """The definitions that a text cites."""
         return {it for word in set(WORD.findall(text)) for it in names.places(word) if it in self.lines}
 
+    @functools.cached_property
+    def said_by_laws(self):
+        """Of each definition that a law says in other words, the definitions of these."""
+        found = {}
+        for crate, file, law, clauses, module, name, words in LAWS:
+            lines, names = clauses_of(self.root, crate, file, law, clauses)
+            cited = self.cited(names, "\n".join(lines))
+            if (module, name) not in cited:
+                raise SystemExit(f"references: {law} doesn't speak of {name}")
+            found[module, name] = {it for it in cited if it[0] in words}
+        return found
+
     @functools.cache
     def cited_by(self, place):
-        """The definitions that a definition cites."""
+        """The definitions that a definition cites, or that a law has in its place."""
+        if place in self.said_by_laws:
+            return self.said_by_laws[place]
         return self.cited(self.names[place[0]], "\n".join(self.lines[place]))
 
     def reached(self, names, text):
@@ -101,7 +123,7 @@ class Specs:
             if place not in found:
                 found.add(place)
                 waiting += self.cited_by(place)
-        return found
+        return found - self.said_by_laws.keys()
 
     def lines_of(self, places):
         return sum(len(self.lines[it]) for it in places)
@@ -120,14 +142,19 @@ def clauses_in(lines, wanted):
     return kept
 
 
-def of_theorem(specs, crate, file, function, wanted):
-    """The definitions that a theorem reaches."""
-    text = (specs.root / "crates" / crate / "src" / file).read_text(encoding="utf-8")
+def clauses_of(root, crate, file, function, wanted):
+    """The lines of clauses of a function and of what callers see of its types, and what their words stand for."""
+    text = (root / "crates" / crate / "src" / file).read_text(encoding="utf-8")
     lines = clauses_in(contracts_of(text)[function][1], wanted)
     if not lines:
         raise SystemExit(f"references: {function} has no such clauses in crates/{crate}/src/{file}")
-    values = [it for it in text.split("\n") if VALUE.match(it)]
-    return specs.reached(Names("", text), "\n".join(lines + values))
+    return lines + [it for it in text.split("\n") if VALUE.match(it)], Names("", text)
+
+
+def of_theorem(specs, crate, file, function, wanted):
+    """The definitions that a theorem reaches."""
+    lines, names = clauses_of(specs.root, crate, file, function, wanted)
+    return specs.reached(names, "\n".join(lines))
 
 
 def of_words(specs, words):

@@ -2,6 +2,7 @@
 use Rattle.std.specs.Prelude.{◌⊎◌, ⊤, ℕ, Option, Result, List, ◌++◌, take, IsErrOf}
 use Rattle.std.specs.Io.KnownBytes.{Appends, Consumes}
 use Rattle.s4_types.specs.declared.request.Request.{Request}
+use Rattle.s4_types.specs.declared.principal.WireVersion.TheVariants.{One}
 use Rattle.s4_codec.specs.Frames.{framed}
 use Rattle.s4_codec.specs.Requests as requests
 use Rattle.s4_stream.specs.declared.hello.Hello.{Hello}
@@ -13,7 +14,7 @@ use Rattle.s4_stream.specs.Talk.{welcome, fault_frame}
 
 -- the frame of the Hello, and then that of the request
 abbrev pub message_of : Hello → Request → List ℕ
-message_of hello request = framed (hellos.hello.spell hello) ++ framed (requests.request.spell request)
+message_of hello request = framed (hellos.hello.spell hello) ++ framed ((requests.request One).spell request)
 
 -- A beginning of these bytes is written, and nothing else.
 abbrev pub Begins : Option (List ℕ) → Option (List ℕ) → List ℕ → Type 0

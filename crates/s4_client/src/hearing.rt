@@ -10,9 +10,9 @@ ghost use Rattle.s4_client.specs.Calls.{Begins, HearsFault, IfFault, IsLoss, IsM
 ghost use Rattle.s4_client.specs.declared.fault.CallFault.TheVariants as fault;
 
 use crate::fault::CallFault;
-use s4_codec::{FRAME_LIMIT, ReadError, read_reply};
+use s4_codec::{ReadError, frame_limit, read_reply};
 use s4_stream::{FAULT, SessionFault, VERSION, WELCOME};
-use s4_types::Reply;
+use s4_types::{Reply, WireVersion};
 use std::alloc::Global;
 use std::io::{ErrorKind, Read, Write};
 
@@ -102,7 +102,7 @@ fn hear_reply<R: Read>(alloc: Global, reader: &mut R) -> Result<Reply, CallFault
     ensures met { IfErr result IsMet }
 {
     let body = hear_body(alloc, reader)?;
-    match read_reply(alloc, body.as_slice()) {
+    match read_reply(WireVersion::One, alloc, body.as_slice()) {
         Ok(reply) => Ok(reply),
         Err(ReadError::Malformed) => Err(fault_in(body.as_slice())),
         Err(ReadError::NoMemory) => Err(CallFault::NoMemory),
@@ -130,7 +130,7 @@ fn hear_length<R: Read>(reader: &mut R) -> Result<u32, CallFault>
     let mut head = [0; 4];
     fill(reader, &mut head)?;
     let length = length_in(head);
-    if length == 0 || length as usize > FRAME_LIMIT {
+    if length == 0 || length as usize > frame_limit(WireVersion::One) {
         return Err(CallFault::ConnectionLost);
     }
     Ok(length)

@@ -2,8 +2,10 @@
 
 ghost use Rattle.std.specs.Prelude.{◌≡◌, ◌<◌, ◌≤◌, ◌++◌, ◌⊎◌, ℕ, List, IfErr, IfOk, IsErrOf, OnOk, length};
 ghost use Rattle.byteorder.specs.Endian.{big_bytes};
-ghost use Rattle.s4_codec.specs.Frames.{frame_limit, framed};
+ghost use Rattle.s4_types.specs.declared.principal.WireVersion.TheVariants.{One};
+ghost use Rattle.s4_codec.specs.Frames.{framed};
 ghost use Rattle.s4_codec.specs.Requests.{IsRequestBody};
+ghost use Rattle.s4_codec.specs.Versions.{frame_limit};
 ghost use Rattle.s4_stream.specs.Hello as format;
 ghost use Rattle.s4_client.specs.Calls.{message_of};
 ghost use Rattle.s4_client.specs.declared.fault.CallFault.TheVariants as fault;
@@ -13,7 +15,7 @@ use byteorder::{BigEndian, ByteOrder};
 use bytes::BytesMut;
 use s4_codec::{WriteError, write_request};
 use s4_stream::{Hello, add_frame};
-use s4_types::{NoMemory, Request};
+use s4_types::{NoMemory, Request, WireVersion};
 use std::alloc::Global;
 
 /// The code of a Hello.
@@ -24,10 +26,10 @@ const HELLO: u8 = 0;
 pub fn message(alloc: Global, hello: &Hello, request: &Request) -> Result<Vec<u8>, CallFault>
     ensures message { IfOk result (λ message. message.items ≡ message_of hello.now request.now) }
     ensures bad { IsErrOf result fault.BadRequest
-        → (body : List ℕ) → IsRequestBody body request.now → ⊥ }
+        → (body : List ℕ) → IsRequestBody One body request.now → ⊥ }
     ensures why { IfErr result (λ why. (why ≡ fault.BadRequest) ⊎ (why ≡ fault.NoMemory)) }
 {
-    let body = match write_request(alloc, request) {
+    let body = match write_request(WireVersion::One, alloc, request) {
         Ok(body) => body,
         Err(WriteError::TooBig) => return Err(CallFault::BadRequest),
         Err(WriteError::NoMemory) => return Err(CallFault::NoMemory),
@@ -38,7 +40,7 @@ pub fn message(alloc: Global, hello: &Hello, request: &Request) -> Result<Vec<u8
 /// The frame of a Hello, and then that of a body.
 fn framed(alloc: Global, hello: &Hello, body: &[u8]) -> Result<Vec<u8>, NoMemory>
     requires some { 0 < length body.now }
-    requires limit { length body.now ≤ frame_limit }
+    requires limit { length body.now ≤ frame_limit One }
     ensures { IfOk result
         (λ message. message.items ≡ framed (format.hello.spell hello.now) ++ framed body.now) }
 {

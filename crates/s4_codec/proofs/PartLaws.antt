@@ -7,9 +7,12 @@ use Rattle.s4_types.specs.declared.reply.Grant.{Grant}
 use Rattle.s4_types.specs.declared.reply.Grant.TheVariants as grants
 use Rattle.s4_types.specs.Rights.{number_of}
 use Rattle.s4_types.specs.Name.{is_name}
+use Rattle.s4_types.specs.declared.principal.WireVersion.{WireVersion}
+use Rattle.s4_types.specs.declared.principal.WireVersion.TheVariants.{One, Two}
+use Rattle.s4_codec.specs.Versions.{length_width}
 use Rattle.s4_codec.specs.Format.{◌&◌, byte, number, counted, only, optional}
 use Rattle.s4_codec.specs.Parts.{moment, principal, user, purse_number, index, serial, pad, purse, object, name, byte_string, rights, rights_given, optional_moment, after, optional_after, grant, grant_of, part_of_grant, flag, flag_of, number_of_flag, right_needed, right_of, is_right}
-use Rattle.s4_codec.proofs.Lawful.{IsFormat, some_is, both_true, byte_is, number_is, wide2, wide4, wide8, pair_is, only_is, made_is, optional_is, counted_is}
+use Rattle.s4_codec.proofs.Lawful.{IsFormat, IsWide, some_is, both_true, byte_is, number_is, wide2, wide4, wide8, pair_is, only_is, made_is, optional_is, counted_is}
 use Rattle.std.proofs.lemmas.Bool.{eqb-true, ltb-true}
 
 pub moment_is : IsFormat moment
@@ -50,8 +53,13 @@ object_is = made_is (principal & (pad & (purse_number & serial))) _ _
 pub name_is : IsFormat name
 name_is = only_is is_name (counted byte) (counted_is byte byte_is)
 
-pub bytes_are : IsFormat byte_string
-bytes_are = counted_is (number 2) (number_is 2 wide2)
+-- the only step that looks at the version
+pub width_is : (version : WireVersion) → IsWide (length_width version)
+width_is One = wide2
+width_is Two = wide4
+
+pub bytes_are : (version : WireVersion) → IsFormat (byte_string version)
+bytes_are version = counted_is (number (length_width version)) (number_is (length_width version) (width_is version))
 
 pub rights_are : IsFormat rights
 rights_are = only_is _ byte byte_is

@@ -10,6 +10,7 @@ use Rattle.s4_types.specs.declared.reply.Refusal.TheVariants.{Denied, NoObject, 
 use Rattle.s4_types.specs.declared.reply.Reply.{Reply}
 use Rattle.s4_types.specs.declared.reply.Reply.TheVariants.{Done, Made, Data, Attr, Entry, Mounted, Names, Audit, Refused}
 use Rattle.s4_types.specs.Audit.{number_of_refusal}
+use Rattle.s4_types.specs.declared.principal.WireVersion.{WireVersion}
 use Rattle.s4_codec.specs.Format.{◌&◌, byte, number}
 use Rattle.s4_codec.specs.Parts.{moment, principal, object, name, grant, flag}
 use Rattle.s4_codec.specs.Replies.{name_line, code, reply_code, audit_line, is_same, refusals, refusal, kind_of, bodies, reply, part_of_denied, part_of_too_old, part_of_over_budget, part_of_done, part_of_made, part_of_data, part_of_attr, part_of_entry, part_of_mounted, part_of_names, part_of_audit, part_of_refused}
@@ -157,12 +158,12 @@ back_refused : (r : Reply) (x : Refusal) → part_of_refused r ≡ Some x → Re
 back_refused (Refused r) x e = rw (sym (some_is r x e)) refl
 back_refused _ x e = absurd cc
 
-cases_of : AreCases kind_of 0 bodies
-cases_of =
+cases_of : (version : WireVersion) → AreCases kind_of 0 (bodies version)
+cases_of version =
     made_case nothing_is (λ x. refl) back_done (λ x. refl)
     and made_case object_is (λ x. refl) back_made (λ x. refl)
-    and made_case (pair_is grant_is bytes_are) (λ x. refl) back_data (λ x. refl)
-    and made_case (pair_is grant_is bytes_are) (λ x. refl) back_attr (λ x. refl)
+    and made_case (pair_is grant_is (bytes_are version)) (λ x. refl) back_data (λ x. refl)
+    and made_case (pair_is grant_is (bytes_are version)) (λ x. refl) back_attr (λ x. refl)
     and made_case (pair_is grant_is (pair_is index_is (pair_is user_is rights_given_is))) (λ x. refl) back_entry (λ x. refl)
     and made_case (pair_is grant_is object_is) (λ x. refl) back_mounted (λ x. refl)
     and made_case (pair_is (list_is 64 name_line (omega arith) name_line_is) flag_is) (λ x. refl) back_names (λ x. refl)
@@ -170,5 +171,5 @@ cases_of =
     and made_case refusal_is (λ x. refl) back_refused (λ x. refl)
     and tt
 
-pub reply_is : IsFormat reply
-reply_is = cases_are kind_of bodies cases_of
+pub reply_is : (version : WireVersion) → IsFormat (reply version)
+reply_is version = cases_are kind_of (bodies version) (cases_of version)

@@ -6,6 +6,7 @@ use Rattle.s4_types.specs.declared.request.After.{After}
 use Rattle.s4_types.specs.declared.request.Request.{Request}
 use Rattle.s4_types.specs.declared.request.Request.TheVariants.{Create, Delete, Read, Write, Append, Truncate, GetAttr, SetAttr, GetAclByUser, GetAclByIndex, SetAcl, PCreate, PDelete, PList, PMount, Flush, FlushO, SetWindow, SetBudget, ReadAudit}
 use Rattle.s4_types.specs.Audit.{code_of}
+use Rattle.s4_types.specs.declared.principal.WireVersion.{WireVersion}
 use Rattle.s4_codec.specs.Parts.{purse, name, rights}
 use Rattle.s4_codec.specs.Requests.{request, bodies, part_of_create, part_of_delete, part_of_read, part_of_write, part_of_append, part_of_truncate, part_of_get_attr, part_of_set_attr, part_of_get_acl_by_user, part_of_get_acl_by_index, part_of_set_acl, part_of_pcreate, part_of_pdelete, part_of_plist, part_of_pmount, part_of_flush, part_of_flush_object, part_of_set_window, part_of_set_budget, part_of_read_audit}
 use Rattle.s4_codec.proofs.Lawful.{AreCases, IsFormat, some_is, byte_is, pair_is, cases_are, made_case, no_case, ◌and◌}
@@ -91,17 +92,17 @@ back_read_audit : (r : Request) (x : ℕ × ℕ) → part_of_read_audit r ≡ So
 back_read_audit (ReadAudit range skip) x e = rw (sym (some_is (range, skip) x e)) refl
 back_read_audit _ x e = absurd cc
 
-cases_of : AreCases code_of 0 bodies
-cases_of =
+cases_of : (version : WireVersion) → AreCases code_of 0 (bodies version)
+cases_of version =
     no_case
     and made_case purse_number_is (λ x. refl) back_create (λ x. refl)
     and made_case object_is (λ x. refl) back_delete (λ x. refl)
     and made_case (pair_is object_is (pair_is word_is (pair_is word_is optional_moment_is))) (λ x. refl) back_read (λ x. refl)
-    and made_case (pair_is object_is (pair_is word_is bytes_are)) (λ x. refl) back_write (λ x. refl)
-    and made_case (pair_is object_is bytes_are) (λ x. refl) back_append (λ x. refl)
+    and made_case (pair_is object_is (pair_is word_is (bytes_are version))) (λ x. refl) back_write (λ x. refl)
+    and made_case (pair_is object_is (bytes_are version)) (λ x. refl) back_append (λ x. refl)
     and made_case (pair_is object_is word_is) (λ x. refl) back_truncate (λ x. refl)
     and made_case (pair_is object_is optional_moment_is) (λ x. refl) back_get_attr (λ x. refl)
-    and made_case (pair_is object_is bytes_are) (λ x. refl) back_set_attr (λ x. refl)
+    and made_case (pair_is object_is (bytes_are version)) (λ x. refl) back_set_attr (λ x. refl)
     and made_case (pair_is object_is (pair_is user_is optional_moment_is)) (λ x. refl) back_get_acl_by_user (λ x. refl)
     and made_case (pair_is object_is (pair_is byte_is optional_moment_is)) (λ x. refl) back_get_acl_by_index (λ x. refl)
     and made_case (pair_is object_is (pair_is user_is rights_are)) (λ x. refl) back_set_acl (λ x. refl)
@@ -116,5 +117,5 @@ cases_of =
     and made_case (pair_is principal_is word_is) (λ x. refl) back_read_audit (λ x. refl)
     and tt
 
-pub request_is : IsFormat request
-request_is = cases_are code_of bodies cases_of
+pub request_is : (version : WireVersion) → IsFormat (request version)
+request_is version = cases_are code_of (bodies version) (cases_of version)

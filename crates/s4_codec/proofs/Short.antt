@@ -1,5 +1,5 @@
--- How long spellings are at most, and that a reply within the limits of version 1 has one within a frame.
-use Rattle.std.proofs.Common.{◌≡◌, ℕ, ◌+◌, ◌*◌, ◌≤◌, ◌<◌, Bool, true, false, ◌&&◌, Option, Some, None, List, [], ◌∷◌, ◌++◌, length, refl, arith}
+-- How long spellings are at most, and that a reply within the limits of its version has one within a frame.
+use Rattle.std.proofs.Common.{◌≡◌, ℕ, ◌+◌, ◌*◌, ◌^◌, ◌≤◌, ◌<◌, Bool, true, false, ◌&&◌, Option, Some, None, List, [], ◌∷◌, ◌++◌, length, refl, arith}
 use Rattle.std.specs.Prelude.{◌==◌, nat_le, nat_lt}
 use Rattle.std.specs.List.{flat_map, list_all}
 use Rattle.std.proofs.lemmas.Bool.{leb-true, le-leb}
@@ -13,12 +13,16 @@ use Rattle.s4_types.specs.declared.reply.Reply.{Reply}
 use Rattle.s4_types.specs.declared.reply.Reply.TheVariants.{Done, Made, Data, Attr, Entry, Mounted, Names, Audit, Refused}
 use Rattle.s4_types.specs.Rights.{number_of}
 use Rattle.s4_types.specs.Name.{is_name, is_name_byte}
-use Rattle.s4_types.specs.Limits.{is_shown_grant, is_within_limits}
+use Rattle.s4_types.specs.Limits.{is_shown_grant, is_within_limits, data_limit}
+use Rattle.s4_types.specs.declared.principal.WireVersion.{WireVersion}
+use Rattle.s4_types.specs.declared.principal.WireVersion.TheVariants.{One, Two}
 use Rattle.s4_codec.specs.Format.{Format, ◌&◌, byte, number, only, made, fits_part, spell_part, optional, list_up_to}
 use Rattle.s4_codec.specs.Parts.{moment, principal, user, purse_number, index, serial, pad, object, name, byte_string, rights_given, grant, flag, flag_of, number_of_flag, right_needed, right_of, is_right}
-use Rattle.s4_codec.specs.Frames.{frame_limit, framed, front_of, Whole}
+use Rattle.s4_codec.specs.Versions.{length_width, frame_limit}
+use Rattle.s4_codec.specs.Frames.{framed, front_of, Whole}
 use Rattle.s4_codec.specs.Replies.{name_line, code, reply_code, audit_line, refusal, reply, reply_in, has_body}
 use Rattle.s4_codec.proofs.Lawful.{IsWide, wide2, wide4, wide8, both_true, spelled_is_read}
+use Rattle.s4_codec.proofs.PartLaws.{width_is}
 use Rattle.s4_codec.proofs.ReplyLaws.{reply_is}
 use Rattle.s4_codec.proofs.FrameLaws.{front-framed}
 
@@ -171,53 +175,75 @@ names_short = pair_short 3265 1 (list_up_to 64 name_line) flag (lines_short 64 5
 audit_short : IsShort 610 (list_up_to 32 audit_line & flag)
 audit_short = pair_short 609 1 (list_up_to 32 audit_line) flag (lines_short 32 19 audit_line audit_line_short) flag_short
 
-read_short : (g : Grant) (bytes : List ℕ) → (grant & byte_string).fits (g, bytes) ≡ true → length bytes ≤ 4096 → length ((grant & byte_string).spell (g, bytes)) ≤ 4108
-read_short g bytes e few =
-    let own = grant_short.most g (both_true (grant.fits g) (byte_string.fits bytes) e).0 in
-    let size = wide2.len (length bytes) in
-    let sum = length-append (grant.spell g) (byte_string.spell bytes) in
-    let parts = length-append (big_bytes 2 (length bytes)) bytes in
-    omega (arith, own, size, sum, parts, few)
+-- ---- frames of each version
+
+-- a kind, a grant, a length and data
+data_room : (version : WireVersion) → 1 + 10 + length_width version + data_limit version ≤ frame_limit version
+data_room One = omega arith
+data_room Two = omega arith
+
+some_data : (version : WireVersion) → 256 ≤ data_limit version
+some_data One = omega arith
+some_data Two = omega arith
+
+frame_room : (version : WireVersion) → 8192 ≤ frame_limit version
+frame_room One = omega arith
+frame_room Two = omega arith
+
+frame_fits : (version : WireVersion) → frame_limit version < 2 ^ 32
+frame_fits One = omega arith
+frame_fits Two = omega arith
+
+read_short : (version : WireVersion) (g : Grant) (bytes : List ℕ) → (grant & byte_string version).fits (g, bytes) ≡ true → length bytes ≤ data_limit version → length ((grant & byte_string version).spell (g, bytes)) + 1 ≤ frame_limit version
+read_short version g bytes e few =
+    let own = grant_short.most g (both_true (grant.fits g) ((byte_string version).fits bytes) e).0 in
+    let size = (width_is version).len (length bytes) in
+    let sum = length-append (grant.spell g) ((byte_string version).spell bytes) in
+    let parts = length-append (big_bytes (length_width version) (length bytes)) bytes in
+    let room = data_room version in
+    omega (arith, own, size, sum, parts, few, room)
 
 few_bytes : (a : Bool) (n most : ℕ) → (a && nat_le n most) ≡ true → n ≤ most
 few_bytes a n most e = leb-true n most (both_true a (nat_le n most) e).1
 
 -- a kind of reply, and its fields
-with_kind : (kind most : ℕ) (fields : List ℕ) → length fields ≤ most → most ≤ 8191 → length (kind ∷ fields) ≤ 8192
-with_kind kind most fields few small = omega (arith, few, small)
+with_kind : (version : WireVersion) (kind most : ℕ) (fields : List ℕ) → length fields ≤ most → most ≤ 8191 → length (kind ∷ fields) ≤ frame_limit version
+with_kind version kind most fields few small = let room = frame_room version in omega (arith, few, small, room)
 
-pub spelled_short : (r : Reply) → reply.fits r ≡ true → is_within_limits One r ≡ true → length (reply.spell r) ≤ 8192
-spelled_short Done e w = with_kind 0 0 [] (omega arith) (omega arith)
-spelled_short (Made o) e w = with_kind 1 8 (object.spell o) (object_short.most o e) (omega arith)
-spelled_short (Data g bytes) e w = with_kind 2 4108 ((grant & byte_string).spell (g, bytes)) (read_short g bytes e (few_bytes (is_shown_grant g) (length bytes) 4096 w)) (omega arith)
-spelled_short (Attr g bytes) e w =
+pub spelled_short : (version : WireVersion) (r : Reply) → (reply version).fits r ≡ true → is_within_limits version r ≡ true → length ((reply version).spell r) ≤ frame_limit version
+spelled_short version Done e w = with_kind version 0 0 [] (omega arith) (omega arith)
+spelled_short version (Made o) e w = with_kind version 1 8 (object.spell o) (object_short.most o e) (omega arith)
+spelled_short version (Data g bytes) e w = let short = read_short version g bytes e (few_bytes (is_shown_grant g) (length bytes) (data_limit version) w) in omega (arith, short)
+spelled_short version (Attr g bytes) e w =
     let few : length bytes ≤ 256 = few_bytes (is_shown_grant g) (length bytes) 256 w in
-    with_kind 3 4108 ((grant & byte_string).spell (g, bytes)) (read_short g bytes e (omega (arith, few))) (omega arith)
-spelled_short (Entry g i who rights) e w = with_kind 4 16 ((grant & (index & (user & rights_given))).spell (g, (i, (who, rights)))) (entry_short.most (g, (i, (who, rights))) e) (omega arith)
-spelled_short (Mounted g o) e w = with_kind 5 18 ((grant & object).spell (g, o)) (mounted_short.most (g, o) e) (omega arith)
-spelled_short (Names lines more) e w = with_kind 6 3266 ((list_up_to 64 name_line & flag).spell (lines, more)) (names_short.most (lines, more) e) (omega arith)
-spelled_short (Audit lines more) e w = with_kind 7 610 ((list_up_to 32 audit_line & flag).spell (lines, more)) (audit_short.most (lines, more) e) (omega arith)
-spelled_short (Refused r) e w = with_kind 8 13 (refusal.spell r) (refusal_short r e) (omega arith)
+    let some = some_data version in
+    let short = read_short version g bytes e (omega (arith, few, some)) in
+    omega (arith, short)
+spelled_short version (Entry g i who rights) e w = with_kind version 4 16 ((grant & (index & (user & rights_given))).spell (g, (i, (who, rights)))) (entry_short.most (g, (i, (who, rights))) e) (omega arith)
+spelled_short version (Mounted g o) e w = with_kind version 5 18 ((grant & object).spell (g, o)) (mounted_short.most (g, o) e) (omega arith)
+spelled_short version (Names lines more) e w = with_kind version 6 3266 ((list_up_to 64 name_line & flag).spell (lines, more)) (names_short.most (lines, more) e) (omega arith)
+spelled_short version (Audit lines more) e w = with_kind version 7 610 ((list_up_to 32 audit_line & flag).spell (lines, more)) (audit_short.most (lines, more) e) (omega arith)
+spelled_short version (Refused r) e w = with_kind version 8 13 (refusal.spell r) (refusal_short r e) (omega arith)
 
 -- a reply whose spelling is longer than a frame isn't within the limits
-pub longer_exceeds : (r : Reply) → reply.fits r ≡ true → 8192 < length (reply.spell r) → is_within_limits One r ≡ false
-longer_exceeds r e long = of (is_within_limits One r) refl
+pub longer_exceeds : (version : WireVersion) (r : Reply) → (reply version).fits r ≡ true → frame_limit version < length ((reply version).spell r) → is_within_limits version r ≡ false
+longer_exceeds version r e long = of (is_within_limits version r) refl
   where
-    of : (b : Bool) → is_within_limits One r ≡ b → b ≡ false
-    of true w = let short = spelled_short r e w in absurd (omega (arith, long, short))
+    of : (b : Bool) → is_within_limits version r ≡ b → b ≡ false
+    of true w = let short = spelled_short version r e w in absurd (omega (arith, long, short))
     of false w = refl
 
 -- BODIES OF REPLIES
 
-pub within_has_body : (r : Reply) → reply.fits r ≡ true → is_within_limits One r ≡ true → has_body r ≡ true
-within_has_body r e w = rw (e, le-leb (length (reply.spell r)) 8192 (spelled_short r e w)) refl
+pub within_has_body : (version : WireVersion) (r : Reply) → (reply version).fits r ≡ true → is_within_limits version r ≡ true → has_body version r ≡ true
+within_has_body version r e w = rw (e, le-leb (length ((reply version).spell r)) (frame_limit version) (spelled_short version r e w)) refl
 
-pub body_read : (r : Reply) → has_body r ≡ true → reply_in (reply.spell r) ≡ Some r
-body_read r e =
-    let parts = both_true (reply.fits r) (nat_le (length (reply.spell r)) frame_limit) e in
-    spelled_is_read frame_limit reply reply_is (reply.spell r) r (record { fits = parts.0; spelled = refl; in_frame = parts.1 })
+pub body_read : (version : WireVersion) (r : Reply) → has_body version r ≡ true → reply_in version ((reply version).spell r) ≡ Some r
+body_read version r e =
+    let parts = both_true ((reply version).fits r) (nat_le (length ((reply version).spell r)) (frame_limit version)) e in
+    spelled_is_read (frame_limit version) (reply version) (reply_is version) ((reply version).spell r) r (record { fits = parts.0; spelled = refl; in_frame = parts.1 })
 
-pub body_framed : (r : Reply) (rest : List ℕ) → has_body r ≡ true → front_of frame_limit (framed (reply.spell r) ++ rest) ≡ Whole (reply.spell r) rest
-body_framed r rest e =
-    let parts = both_true (reply.fits r) (nat_le (length (reply.spell r)) frame_limit) e in
-    front-framed frame_limit (reply.spell r) rest (omega arith) (leb-true (length (reply.spell r)) frame_limit parts.1) (omega arith)
+pub body_framed : (version : WireVersion) (r : Reply) (rest : List ℕ) → has_body version r ≡ true → front_of (frame_limit version) (framed ((reply version).spell r) ++ rest) ≡ Whole ((reply version).spell r) rest
+body_framed version r rest e =
+    let parts = both_true ((reply version).fits r) (nat_le (length ((reply version).spell r)) (frame_limit version)) e in
+    front-framed (frame_limit version) ((reply version).spell r) rest (omega arith) (leb-true (length ((reply version).spell r)) (frame_limit version) parts.1) (frame_fits version)

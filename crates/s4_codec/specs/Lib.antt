@@ -1,4 +1,6 @@
 pub mod Format
+pub mod Versions
+pub mod Table
 pub mod Parts
 pub mod Requests
 pub mod Replies
@@ -7,3 +9,4 @@ pub mod Fronts
 pub mod Readings
 pub mod Writings
 pub mod Texts
+pub mod Fits

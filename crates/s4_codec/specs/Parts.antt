@@ -9,6 +9,8 @@ use Rattle.s4_types.specs.declared.reply.Grant.{Grant}
 use Rattle.s4_types.specs.declared.reply.Grant.TheVariants as grants
 use Rattle.s4_types.specs.Rights.{number_of}
 use Rattle.s4_types.specs.Name.{is_name}
+use Rattle.s4_types.specs.declared.principal.WireVersion.{WireVersion}
+use Rattle.s4_codec.specs.Versions.{length_width}
 use Rattle.s4_codec.specs.Format.{Format, ◌&◌, byte, number, counted, only, made, optional}
 
 -- a tick
@@ -54,8 +56,8 @@ abbrev pub name : Format (List ℕ)
 name = only is_name (counted byte)
 
 -- data or attributes
-abbrev pub byte_string : Format (List ℕ)
-byte_string = counted (number 2)
+abbrev pub byte_string : WireVersion → Format (List ℕ)
+byte_string version = counted (number (length_width version))
 
 -- the rights that a SetAcl gives, which may be none
 abbrev pub rights : Format ℕ

@@ -12,7 +12,8 @@ use Rattle.s4_types.specs.declared.reply.Reply.TheVariants.{Done, Made, Data, At
 use Rattle.s4_types.specs.Audit.{number_of_refusal}
 use Rattle.s4_codec.specs.Format.{Format, nothing, ◌&◌, byte, number, only, made, list_up_to, cases, no_format, value_in, fits_in, Spells}
 use Rattle.s4_codec.specs.Parts.{moment, principal, user, index, object, name, byte_string, rights_given, grant, flag, right_needed}
-use Rattle.s4_codec.specs.Frames.{frame_limit}
+use Rattle.s4_types.specs.declared.principal.WireVersion.{WireVersion}
+use Rattle.s4_codec.specs.Versions.{frame_limit}
 
 -- LINES
 
@@ -152,11 +153,11 @@ done = made nothing (λ x. Done) part_of_done
 abbrev pub made_object : Format Reply
 made_object = made object Made part_of_made
 
-abbrev pub data_read : Format Reply
-data_read = made (grant & byte_string) (λ x. Data x.0 x.1) part_of_data
+abbrev pub data_read : WireVersion → Format Reply
+data_read version = made (grant & byte_string version) (λ x. Data x.0 x.1) part_of_data
 
-abbrev pub attr_read : Format Reply
-attr_read = made (grant & byte_string) (λ x. Attr x.0 x.1) part_of_attr
+abbrev pub attr_read : WireVersion → Format Reply
+attr_read version = made (grant & byte_string version) (λ x. Attr x.0 x.1) part_of_attr
 
 abbrev pub entry : Format Reply
 entry = made (grant & (index & (user & rights_given))) (λ x. Entry x.0 x.1.0 x.1.1.0 x.1.1.1) part_of_entry
@@ -174,12 +175,12 @@ abbrev pub refused : Format Reply
 refused = made refusal Refused part_of_refused
 
 -- the format of each kind of reply, in the place of its number
-abbrev pub bodies : List (Format Reply)
-bodies =
+abbrev pub bodies : WireVersion → List (Format Reply)
+bodies version =
     done
     ∷ made_object
-    ∷ data_read
-    ∷ attr_read
+    ∷ data_read version
+    ∷ attr_read version
     ∷ entry
     ∷ mounted
     ∷ names
@@ -188,17 +189,17 @@ bodies =
     ∷ []
 
 -- the number of a kind of reply, and its fields
-abbrev pub reply : Format Reply
-reply = cases kind_of bodies
+abbrev pub reply : WireVersion → Format Reply
+reply version = cases kind_of (bodies version)
 
 -- the reply that a body spells
-abbrev pub reply_in : List ℕ → Option Reply
-reply_in body = value_in frame_limit reply body
+abbrev pub reply_in : WireVersion → List ℕ → Option Reply
+reply_in version body = value_in (frame_limit version) (reply version) body
 
 -- The body is the reply's spelling.
-abbrev pub IsReplyBody : List ℕ → Reply → Type 0
-IsReplyBody body r = Spells frame_limit reply body r
+abbrev pub IsReplyBody : WireVersion → List ℕ → Reply → Type 0
+IsReplyBody version body r = Spells (frame_limit version) (reply version) body r
 
 -- whether the reply has a spelling within a frame
-abbrev pub has_body : Reply → Bool
-has_body r = fits_in frame_limit reply r
+abbrev pub has_body : WireVersion → Reply → Bool
+has_body version r = fits_in (frame_limit version) (reply version) r

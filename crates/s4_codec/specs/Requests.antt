@@ -8,7 +8,8 @@ use Rattle.s4_types.specs.declared.request.Request.TheVariants.{Create, Delete, 
 use Rattle.s4_types.specs.Audit.{code_of}
 use Rattle.s4_codec.specs.Format.{Format, ◌&◌, byte, number, made, cases, no_format, value_in, Spells}
 use Rattle.s4_codec.specs.Parts.{moment, principal, user, purse_number, purse, object, rights, name, byte_string, optional_moment, optional_after}
-use Rattle.s4_codec.specs.Frames.{frame_limit}
+use Rattle.s4_types.specs.declared.principal.WireVersion.{WireVersion}
+use Rattle.s4_codec.specs.Versions.{frame_limit}
 
 -- FIELDS
 
@@ -39,15 +40,15 @@ abbrev pub part_of_write : Request → Option (ObjectId × (ℕ × List ℕ))
 part_of_write (Write o offset bytes) = Some (o, (offset, bytes))
 part_of_write _ = None
 
-abbrev pub write : Format Request
-write = made (object & (number 4 & byte_string)) (λ x. Write x.0 x.1.0 x.1.1) part_of_write
+abbrev pub write : WireVersion → Format Request
+write version = made (object & (number 4 & byte_string version)) (λ x. Write x.0 x.1.0 x.1.1) part_of_write
 
 abbrev pub part_of_append : Request → Option (ObjectId × List ℕ)
 part_of_append (Append o bytes) = Some (o, bytes)
 part_of_append _ = None
 
-abbrev pub append : Format Request
-append = made (object & byte_string) (λ x. Append x.0 x.1) part_of_append
+abbrev pub append : WireVersion → Format Request
+append version = made (object & byte_string version) (λ x. Append x.0 x.1) part_of_append
 
 abbrev pub part_of_truncate : Request → Option (ObjectId × ℕ)
 part_of_truncate (Truncate o length) = Some (o, length)
@@ -67,8 +68,8 @@ abbrev pub part_of_set_attr : Request → Option (ObjectId × List ℕ)
 part_of_set_attr (SetAttr o bytes) = Some (o, bytes)
 part_of_set_attr _ = None
 
-abbrev pub set_attr : Format Request
-set_attr = made (object & byte_string) (λ x. SetAttr x.0 x.1) part_of_set_attr
+abbrev pub set_attr : WireVersion → Format Request
+set_attr version = made (object & byte_string version) (λ x. SetAttr x.0 x.1) part_of_set_attr
 
 abbrev pub part_of_get_acl_by_user : Request → Option (ObjectId × (ℕ × Option ℕ))
 part_of_get_acl_by_user (GetAclByUser o user at) = Some (o, (user, at))
@@ -157,17 +158,17 @@ read_audit = made (principal & number 4) (λ x. ReadAudit x.0 x.1) part_of_read_
 -- BODIES
 
 -- the format of each kind of request, in the place of its code
-abbrev pub bodies : List (Format Request)
-bodies =
+abbrev pub bodies : WireVersion → List (Format Request)
+bodies version =
     no_format
     ∷ create
     ∷ delete
     ∷ read
-    ∷ write
-    ∷ append
+    ∷ write version
+    ∷ append version
     ∷ truncate
     ∷ get_attr
-    ∷ set_attr
+    ∷ set_attr version
     ∷ get_acl_by_user
     ∷ get_acl_by_index
     ∷ set_acl
@@ -183,13 +184,13 @@ bodies =
     ∷ []
 
 -- a code, and the fields of its kind of request
-abbrev pub request : Format Request
-request = cases code_of bodies
+abbrev pub request : WireVersion → Format Request
+request version = cases code_of (bodies version)
 
 -- the request that a body spells
-abbrev pub request_in : List ℕ → Option Request
-request_in body = value_in frame_limit request body
+abbrev pub request_in : WireVersion → List ℕ → Option Request
+request_in version body = value_in (frame_limit version) (request version) body
 
 -- The body is the request's spelling.
-abbrev pub IsRequestBody : List ℕ → Request → Type 0
-IsRequestBody body r = Spells frame_limit request body r
+abbrev pub IsRequestBody : WireVersion → List ℕ → Request → Type 0
+IsRequestBody version body r = Spells (frame_limit version) (request version) body r

@@ -2,15 +2,25 @@
 
 ghost use Rattle.std.specs.Prelude.{◌≡◌};
 ghost use Rattle.s4_codec.specs.Frames.{front_of};
+ghost use Rattle.s4_codec.specs.Versions as versions;
 ghost use Rattle.s4_codec.specs.Fronts.{lists_of};
 
 use byteorder::{BigEndian, ByteOrder};
-
-/// The most bytes that the body of a request or a reply has, 8192.
-pub const FRAME_LIMIT: usize = 8192;
+use s4_types::WireVersion;
 
 /// How many bytes most bodies without data have at most.
 pub const USUAL_LENGTH: usize = 64;
+
+/// The most bytes that the body of a request or a reply has: 8192 by version 1, and 131072 by
+/// version 2.
+pub fn frame_limit(version: WireVersion) -> usize
+    ensures { result ≡ versions.frame_limit version }
+{
+    match version {
+        WireVersion::One => 8192,
+        WireVersion::Two => 131072,
+    }
+}
 
 /// What stands at the front of bytes.
 #[derive(Clone, Copy, Debug, PartialEq, Eq)]

@@ -15,11 +15,12 @@ mod write_replies;
 mod write_requests;
 
 pub use error::{ReadError, WriteError};
-pub use frames::{FRAME_LIMIT, Front, read_frame};
+pub use frames::{Front, frame_limit, read_frame};
 pub use input::Input;
 pub use laws::{
-    framed_bodies_are_read_back, no_spelling_begins_another, read_values_are_spelled,
-    replies_within_limits_have_spellings, spelled_values_are_read_back,
+    framed_bodies_are_read_back, frames_of_versions_determine_replies, no_spelling_begins_another,
+    read_values_are_spelled, replies_within_limits_have_spellings, spelled_values_are_read_back,
+    spellings_are_in_the_table,
 };
 pub use read_parts::{read_block, read_byte, read_principal, read_u32};
 pub use read_replies::read_reply;

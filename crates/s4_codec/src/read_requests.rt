@@ -6,60 +6,71 @@ ghost use Rattle.s4_codec.specs.Format.{in_place};
 ghost use Rattle.s4_codec.specs.Requests as format;
 ghost use Rattle.s4_codec.specs.Requests.{bodies, request_in, IsRequestBody};
 ghost use Rattle.s4_codec.specs.Readings.{Gives, Reads, Takes};
+ghost use Rattle.s4_types.specs.declared.principal.WireVersion as versions;
 ghost use Rattle.s4_codec.specs.declared.error.ReadError.TheVariants as read_error;
 
 use crate::error::ReadError;
-use crate::frames::FRAME_LIMIT;
+use crate::frames::frame_limit;
 use crate::input::Input;
 use crate::read_parts::{
     read_byte, read_bytes, read_moment, read_name, read_object, read_optional_after,
     read_optional_moment, read_principal, read_purse, read_purse_number, read_rights, read_u32,
     read_u64, read_user,
 };
-use s4_types::Request;
+use s4_types::{Request, WireVersion};
 use std::alloc::Global;
 
 /// The request that the body spells (docs/PROTOCOL.md, "Requests").
-pub fn read_request(alloc: Global, body: &[u8]) -> Result<Request, ReadError>
+pub fn read_request(version: WireVersion, alloc: Global, body: &[u8]) -> Result<Request, ReadError>
     // The body is the spelling of what is read.
-    ensures read { IfOk result (λ request. IsRequestBody body.now request) }
+    ensures read { IfOk result (λ request. IsRequestBody version body.now request) }
     // What is malformed is the spelling of no request.
     ensures malformed { IsErrOf result read_error.Malformed
-        → (request : Request) → IsRequestBody body.now request → ⊥ }
+        → (request : Request) → IsRequestBody version body.now request → ⊥ }
     // What a stream's meaning says of the body.
-    ensures meaning { Gives result (request_in body.now) }
+    ensures meaning { Gives result (request_in version body.now) }
 {
-    read_whole(alloc, body)
+    read_whole(version, alloc, body)
 }
 
-fn read_whole(alloc: Global, body: &[u8]) -> Result<Request, ReadError>
-    ensures { Gives result (request_in body.now) }
+fn read_whole(version: WireVersion, alloc: Global, body: &[u8]) -> Result<Request, ReadError>
+    ensures { Gives result (request_in version body.now) }
 {
-    if body.len() > FRAME_LIMIT {
+    if body.len() > frame_limit(version) {
         return Err(ReadError::Malformed);
     }
     let mut input = Input { left: body };
-    let request = read_code_and_fields(alloc, &mut input)?;
+    let request = read_code_and_fields(version, alloc, &mut input)?;
     if !input.left.is_empty() {
         return Err(ReadError::Malformed);
     }
     Ok(request)
 }
 
-fn read_code_and_fields(alloc: Global, input: &mut Input) -> Result<Request, ReadError>
-    ensures { Takes result input.new.left.now (format.request.at input.old.left.now) }
+fn read_code_and_fields(
+    version: WireVersion,
+    alloc: Global,
+    input: &mut Input,
+) -> Result<Request, ReadError>
+    ensures { Takes result input.new.left.now ((format.request version).at input.old.left.now) }
 {
     let code = read_byte(input).ok_or(ReadError::Malformed)?;
-    read_fields(alloc, code, input)
+    read_fields(version, alloc, code, input)
 }
 
-fn read_fields(alloc: Global, code: u8, input: &mut Input) -> Result<Request, ReadError>
-    ensures { Takes result input.new.left.now ((in_place bodies code).at input.old.left.now) }
+fn read_fields(
+    version: WireVersion,
+    alloc: Global,
+    code: u8,
+    input: &mut Input,
+) -> Result<Request, ReadError>
+    ensures { Takes result input.new.left.now
+        ((in_place (bodies version) code).at input.old.left.now) }
 {
     match code {
-        4 => read_write(alloc, input),
-        5 => read_append(alloc, input),
-        8 => read_set_attr(alloc, input),
+        4 => read_write(version, alloc, input),
+        5 => read_append(version, alloc, input),
+        8 => read_set_attr(version, alloc, input),
         _ => read_plain_fields(code, input).ok_or(ReadError::Malformed),
     }
 }
@@ -69,7 +80,8 @@ fn read_plain_fields(code: u8, input: &mut Input) -> Option<Request>
     requires no_write { code ≢ 4 }
     requires no_append { code ≢ 5 }
     requires no_set_attr { code ≢ 8 }
-    ensures { Reads result input.new.left.now ((in_place bodies code).at input.old.left.now) }
+    ensures { (version : versions.WireVersion) → Reads result input.new.left.now
+        ((in_place (bodies version) code).at input.old.left.now) }
 {
     match code {
         1 => read_create(input),
@@ -122,12 +134,12 @@ fn read_read(input: &mut Input) -> Option<Request>
     })
 }
 
-fn read_write(alloc: Global, input: &mut Input) -> Result<Request, ReadError>
-    ensures { Takes result input.new.left.now (format.write.at input.old.left.now) }
+fn read_write(version: WireVersion, alloc: Global, input: &mut Input) -> Result<Request, ReadError>
+    ensures { Takes result input.new.left.now ((format.write version).at input.old.left.now) }
 {
     let object = read_object(input).ok_or(ReadError::Malformed)?;
     let offset = read_u32(input).ok_or(ReadError::Malformed)?;
-    let bytes = read_bytes(alloc, input)?;
+    let bytes = read_bytes(version, alloc, input)?;
     Ok(Request::Write {
         object,
         offset,
@@ -135,11 +147,11 @@ fn read_write(alloc: Global, input: &mut Input) -> Result<Request, ReadError>
     })
 }
 
-fn read_append(alloc: Global, input: &mut Input) -> Result<Request, ReadError>
-    ensures { Takes result input.new.left.now (format.append.at input.old.left.now) }
+fn read_append(version: WireVersion, alloc: Global, input: &mut Input) -> Result<Request, ReadError>
+    ensures { Takes result input.new.left.now ((format.append version).at input.old.left.now) }
 {
     let object = read_object(input).ok_or(ReadError::Malformed)?;
-    let bytes = read_bytes(alloc, input)?;
+    let bytes = read_bytes(version, alloc, input)?;
     Ok(Request::Append { object, bytes })
 }
 
@@ -159,11 +171,15 @@ fn read_get_attr(input: &mut Input) -> Option<Request>
     Some(Request::GetAttr { object, at })
 }
 
-fn read_set_attr(alloc: Global, input: &mut Input) -> Result<Request, ReadError>
-    ensures { Takes result input.new.left.now (format.set_attr.at input.old.left.now) }
+fn read_set_attr(
+    version: WireVersion,
+    alloc: Global,
+    input: &mut Input,
+) -> Result<Request, ReadError>
+    ensures { Takes result input.new.left.now ((format.set_attr version).at input.old.left.now) }
 {
     let object = read_object(input).ok_or(ReadError::Malformed)?;
-    let bytes = read_bytes(alloc, input)?;
+    let bytes = read_bytes(version, alloc, input)?;
     Ok(Request::SetAttr { object, bytes })
 }
 

@@ -10,7 +10,7 @@ ghost use Rattle.s4_codec.specs.Writings.{Puts};
 ghost use Rattle.s4_codec.specs.declared.error.WriteError.TheVariants as write_error;
 
 use crate::error::WriteError;
-use crate::frames::{FRAME_LIMIT, USUAL_LENGTH};
+use crate::frames::{USUAL_LENGTH, frame_limit};
 use crate::write_parts::{
     write_byte, write_bytes, write_moment, write_name, write_object, write_optional_after,
     write_optional_moment, write_principal, write_purse, write_purse_number, write_rights,
@@ -18,46 +18,63 @@ use crate::write_parts::{
 };
 use s4_types::{
     After, Bytes, Moment, Name, ObjectId, Principal, Purse, PurseNo, Request, Rights, User,
+    WireVersion,
 };
 use std::alloc::Global;
 
 /// The request's spelling (docs/PROTOCOL.md, "Requests").
-pub fn write_request(alloc: Global, request: &Request) -> Result<Vec<u8>, WriteError>
+pub fn write_request(
+    version: WireVersion,
+    alloc: Global,
+    request: &Request,
+) -> Result<Vec<u8>, WriteError>
     // What is written is the spelling.
-    ensures written { IfOk result (λ body. IsRequestBody body.items request.now) }
+    ensures written { IfOk result (λ body. IsRequestBody version body.items request.now) }
     // A request that is too big has no spelling within a frame.
     ensures too_big { IsErrOf result write_error.TooBig
-        → (body : List ℕ) → IsRequestBody body request.now → ⊥ }
+        → (body : List ℕ) → IsRequestBody version body request.now → ⊥ }
 {
     let mut body = Vec::with_capacity(alloc, USUAL_LENGTH)?;
-    spell_request(&mut body, request)?;
+    spell_request(version, &mut body, request)?;
     Ok(body)
 }
 
 /// Has the buffer hold the request's spelling and nothing else. It takes memory only where the
 /// buffer has too little.
-pub fn spell_request(body: &mut Vec<u8>, request: &Request) -> Result<(), WriteError>
-    ensures written { OnOk result (IsRequestBody body.new.items request.now) }
+pub fn spell_request(
+    version: WireVersion,
+    body: &mut Vec<u8>,
+    request: &Request,
+) -> Result<(), WriteError>
+    ensures written { OnOk result (IsRequestBody version body.new.items request.now) }
     ensures too_big { IsErrOf result write_error.TooBig
-        → (body : List ℕ) → IsRequestBody body request.now → ⊥ }
+        → (body : List ℕ) → IsRequestBody version body request.now → ⊥ }
 {
     body.clear();
-    write_code_and_fields(body, request)?;
-    if body.len() > FRAME_LIMIT {
+    write_code_and_fields(version, body, request)?;
+    if body.len() > frame_limit(version) {
         return Err(WriteError::TooBig);
     }
     Ok(())
 }
 
-fn write_code_and_fields(out: &mut Vec<u8>, request: &Request) -> Result<(), WriteError>
-    ensures { Puts format.request request.now out.old.items out.new.items result }
+fn write_code_and_fields(
+    version: WireVersion,
+    out: &mut Vec<u8>,
+    request: &Request,
+) -> Result<(), WriteError>
+    ensures { Puts (format.request version) request.now out.old.items out.new.items result }
 {
     write_byte(out, request.code())?;
-    write_fields(out, request)
+    write_fields(version, out, request)
 }
 
-fn write_fields(out: &mut Vec<u8>, request: &Request) -> Result<(), WriteError>
-    ensures { Puts (in_place bodies (code_of request.now)) request.now
+fn write_fields(
+    version: WireVersion,
+    out: &mut Vec<u8>,
+    request: &Request,
+) -> Result<(), WriteError>
+    ensures { Puts (in_place (bodies version) (code_of request.now)) request.now
         out.old.items out.new.items result }
 {
     match request {
@@ -73,11 +90,11 @@ fn write_fields(out: &mut Vec<u8>, request: &Request) -> Result<(), WriteError>
             object,
             offset,
             bytes,
-        } => write_write(out, object, *offset, bytes),
-        Request::Append { object, bytes } => write_append(out, object, bytes),
+        } => write_write(version, out, object, *offset, bytes),
+        Request::Append { object, bytes } => write_append(version, out, object, bytes),
         Request::Truncate { object, length } => write_truncate(out, object, *length),
         Request::GetAttr { object, at } => write_get_attr(out, object, at),
-        Request::SetAttr { object, bytes } => write_set_attr(out, object, bytes),
+        Request::SetAttr { object, bytes } => write_set_attr(version, out, object, bytes),
         Request::GetAclByUser { object, user, at } => write_get_acl_by_user(out, object, user, at),
         Request::GetAclByIndex { object, index, at } => write_get_acl_by_index(
             out, object, *index, at,
@@ -131,25 +148,31 @@ fn write_read(
 }
 
 fn write_write(
+    version: WireVersion,
     out: &mut Vec<u8>,
     object: &ObjectId,
     offset: u32,
     bytes: &Bytes,
 ) -> Result<(), WriteError>
-    ensures { Puts format.write (requests.Write object.now offset bytes.now)
+    ensures { Puts (format.write version) (requests.Write object.now offset bytes.now)
         out.old.items out.new.items result }
 {
     write_object(out, object)?;
     write_u32(out, offset)?;
-    write_bytes(out, bytes)
+    write_bytes(version, out, bytes)
 }
 
-fn write_append(out: &mut Vec<u8>, object: &ObjectId, bytes: &Bytes) -> Result<(), WriteError>
-    ensures { Puts format.append (requests.Append object.now bytes.now)
+fn write_append(
+    version: WireVersion,
+    out: &mut Vec<u8>,
+    object: &ObjectId,
+    bytes: &Bytes,
+) -> Result<(), WriteError>
+    ensures { Puts (format.append version) (requests.Append object.now bytes.now)
         out.old.items out.new.items result }
 {
     write_object(out, object)?;
-    write_bytes(out, bytes)
+    write_bytes(version, out, bytes)
 }
 
 fn write_truncate(out: &mut Vec<u8>, object: &ObjectId, length: u32) -> Result<(), WriteError>
@@ -174,12 +197,17 @@ fn write_get_attr(
     Ok(())
 }
 
-fn write_set_attr(out: &mut Vec<u8>, object: &ObjectId, bytes: &Bytes) -> Result<(), WriteError>
-    ensures { Puts format.set_attr (requests.SetAttr object.now bytes.now)
+fn write_set_attr(
+    version: WireVersion,
+    out: &mut Vec<u8>,
+    object: &ObjectId,
+    bytes: &Bytes,
+) -> Result<(), WriteError>
+    ensures { Puts (format.set_attr version) (requests.SetAttr object.now bytes.now)
         out.old.items out.new.items result }
 {
     write_object(out, object)?;
-    write_bytes(out, bytes)
+    write_bytes(version, out, bytes)
 }
 
 fn write_get_acl_by_user(

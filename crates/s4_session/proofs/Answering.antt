@@ -14,6 +14,7 @@ use Rattle.s4_types.specs.Play.{record_of, replies as replies_in, last_of, is_no
 use Rattle.s4_types.proofs.Booleans.{by_test}
 use Rattle.s4_types.proofs.Snoc.{last_of-snoc, replies-snoc}
 use Rattle.s4_types.specs.Log.{Log, base_of, log_after, steps_on}
+use Rattle.s4_types.specs.declared.principal.WireVersion.TheVariants.{One}
 use Rattle.s4_codec.specs.Replies.{has_body}
 use Rattle.s4_drive.specs.Step.{Steps, Answers}
 use Rattle.s4_stream.specs.declared.event.Event.{Event}
@@ -86,7 +87,7 @@ answered_then t xs ys a b c p q r one two =
     record {
       replies = one.replies ++ two.replies;
       each = rw (steps_by-append t xs ys) (omega (arith, length-append one.replies two.replies, request_count-append first second, one.each, two.each));
-      bodies = rw (list_all-append has_body one.replies two.replies, one.bodies, two.bodies) refl;
+      bodies = rw (list_all-append (has_body One) one.replies two.replies, one.bodies, two.bodies) refl;
       log = two.log
           ∙ ap (λ (l : Log). steps_on l (carried_out second two.replies)) one.log
           ∙ sym (steps_on-append a (carried_out first one.replies) (carried_out second two.replies))
@@ -132,7 +133,7 @@ module _ (t : ℕ) (caller : Caller) (r : asked.Request) (old new : Log) (reply 
       let is : last_of new.history ≡ t = ap (λ (l : Log). last_of l.history) a.grows ∙ last_of-snoc old.history (record_of (base_of old) old.history t caller r) in
       omega (arith, is))
 
-  module _ (p q : List ℕ) (sent : q ≡ p ++ reply_frame reply) (body : has_body reply ≡ true) where
+  module _ (p q : List ℕ) (sent : q ≡ p ++ reply_frame reply) (body : has_body One reply ≡ true) where
     refused : is_no_memory reply ≡ true → new ≡ old → Answered t (Request caller r ∷ []) old new p q
     refused e same = record {
       replies = reply ∷ [];

@@ -12,6 +12,7 @@ use Rattle.s4_types.specs.declared.record.Step.TheVariants as steps
 use Rattle.s4_types.specs.Play.{request_count, carried_out, without_no_memory}
 use Rattle.s4_types.proofs.Booleans.{by_test, ||-false, ||-true}
 use Rattle.s4_types.specs.Log.{Log, fresh_log, steps_on}
+use Rattle.s4_types.specs.declared.principal.WireVersion.TheVariants.{One}
 use Rattle.s4_codec.specs.Replies.{has_body}
 use Rattle.s4_stream.specs.declared.event.Event.{Event}
 use Rattle.s4_stream.specs.declared.event.Event.TheVariants.{Welcome, Request, Fault}
@@ -311,7 +312,7 @@ module _ (window : ℕ) (logins : Logins) (arrivals : List HallStep) (told : Lis
     last_is = tk.last ∙ sym (moment_more 0 arrivals c t piece);
     sessions = sessions_now;
     each = rw requests_now (omega (arith, length-append told more, request_count-append (requests_of logins arrivals) (steps_by t heard.events), st.each, answered.each));
-    bodies = rw (list_all-append has_body told more, st.bodies, answered.bodies) refl;
+    bodies = rw (list_all-append (has_body One) told more, st.bodies, answered.bodies) refl;
     log = answered.log
         ∙ ap (λ (l : Log). steps_on l (carried_out (steps_by t heard.events) more)) st.log
         ∙ sym (steps_on-append (fresh_log window) (carried_out (requests_of logins arrivals) told) (carried_out (steps_by t heard.events) more))

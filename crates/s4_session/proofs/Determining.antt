@@ -7,7 +7,9 @@ use Rattle.s4_types.specs.declared.reply.Reply.{Reply}
 use Rattle.s4_types.specs.declared.record.Step.{Step}
 use Rattle.s4_types.specs.Play.{request_count}
 use Rattle.s4_types.proofs.Booleans.{by_test}
-use Rattle.s4_codec.specs.Frames.{frame_limit, Front, Whole, front_of}
+use Rattle.s4_types.specs.declared.principal.WireVersion.TheVariants.{One}
+use Rattle.s4_codec.specs.Versions.{frame_limit}
+use Rattle.s4_codec.specs.Frames.{Front, Whole, front_of}
 use Rattle.s4_codec.specs.Replies.{reply, reply_in, has_body}
 use Rattle.s4_codec.proofs.Lawful.{both_true, some_is}
 use Rattle.s4_codec.proofs.Short.{body_read, body_framed}
@@ -32,15 +34,15 @@ whole_parts : (a b p q : List ℕ) → Whole a p ≡ Whole b q → (a ≡ b) × 
 whole_parts a b p q e = (cc, cc)
 
 -- the frames of two replies begin the same bytes only where the replies are the same
-same_frame : (x y : Reply) (p q : List ℕ) → has_body x ≡ true → has_body y ≡ true → reply_frame x ++ p ≡ reply_frame y ++ q → (x ≡ y) × (p ≡ q)
+same_frame : (x y : Reply) (p q : List ℕ) → has_body One x ≡ true → has_body One y ≡ true → reply_frame x ++ p ≡ reply_frame y ++ q → (x ≡ y) × (p ≡ q)
 same_frame x y p q fx fy e =
-    let parts = whole_parts (reply.spell x) (reply.spell y) p q (sym (body_framed x p fx) ∙ ap (front_of frame_limit) e ∙ body_framed y q fy) in
-    (some_is x y (sym (body_read x fx) ∙ ap reply_in parts.0 ∙ body_read y fy), parts.1)
+    let parts = whole_parts ((reply One).spell x) ((reply One).spell y) p q (sym (body_framed One x p fx) ∙ ap (front_of (frame_limit One)) e ∙ body_framed One y q fy) in
+    (some_is x y (sym (body_read One x fx) ∙ ap (reply_in One) parts.0 ∙ body_read One y fy), parts.1)
 
 -- ---- one connection
 
 same_on_one : (events : List Event) (one two : List Reply) → length one ≡ requests_in events → length two ≡ requests_in events
-    → list_all has_body one ≡ true → list_all has_body two ≡ true → sent_for events one ≡ sent_for events two → one ≡ two
+    → list_all (has_body One) one ≡ true → list_all (has_body One) two ≡ true → sent_for events one ≡ sent_for events two → one ≡ two
 same_on_one [] [] [] n m f g e = refl
 same_on_one [] (x ∷ xs) two n m f g e = absurd (omega (arith, n))
 same_on_one [] [] (y ∷ ys) n m f g e = absurd (omega (arith, m))
@@ -51,23 +53,23 @@ same_on_one (Fault k ∷ events) one two n m f g e =
 same_on_one (Request caller r ∷ events) [] two n m f g e = absurd (omega (arith, n))
 same_on_one (Request caller r ∷ events) (x ∷ xs) [] n m f g e = absurd (omega (arith, m))
 same_on_one (Request caller r ∷ events) (x ∷ xs) (y ∷ ys) n m f g e =
-    let fx = both_true (has_body x) (list_all has_body xs) f in
-    let fy = both_true (has_body y) (list_all has_body ys) g in
+    let fx = both_true (has_body One x) (list_all (has_body One) xs) f in
+    let fy = both_true (has_body One y) (list_all (has_body One) ys) g in
     let first = same_frame x y (sent_for events xs) (sent_for events ys) fx.0 fy.0 e in
     let rest : xs ≡ ys = same_on_one events xs ys (omega (arith, n)) (omega (arith, m)) fx.1 fy.1 first.1 in
     λ i. first.0 i ∷ rest i
 
 -- the replies on a connection are among all
-chosen_bodies : (b : Bool) (x : Reply) (xs : List Reply) → has_body x ≡ true → list_all has_body xs ≡ true → list_all has_body (cond b (x ∷ xs) xs) ≡ true
+chosen_bodies : (b : Bool) (x : Reply) (xs : List Reply) → has_body One x ≡ true → list_all (has_body One) xs ≡ true → list_all (has_body One) (cond b (x ∷ xs) xs) ≡ true
 chosen_bodies true x xs one all = rw (one, all) refl
 chosen_bodies false x xs one all = all
 
-bodies_on : (c : ℕ) (asked : List Asked) (told : List Reply) → list_all has_body told ≡ true → list_all has_body (replies_on c asked told) ≡ true
+bodies_on : (c : ℕ) (asked : List Asked) (told : List Reply) → list_all (has_body One) told ≡ true → list_all (has_body One) (replies_on c asked told) ≡ true
 bodies_on c [] told all = refl
 bodies_on c (Sweeps n ∷ asked) told all = bodies_on c asked told all
 bodies_on c (Asks d t caller r ∷ asked) [] all = refl
 bodies_on c (Asks d t caller r ∷ asked) (x ∷ told) all =
-    let parts = both_true (has_body x) (list_all has_body told) all in
+    let parts = both_true (has_body One x) (list_all (has_body One) told) all in
     chosen_bodies (eqb d c) x (replies_on c asked told) parts.0 (bodies_on c asked told parts.1)
 
 -- ---- all connections

@@ -18,7 +18,7 @@ use Rattle.s4_types.proofs.Booleans.{by_test, not_both}
 use Rattle.s4_laws.proofs.Isolation.{records-strike}
 use Rattle.s4_drive.proofs.Carried.{all_carried, records_after, play_is}
 use Rattle.s4_codec.specs.Requests.{request_in}
-use Rattle.s4_codec.specs.Frames.{frame_limit, Front, Whole, Part, BadLength, front_of}
+use Rattle.s4_codec.specs.Frames.{Front, Whole, Part, BadLength, front_of}
 use Rattle.s4_stream.specs.declared.event.Event.{Event}
 use Rattle.s4_stream.specs.declared.event.Event.TheVariants.{Welcome, Request, Fault}
 use Rattle.s4_stream.specs.declared.event.SessionState.TheVariants.{Greeting, Open, Closed}
@@ -26,7 +26,7 @@ use Rattle.s4_session.specs.declared.hall_step.HallStep.{HallStep}
 use Rattle.s4_session.specs.declared.hall_step.HallStep.TheVariants.{Arrive, Sweep}
 use Rattle.s4_stream.specs.Logins.{Logins}
 use Rattle.s4_stream.specs.Hello.{hello_in, greeted}
-use Rattle.s4_stream.specs.Stream.{Heard, hear, hear_frames, from_front, asked_by, state_after, events_of}
+use Rattle.s4_stream.specs.Stream.{Heard, hear, hear_frames, from_front, asked_by, state_after, events_of, limit_at}
 use Rattle.s4_session.specs.Arrivals.{piece_on, stream_of, occurs, is_welcome_of, Asked, Asks, Sweeps, step_of, asked_by_step, asked_after, asked_in, requests_of}
 use Rattle.s4_session.specs.Sent.{replies_on, sent_on, sent_by, bytes_for, is_by, AreReplies, IsIsolated}
 use Rattle.s4_stream.proofs.Cuts.{hear_cut}
@@ -66,13 +66,13 @@ speaks_body p n logins caller rest (Some r) more = record { mine = λ e. (e, mor
 
 speaks_front : (p n : ℕ) (logins : Logins) (caller : Caller) (bytes : List ℕ) (f : Front) → ((rest : List ℕ) → Speaks p caller (hear_frames n logins (Open caller) rest).events)
     → Speaks p caller (from_front logins (Open caller) bytes (hear_frames n logins) f).events
-speaks_front p n logins caller bytes (Whole body rest) more = speaks_body p n logins caller rest (request_in body) (more rest)
+speaks_front p n logins caller bytes (Whole body rest) more = speaks_body p n logins caller rest (request_in caller.version body) (more rest)
 speaks_front p n logins caller bytes Part more = record { mine = λ e. tt; unwelcome = refl }
 speaks_front p n logins caller bytes BadLength more = record { mine = λ e. tt; unwelcome = refl }
 
 speaks : (p n : ℕ) (logins : Logins) (caller : Caller) (bytes : List ℕ) → Speaks p caller (hear_frames n logins (Open caller) bytes).events
 speaks p zero logins caller bytes = record { mine = λ e. tt; unwelcome = refl }
-speaks p (suc n) logins caller bytes = speaks_front p n logins caller bytes (front_of frame_limit bytes) (speaks p n logins caller)
+speaks p (suc n) logins caller bytes = speaks_front p n logins caller bytes (front_of (limit_at (Open caller)) bytes) (speaks p n logins caller)
 
 -- where a stream says the principal's welcome, its requests are the principal's
 abbrev Answers : ℕ → List Event → Type 0
@@ -98,7 +98,7 @@ answers_front p n logins bytes BadLength e = absurd cc
 
 answers_frames : (p n : ℕ) (logins : Logins) (bytes : List ℕ) → Answers p (hear_frames n logins Greeting bytes).events
 answers_frames p zero logins bytes e = absurd cc
-answers_frames p (suc n) logins bytes e = answers_front p n logins bytes (front_of frame_limit bytes) e
+answers_frames p (suc n) logins bytes e = answers_front p n logins bytes (front_of (limit_at Greeting) bytes) e
 
 -- ---- whose requests are asked
 

@@ -6,6 +6,7 @@ use Rattle.s4_types.specs.declared.record.Step.{Step}
 use Rattle.s4_types.specs.declared.record.Step.TheVariants as steps
 use Rattle.s4_types.specs.Play.{replies as replies_in, carried_out, without_no_memory, request_count}
 use Rattle.s4_types.specs.Log.{Log, steps_on}
+use Rattle.s4_types.specs.declared.principal.WireVersion.TheVariants.{One}
 use Rattle.s4_codec.specs.Replies.{has_body}
 use Rattle.s4_stream.specs.declared.event.Event.{Event}
 use Rattle.s4_stream.specs.declared.event.Event.TheVariants.{Welcome, Request, Fault}
@@ -26,7 +27,7 @@ steps_by t events = filter_map (step_by_event t) events
 pub record Answered (t : ℕ) (events : List Event) (old new : Log) (before after : List ℕ) : Type 0 where
   pub replies : List Reply
   pub each : length replies ≡ request_count (steps_by t events)
-  pub bodies : IsTrue (list_all has_body replies)
+  pub bodies : IsTrue (list_all (has_body One) replies)
   pub log : new ≡ steps_on old (carried_out (steps_by t events) replies)
   pub told : replies_in new.history ≡ replies_in old.history ++ without_no_memory replies
   pub sent : after ≡ before ++ sent_for events replies

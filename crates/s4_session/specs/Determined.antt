@@ -4,6 +4,7 @@ use Rattle.std.specs.List.{list_all}
 use Rattle.s4_types.specs.declared.reply.Reply.{Reply}
 use Rattle.s4_types.specs.Base.{Base}
 use Rattle.s4_types.specs.Play.{request_count}
+use Rattle.s4_types.specs.declared.principal.WireVersion.TheVariants.{One}
 use Rattle.s4_codec.specs.Replies.{has_body}
 use Rattle.s4_session.specs.declared.hall_step.HallStep.{HallStep}
 use Rattle.s4_stream.specs.Logins.{Logins}
@@ -22,7 +23,7 @@ EachRequestHasOneReply =
 -- The replies are one to each request that the arrivals ask, and each has a spelling within a frame, as that of want of memory has.
 pub record CanBeSent (logins : Logins) (arrivals : List HallStep) (replies : List Reply) : Type 0 where
   pub each : length replies ≡ request_count (requests_of logins arrivals)
-  pub bodies : IsTrue (list_all has_body replies)
+  pub bodies : IsTrue (list_all (has_body One) replies)
 
 -- Where two such lists of replies have the same bytes sent on each connection, they are the same list.
 abbrev pub SentBytesDetermineReplies : Type 0

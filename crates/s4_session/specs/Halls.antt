@@ -9,6 +9,7 @@ use Rattle.s4_types.specs.Base.{opened}
 use Rattle.s4_types.specs.Lists.{fresh_lists}
 use Rattle.s4_types.specs.Play.{replies as replies_in, carried_out, without_no_memory, request_count}
 use Rattle.s4_types.specs.Log.{Log, fresh_log, steps_on}
+use Rattle.s4_types.specs.declared.principal.WireVersion.TheVariants.{One}
 use Rattle.s4_codec.specs.Replies.{has_body}
 use Rattle.s4_stream.specs.declared.event.SessionState.TheVariants.{Greeting}
 use Rattle.s4_session.specs.declared.hall_step.HallStep.{HallStep}
@@ -82,7 +83,7 @@ pub record StandsAfter (window : ℕ) (logins : Logins) (arrivals : List HallSte
   pub last_is : hall.last ≡ moment_after 0 arrivals
   pub sessions : (c : ℕ) → session_of c hall.sessions ≡ cond (occurs c arrivals) (Some (session_after c logins arrivals)) None
   pub each : length replies ≡ request_count (requests_of logins arrivals)
-  pub bodies : IsTrue (list_all has_body replies)
+  pub bodies : IsTrue (list_all (has_body One) replies)
   pub log : hall.log ≡ steps_on (fresh_log window) (carried_out (requests_of logins arrivals) replies)
   pub told : replies_in hall.log.history ≡ without_no_memory replies
 

@@ -9,6 +9,7 @@ use Rattle.s4_types.specs.declared.reply.Reply.{Reply}
 use Rattle.s4_types.specs.Base.{Base}
 use Rattle.s4_types.specs.Play.{play, replies as replies_in, carried_out, without_no_memory, request_count}
 use Rattle.s4_types.specs.Strike.{records_of, strike}
+use Rattle.s4_types.specs.declared.principal.WireVersion.TheVariants.{One}
 use Rattle.s4_codec.specs.Replies.{has_body}
 use Rattle.s4_session.specs.declared.hall_step.HallStep.{HallStep}
 use Rattle.s4_stream.specs.Logins.{Logins}
@@ -70,7 +71,7 @@ IsIsolated base logins arrivals sent =
 -- Each has a spelling within a frame.
 pub record AreReplies (base : Base) (logins : Logins) (arrivals : List HallStep) (replies : List Reply) : Type 0 where
   pub each : length replies ≡ request_count (requests_of logins arrivals)
-  pub bodies : IsTrue (list_all has_body replies)
+  pub bodies : IsTrue (list_all (has_body One) replies)
   pub log : replies_in (play base (carried_out (requests_of logins arrivals) replies)) ≡ without_no_memory replies
 
 -- What a run sends: exactly on the connections that occur, by rising number, the bytes

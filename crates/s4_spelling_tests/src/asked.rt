@@ -3,7 +3,7 @@
 
 use s4_codec::read_request;
 use s4_script::{Line, RequestLine, RequestText, parse_line};
-use s4_types::{Moment, Principal, Request, Step};
+use s4_types::{Moment, Principal, Request, Step, WireVersion};
 use std::alloc::Global;
 use std::process::Abort;
 use std::test::Fail;
@@ -114,7 +114,7 @@ fn is_read_back(alloc: Global, request: &Request, line: &str) -> Result<bool, Fa
 
 fn check_words(rt: &impl Abort, alloc: Global, body: &str, words: &str) -> Result<(), Fail> {
     let body = hex::decode(alloc, body)?;
-    let request = read_request(alloc, &body)?;
+    let request = read_request(WireVersion::One, alloc, &body)?;
     let line = format!(in alloc; "18446744073709551615 4294967294 {words}")?;
     assert!(rt; is_written(alloc, &request, words)?, "{words}");
     assert!(rt; is_line(alloc, &request, line.as_str())?, "{words}");

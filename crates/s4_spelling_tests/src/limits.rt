@@ -1,9 +1,9 @@
 //! The largest requests and replies, and those that have no spelling.
 
-use s4_codec::{FRAME_LIMIT, WriteError, read_reply, read_request, write_reply, write_request};
+use s4_codec::{WriteError, read_reply, read_request, write_reply, write_request};
 use s4_types::{
     AuditLine, AuditLines, Bytes, Grant, Moment, Name, NameLine, NameLines, ObjectId, Principal,
-    Purse, PurseNo, Reply, Request, Rights, Serial, User,
+    Purse, PurseNo, Reply, Request, Rights, Serial, User, WireVersion,
 };
 use std::alloc::Global;
 use std::test::Fail;
@@ -78,43 +78,61 @@ fn audit_of(alloc: Global, code: u8, reply: u8) -> Result<Reply, Fail> {
 }
 
 /// How long the request's body is, if it is read as that request.
-fn length_of_request(alloc: Global, request: &Request) -> Result<Option<usize>, Fail> {
-    let body = write_request(alloc, request)?;
-    let is_read = read_request(alloc, &body)? == *request;
+fn length_of_request(
+    version: WireVersion,
+    alloc: Global,
+    request: &Request,
+) -> Result<Option<usize>, Fail> {
+    let body = write_request(version, alloc, request)?;
+    let is_read = read_request(version, alloc, &body)? == *request;
     Ok(is_read.then_some(body.len()))
 }
 
 /// How long the reply's body is, if it is read as that reply.
-fn length_of_reply(alloc: Global, reply: &Reply) -> Result<Option<usize>, Fail> {
-    let body = write_reply(alloc, reply)?;
-    let is_read = read_reply(alloc, &body)? == *reply;
+fn length_of_reply(
+    version: WireVersion,
+    alloc: Global,
+    reply: &Reply,
+) -> Result<Option<usize>, Fail> {
+    let body = write_reply(version, alloc, reply)?;
+    let is_read = read_reply(version, alloc, &body)? == *reply;
     Ok(is_read.then_some(body.len()))
 }
 
-fn is_too_big(alloc: Global, reply: &Reply) -> bool {
-    write_reply(alloc, reply) == Err(WriteError::TooBig)
+fn is_too_big(version: WireVersion, alloc: Global, reply: &Reply) -> bool {
+    write_reply(version, alloc, reply) == Err(WriteError::TooBig)
 }
+
+/// The versions, how many bytes a body has at most, and how many of these are a write's data, and
+/// a read's.
+const LARGEST: [(WireVersion, usize, usize, usize); 2] = [
+    (WireVersion::One, 8192, 8177, 8188),
+    (WireVersion::Two, 131072, 131055, 131066),
+];
 
 #[test]
 fn largest_requests(rt: HostRuntime) -> Result<(), Fail> {
     let alloc = rt.alloc();
-    let largest = write_of(alloc, 8177)?;
-    assert!(rt; length_of_request(alloc, &largest)? == Some(8192));
-    for length in [8178, 65536] {
-        let written = write_request(alloc, &write_of(alloc, length)?);
-        assert!(rt; written == Err(WriteError::TooBig), "{length}");
+    for (version, limit, most, _) in LARGEST {
+        let largest = write_of(alloc, most)?;
+        assert!(rt; length_of_request(version, alloc, &largest)? == Some(limit));
+        let written = write_request(version, alloc, &write_of(alloc, most + 1)?);
+        assert!(rt; written == Err(WriteError::TooBig), "{limit}");
     }
+    let written = write_request(WireVersion::One, alloc, &write_of(alloc, 65536)?);
+    assert!(rt; written == Err(WriteError::TooBig));
     Ok(())
 }
 
 #[test]
 fn largest_replies(rt: HostRuntime) -> Result<(), Fail> {
     let alloc = rt.alloc();
-    assert!(rt; FRAME_LIMIT == 8192);
-    assert!(rt; length_of_reply(alloc, &data_of(alloc, 8188)?)? == Some(FRAME_LIMIT));
-    assert!(rt; length_of_reply(alloc, &page_of(alloc, 64)?)?.is_some());
-    assert!(rt; is_too_big(alloc, &data_of(alloc, 8189)?));
-    assert!(rt; is_too_big(alloc, &page_of(alloc, 65)?));
+    for (version, limit, _, most) in LARGEST {
+        assert!(rt; length_of_reply(version, alloc, &data_of(alloc, most)?)? == Some(limit));
+        assert!(rt; length_of_reply(version, alloc, &page_of(alloc, 64)?)?.is_some());
+        assert!(rt; is_too_big(version, alloc, &data_of(alloc, most + 1)?));
+        assert!(rt; is_too_big(version, alloc, &page_of(alloc, 65)?));
+    }
     Ok(())
 }
 
@@ -137,7 +155,10 @@ fn entries_without_a_spelling(rt: HostRuntime) -> Result<(), Fail> {
             user,
             rights,
         };
-        assert!(rt; is_too_big(rt.alloc(), &reply), "{reply:?}");
+        assert!(rt;
+            is_too_big(WireVersion::One, rt.alloc(), &reply),
+            "{reply:?}"
+        );
     }
     Ok(())
 }
@@ -147,7 +168,7 @@ fn records_without_a_spelling(rt: HostRuntime) -> Result<(), Fail> {
     let alloc = rt.alloc();
     for (code, reply) in [(0, 0), (21, 0), (20, 16)] {
         let told = audit_of(alloc, code, reply)?;
-        assert!(rt; is_too_big(alloc, &told), "{told:?}");
+        assert!(rt; is_too_big(WireVersion::One, alloc, &told), "{told:?}");
     }
     Ok(())
 }

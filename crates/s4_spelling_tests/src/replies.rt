@@ -2,7 +2,7 @@
 
 use s4_codec::{ReadError, read_reply, write_reply};
 use s4_script::ReplyText;
-use s4_types::Reply;
+use s4_types::{Reply, WireVersion};
 use std::alloc::Global;
 use std::process::Abort;
 use std::test::Fail;
@@ -134,14 +134,14 @@ const BAD_BODIES: [&str; 22] = [
 /// That the reply is written as this body, and is told as this text.
 fn is_spelled(alloc: Global, reply: &Reply, body: &[u8], text: &str) -> Result<bool, Fail> {
     Ok(
-        write_reply(alloc, reply)?.as_slice() == body
+        write_reply(WireVersion::One, alloc, reply)?.as_slice() == body
             && ReplyText(reply).to_string(alloc)?.as_str() == text,
     )
 }
 
 fn check_body(rt: &impl Abort, alloc: Global, body: &str, text: &str) -> Result<(), Fail> {
     let body = hex::decode(alloc, body)?;
-    let reply = read_reply(alloc, &body)?;
+    let reply = read_reply(WireVersion::One, alloc, &body)?;
     assert!(rt;
         is_spelled(alloc, &reply, &body, text)?,
         "{text}: {reply:?}"
@@ -162,7 +162,7 @@ fn bad_bodies_are_of_no_reply(rt: HostRuntime) -> Result<(), Fail> {
     let alloc = rt.alloc();
     for digits in &BAD_BODIES {
         let body = hex::decode(alloc, digits)?;
-        let read = read_reply(alloc, &body);
+        let read = read_reply(WireVersion::One, alloc, &body);
         assert!(rt; read == Err(ReadError::Malformed), "{digits}");
     }
     Ok(())

@@ -2,7 +2,7 @@
 
 use s4_codec::{ReadError, read_request, write_request};
 use s4_script::{Line, parse_line};
-use s4_types::{Request, Step};
+use s4_types::{Request, Step, WireVersion};
 use std::alloc::Global;
 use std::process::Abort;
 use std::test::Fail;
@@ -87,21 +87,51 @@ fn request_of(alloc: Global, line: &str) -> Result<Request, Fail> {
 }
 
 /// That the request is written as this body, and read from it.
-fn is_spelled(alloc: Global, request: &Request, body: &[u8]) -> Result<bool, Fail> {
-    Ok(write_request(alloc, request)?.as_slice() == body && read_request(alloc, body)? == *request)
+fn is_spelled(
+    version: WireVersion,
+    alloc: Global,
+    request: &Request,
+    body: &[u8],
+) -> Result<bool, Fail> {
+    Ok(
+        write_request(version, alloc, request)?.as_slice() == body
+            && read_request(version, alloc, body)? == *request,
+    )
 }
 
-fn check_body(rt: &impl Abort, alloc: Global, body: &str, line: &str) -> Result<(), Fail> {
+fn check_body(
+    rt: &impl Abort,
+    version: WireVersion,
+    alloc: Global,
+    body: &str,
+    line: &str,
+) -> Result<(), Fail> {
     let body = hex::decode(alloc, body)?;
     let request = request_of(alloc, line)?;
-    assert!(rt; is_spelled(alloc, &request, &body)?, "{line}");
+    assert!(rt; is_spelled(version, alloc, &request, &body)?, "{line}");
     Ok(())
 }
 
 #[test]
 fn requests_are_spelled_as_these_bodies(rt: HostRuntime) -> Result<(), Fail> {
     for (body, line) in &BODIES {
-        check_body(&rt, rt.alloc(), body, line)?;
+        check_body(&rt, WireVersion::One, rt.alloc(), body, line)?;
+    }
+    Ok(())
+}
+
+#[test]
+fn by_version_2_data_has_a_length_of_four_bytes(rt: HostRuntime) -> Result<(), Fail> {
+    for (body, line) in [
+        (
+            "040000000700000001000013870000000161",
+            "4 7 write 7.0.1 4999 61",
+        ),
+        ("0500000007000000010000000161", "4 7 append 7.0.1 61"),
+        ("0800000007000000010000000161", "4 7 setattr 7.0.1 61"),
+        ("020000000700000001", "4 7 delete 7.0.1"),
+    ] {
+        check_body(&rt, WireVersion::Two, rt.alloc(), body, line)?;
     }
     Ok(())
 }
@@ -111,7 +141,7 @@ fn bad_bodies_are_of_no_request(rt: HostRuntime) -> Result<(), Fail> {
     let alloc = rt.alloc();
     for digits in &BAD_BODIES {
         let body = hex::decode(alloc, digits)?;
-        let read = read_request(alloc, &body);
+        let read = read_request(WireVersion::One, alloc, &body);
         assert!(rt; read == Err(ReadError::Malformed), "{digits}");
     }
     Ok(())

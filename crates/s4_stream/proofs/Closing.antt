@@ -1,10 +1,10 @@
 -- Where a connection is closed, nothing of it is held.
 use Rattle.std.proofs.Common.{◌≡◌, ℕ, zero, suc, List, [], ◌++◌, length, refl, sym, ap, ◌∙◌}
-use Rattle.s4_codec.specs.Frames.{frame_limit, Front, Whole, Part, BadLength, front_of}
+use Rattle.s4_codec.specs.Frames.{Front, Whole, Part, BadLength, front_of}
 use Rattle.s4_stream.specs.Logins.{Logins}
 use Rattle.s4_stream.specs.declared.event.SessionState.{SessionState}
 use Rattle.s4_stream.specs.declared.event.SessionState.TheVariants.{Greeting, Open, Closed}
-use Rattle.s4_stream.specs.Stream.{Heard, hear, hear_frames, from_front, said, state_after}
+use Rattle.s4_stream.specs.Stream.{Heard, hear, hear_frames, from_front, said, state_after, limit_at}
 use Rattle.s4_stream.specs.Feeding.{Listening, hear_piece, heard_so_far}
 use Rattle.s4_stream.proofs.Hearing.{closed_frames}
 
@@ -21,8 +21,8 @@ frames_hold : (n : ℕ) (logins : Logins) (state : SessionState) (bytes : List �
 frames_hold zero logins Greeting bytes e = absurd cc
 frames_hold zero logins (Open caller) bytes e = absurd cc
 frames_hold zero logins Closed bytes e = refl
-frames_hold (suc n) logins Greeting bytes e = front_holds n logins Greeting bytes (λ x. absurd cc) (frames_hold n logins) (front_of frame_limit bytes) e
-frames_hold (suc n) logins (Open caller) bytes e = front_holds n logins (Open caller) bytes (λ x. absurd cc) (frames_hold n logins) (front_of frame_limit bytes) e
+frames_hold (suc n) logins Greeting bytes e = front_holds n logins Greeting bytes (λ x. absurd cc) (frames_hold n logins) (front_of (limit_at Greeting) bytes) e
+frames_hold (suc n) logins (Open caller) bytes e = front_holds n logins (Open caller) bytes (λ x. absurd cc) (frames_hold n logins) (front_of (limit_at (Open caller)) bytes) e
 frames_hold (suc n) logins Closed bytes e = refl
 
 pub closed_left : (logins : Logins) (state : SessionState) (bytes : List ℕ) (h : Heard) → hear logins state bytes ≡ h → h.state ≡ Closed → h.left ≡ []

@@ -1,13 +1,13 @@
 -- What is heard of bytes that come in two pieces.
 use Rattle.std.proofs.Common.{◌≡◌, ℕ, zero, suc, ◌+◌, ◌≤◌, List, [], ◌∷◌, ◌++◌, length, refl, sym, ap, ◌∙◌, arith}
 use Rattle.std.proofs.lemmas.List.{length-append, nil_from_length}
-use Rattle.s4_codec.specs.Frames.{frame_limit, Front, Whole, Part, BadLength, front_of}
+use Rattle.s4_codec.specs.Frames.{Front, Whole, Part, BadLength, front_of}
 use Rattle.s4_stream.specs.Logins.{Logins}
 use Rattle.s4_stream.specs.declared.event.Event.TheVariants as event
 use Rattle.s4_stream.specs.declared.event.SessionFault.TheVariants as fault
 use Rattle.s4_stream.specs.declared.event.SessionState.{SessionState}
 use Rattle.s4_stream.specs.declared.event.SessionState.TheVariants.{Greeting, Open, Closed}
-use Rattle.s4_stream.specs.Stream.{Heard, hear, hear_frames, from_front, first, said, state_after, unheard}
+use Rattle.s4_stream.specs.Stream.{Heard, hear, hear_frames, from_front, first, said, state_after, unheard, limit_at}
 use Rattle.s4_stream.specs.Feeding.{after_events}
 use Rattle.s4_codec.proofs.FrontLaws.{whole_more, bad_stays, bad_is_long, behind, behind_is_shorter}
 use Rattle.s4_stream.proofs.Hearing.{open_frames, closed_frames, unheard_live}
@@ -22,11 +22,11 @@ nothing_heard (suc m) logins Greeting = refl
 nothing_heard (suc m) logins (Open caller) = refl
 nothing_heard (suc m) logins Closed = refl
 
-same_front : (n m : ℕ) (logins : Logins) (state : SessionState) (bytes : List ℕ) (f : Front) → front_of frame_limit bytes ≡ f
+same_front : (n m : ℕ) (logins : Logins) (state : SessionState) (bytes : List ℕ) (f : Front) → front_of (limit_at state) bytes ≡ f
     → ((rest : List ℕ) → length rest ≤ n → SameFrames n logins rest) → length bytes ≤ suc n → length bytes ≤ suc m
     → from_front logins state bytes (hear_frames n logins) f ≡ from_front logins state bytes (hear_frames m logins) f
 same_front n m logins state bytes (Whole body rest) e more le lm =
-    let short : length rest + 4 ≤ length bytes = behind_is_shorter bytes rest (behind frame_limit bytes body rest e) in
+    let short : length rest + 4 ≤ length bytes = behind_is_shorter bytes rest (behind (limit_at state) bytes body rest e) in
     ap (first (said logins state body)) (more rest (omega arith) m (state_after (said logins state body)) (omega arith))
 same_front n m logins state bytes Part e more le lm = refl
 same_front n m logins state bytes BadLength e more le lm = refl
@@ -38,7 +38,7 @@ same_live n zero logins state bytes live more le lm =
     let none : bytes ≡ [] = nil_from_length bytes (omega arith) in
     ap (hear_frames (suc n) logins state) none ∙ nothing_heard (suc n) logins state ∙ sym (nothing_heard zero logins state) ∙ ap (hear_frames zero logins state) (sym none)
 same_live n (suc m) logins state bytes live more le lm =
-    open_frames n logins state bytes live ∙ same_front n m logins state bytes (front_of frame_limit bytes) refl more le lm ∙ sym (open_frames m logins state bytes live)
+    open_frames n logins state bytes live ∙ same_front n m logins state bytes (front_of (limit_at state) bytes) refl more le lm ∙ sym (open_frames m logins state bytes live)
 
 pub enough : (n : ℕ) (logins : Logins) (bytes : List ℕ) → length bytes ≤ n → SameFrames n logins bytes
 enough n logins bytes le m Closed lm = closed_frames n logins bytes ∙ sym (closed_frames m logins bytes)
@@ -72,33 +72,33 @@ cut_none k logins state xs ys live le lk =
     enough k logins (xs ++ ys) lk (length (xs ++ ys)) state all
     ∙ ap (λ (h : Heard). and_then logins h ys) (sym (unheard_live state xs live))
 
-cut_front : (n k : ℕ) (logins : Logins) (state : SessionState) (xs ys : List ℕ) (f : Front) → (state ≡ Closed → ⊥) → front_of frame_limit xs ≡ f
+cut_front : (n k : ℕ) (logins : Logins) (state : SessionState) (xs ys : List ℕ) (f : Front) → (state ≡ Closed → ⊥) → front_of (limit_at state) xs ≡ f
     → ((rest : List ℕ) → length rest ≤ n → IsCut n logins ys rest) → length xs ≤ suc n → length (xs ++ ys) ≤ k
     → hear_frames k logins state (xs ++ ys) ≡ and_then logins (from_front logins state xs (hear_frames n logins) f) ys
 cut_front n zero logins state xs ys (Whole body rest) live e more le lk =
-    let short : length rest + 4 ≤ length xs = behind_is_shorter xs rest (behind frame_limit xs body rest e) in
+    let short : length rest + 4 ≤ length xs = behind_is_shorter xs rest (behind (limit_at state) xs body rest e) in
     absurd (omega (arith, short, lk, length-append xs ys))
 cut_front n (suc k) logins state xs ys (Whole body rest) live e more le lk =
-    let short : length rest + 4 ≤ length xs = behind_is_shorter xs rest (behind frame_limit xs body rest e) in
+    let short : length rest + 4 ≤ length xs = behind_is_shorter xs rest (behind (limit_at state) xs body rest e) in
     let room : length (rest ++ ys) ≤ k = omega (arith, short, lk, length-append xs ys, length-append rest ys) in
     open_frames k logins state (xs ++ ys) live
-    ∙ ap (from_front logins state (xs ++ ys) (hear_frames k logins)) (whole_more frame_limit xs body rest ys e)
+    ∙ ap (from_front logins state (xs ++ ys) (hear_frames k logins)) (whole_more (limit_at state) xs body rest ys e)
     ∙ ap (first (said logins state body)) (more rest (omega arith) k (state_after (said logins state body)) room)
 cut_front n k logins state xs ys Part live e more le lk =
     let all : length (xs ++ ys) ≤ length (xs ++ ys) = omega arith in
     enough k logins (xs ++ ys) lk (length (xs ++ ys)) state all
 cut_front n zero logins state xs ys BadLength live e more le lk =
-    absurd (omega (arith, bad_is_long frame_limit xs e, lk, length-append xs ys))
+    absurd (omega (arith, bad_is_long (limit_at state) xs e, lk, length-append xs ys))
 cut_front n (suc k) logins state xs ys BadLength live e more le lk =
     open_frames k logins state (xs ++ ys) live
-    ∙ ap (from_front logins state (xs ++ ys) (hear_frames k logins)) (bad_stays frame_limit xs ys e)
+    ∙ ap (from_front logins state (xs ++ ys) (hear_frames k logins)) (bad_stays (limit_at state) xs ys e)
     ∙ ap (after_events (event.Fault fault.FrameLength ∷ [])) (sym (closed_frames (length ys) logins ys))
 
 cut_live : (n k : ℕ) (logins : Logins) (state : SessionState) (xs ys : List ℕ) → (state ≡ Closed → ⊥)
     → ((rest : List ℕ) → length rest ≤ n → IsCut n logins ys rest) → length xs ≤ suc n → length (xs ++ ys) ≤ k
     → hear_frames k logins state (xs ++ ys) ≡ and_then logins (hear_frames (suc n) logins state xs) ys
 cut_live n k logins state xs ys live more le lk =
-    cut_front n k logins state xs ys (front_of frame_limit xs) live refl more le lk
+    cut_front n k logins state xs ys (front_of (limit_at state) xs) live refl more le lk
     ∙ ap (λ (h : Heard). and_then logins h ys) (sym (open_frames n logins state xs live))
 
 cut_frames : (n : ℕ) (logins : Logins) (ys xs : List ℕ) → length xs ≤ n → IsCut n logins ys xs

@@ -3,14 +3,14 @@ use Rattle.std.proofs.Common.{◌≡◌, ℕ, zero, suc, Bool, true, false, cond
 use Rattle.std.specs.Prelude.{All}
 use Rattle.std.proofs.lemmas.List.Elements.{All-nil, All-cons}
 use Rattle.s4_types.specs.declared.principal.Caller.{Caller}
-use Rattle.s4_types.specs.declared.principal.WireVersion.TheVariants.{One}
 use Rattle.s4_types.specs.declared.request.Request as asked
-use Rattle.s4_codec.specs.Frames.{frame_limit, Front, Whole, Part, BadLength, front_of}
+use Rattle.s4_types.specs.declared.principal.WireVersion.TheVariants.{One}
+use Rattle.s4_codec.specs.Frames.{Front, Whole, Part, BadLength, front_of}
 use Rattle.s4_codec.specs.Requests.{request_in}
 use Rattle.s4_stream.specs.Logins.{Logins, is_login}
 use Rattle.s4_stream.specs.Hello.{hello_in, greeted}
 use Rattle.s4_stream.specs.First.{SpeaksFirst, NamesFirst}
-use Rattle.s4_stream.specs.Stream.{Heard, hear, hear_frames, from_front, asked_by, said, state_after, unheard}
+use Rattle.s4_stream.specs.Stream.{Heard, hear, hear_frames, from_front, asked_by, said, state_after, unheard, limit_at}
 use Rattle.s4_stream.specs.declared.event.Event.{Event}
 use Rattle.s4_stream.specs.declared.event.Event.TheVariants.{Welcome, Request, Fault}
 use Rattle.s4_stream.specs.declared.event.SessionFault.TheVariants as fault
@@ -37,7 +37,7 @@ greeted_first logins None first = tt
 greeted_first logins (Some h) first = welcomed_first h.caller (is_login logins h.caller.who h.secret) (first h refl)
 
 said_first : (logins : Logins) (state : SessionState) (body : List ℕ) → SpeaksFirst state → NamesFirst (said logins state body)
-said_first logins (Open caller) body first = asked_first caller (request_in body) first
+said_first logins (Open caller) body first = asked_first caller (request_in caller.version body) first
 said_first logins Greeting body first = greeted_first logins (hello_in body) (first_hello body)
 said_first logins Closed body first = greeted_first logins (hello_in body) (first_hello body)
 
@@ -63,8 +63,8 @@ unheard_first Closed bytes first = record { events = All-nil NamesFirst; state =
 
 frames_first : (n : ℕ) (logins : Logins) (state : SessionState) (bytes : List ℕ) → SpeaksFirst state → IsFirst (hear_frames n logins state bytes)
 frames_first zero logins state bytes first = unheard_first state bytes first
-frames_first (suc n) logins Greeting bytes first = front_first n logins Greeting bytes first (frames_first n logins) (front_of frame_limit bytes)
-frames_first (suc n) logins (Open caller) bytes first = front_first n logins (Open caller) bytes first (frames_first n logins) (front_of frame_limit bytes)
+frames_first (suc n) logins Greeting bytes first = front_first n logins Greeting bytes first (frames_first n logins) (front_of (limit_at Greeting) bytes)
+frames_first (suc n) logins (Open caller) bytes first = front_first n logins (Open caller) bytes first (frames_first n logins) (front_of (limit_at (Open caller)) bytes)
 frames_first (suc n) logins Closed bytes first = unheard_first Closed bytes first
 
 -- what is heard where whoever calls speaks version 1

@@ -1,19 +1,19 @@
 -- Hearing one frame more.
 use Rattle.std.proofs.Common.{◌≡◌, ℕ, zero, suc, ◌+◌, ◌-◌, ◌<◌, ◌≤◌, true, false, List, [], ◌∷◌, ◌++◌, refl, sym, ap, ◌∙◌, append_assoc, arith}
 use Rattle.std.proofs.lemmas.List.{append-nil}
-use Rattle.s4_codec.specs.Frames.{frame_limit, Whole, Part, BadLength, front_of}
+use Rattle.s4_codec.specs.Frames.{Whole, Part, BadLength, front_of}
 use Rattle.s4_stream.specs.Logins.{Logins}
 use Rattle.s4_stream.specs.declared.event.Event.{Event}
 use Rattle.s4_stream.specs.declared.event.Event.TheVariants as event
 use Rattle.s4_stream.specs.declared.event.SessionFault.TheVariants as fault
 use Rattle.s4_stream.specs.declared.event.SessionState.{SessionState}
 use Rattle.s4_stream.specs.declared.event.SessionState.TheVariants.{Greeting, Open, Closed}
-use Rattle.s4_stream.specs.Stream.{Heard, hear_frames, from_front, first, said, state_after, unheard}
+use Rattle.s4_stream.specs.Stream.{Heard, hear_frames, from_front, first, said, state_after, unheard, limit_at}
 use Rattle.s4_stream.specs.Feeding.{after_events, heard_so_far, in_all, HearsOne}
 
 -- one frame more, where nothing is closed
 pub open_frames : (n : ℕ) (logins : Logins) (state : SessionState) (bytes : List ℕ) → (state ≡ Closed → ⊥)
-    → hear_frames (suc n) logins state bytes ≡ from_front logins state bytes (hear_frames n logins) (front_of frame_limit bytes)
+    → hear_frames (suc n) logins state bytes ≡ from_front logins state bytes (hear_frames n logins) (front_of (limit_at state) bytes)
 open_frames n logins Greeting bytes live = refl
 open_frames n logins (Open caller) bytes live = refl
 open_frames n logins Closed bytes live = absurd (live refl)
@@ -28,7 +28,7 @@ unheard_live (Open caller) bytes live = refl
 unheard_live Closed bytes live = absurd (live refl)
 
 module _ (logins : Logins) (events : List Event) (state : SessionState) (bytes : List ℕ) (live : state ≡ Closed → ⊥) where
-  module _ (body rest : List ℕ) (front : front_of frame_limit bytes ≡ Whole body rest) where
+  module _ (body rest : List ℕ) (front : front_of (limit_at state) bytes ≡ Whole body rest) where
     whole_then : (n : ℕ) → in_all (suc n) logins (heard_so_far events state bytes) ≡ in_all n logins (heard_so_far (events ++ said logins state body ∷ []) (state_after (said logins state body)) rest)
     whole_then n =
         let e : hear_frames (suc n) logins state bytes ≡ first (said logins state body) (hear_frames n logins (state_after (said logins state body)) rest) = open_frames n logins state bytes live ∙ ap (from_front logins state bytes (hear_frames n logins)) front in
@@ -49,12 +49,12 @@ module _ (logins : Logins) (events : List Event) (state : SessionState) (bytes :
         ∙ ap (λ (es : List Event). heard_so_far es Closed []) (append-nil now)
         ∙ ap (λ (s : SessionState). heard_so_far now s []) (sym ends)
 
-  pub part_heard : front_of frame_limit bytes ≡ Part → HearsOne false logins (heard_so_far events state bytes) (heard_so_far events state bytes)
+  pub part_heard : front_of (limit_at state) bytes ≡ Part → HearsOne false logins (heard_so_far events state bytes) (heard_so_far events state bytes)
   part_heard front n =
       ap (after_events events) (open_frames n logins state bytes live ∙ ap (from_front logins state bytes (hear_frames n logins)) front)
       ∙ ap (λ (es : List Event). heard_so_far es state bytes) (append-nil events)
 
-  pub bad_heard : front_of frame_limit bytes ≡ BadLength → HearsOne false logins (heard_so_far events state bytes) (heard_so_far (events ++ event.Fault fault.FrameLength ∷ []) Closed [])
+  pub bad_heard : front_of (limit_at state) bytes ≡ BadLength → HearsOne false logins (heard_so_far events state bytes) (heard_so_far (events ++ event.Fault fault.FrameLength ∷ []) Closed [])
   bad_heard front n =
       ap (after_events events) (open_frames n logins state bytes live ∙ ap (from_front logins state bytes (hear_frames n logins)) front)
 

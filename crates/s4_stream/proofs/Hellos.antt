@@ -3,11 +3,13 @@ use Rattle.std.proofs.Common.{◌≡◌, ℕ, zero, suc, true, List, [], ◌∷�
 use Rattle.s4_types.specs.declared.principal.WireVersion.{WireVersion}
 use Rattle.s4_types.specs.declared.principal.WireVersion.TheVariants.{One, Two}
 use Rattle.s4_types.specs.Limits.{number_of_version, version_of}
-use Rattle.s4_codec.specs.Format.{◌>>=◌, ◌&◌, number, block, byte, byte_at, tested, only, case_at}
+use Rattle.s4_codec.specs.Format.{◌>>=◌, ◌&◌, AreBytes, number, block, byte, byte_at, tested, only, case_at}
 use Rattle.std.specs.Prelude.{◌==◌}
 use Rattle.s4_codec.specs.Parts.{principal}
-use Rattle.s4_codec.proofs.Lawful.{IsFormat, some_is, bind_some, both_true, byte_is, block_is, only_is, pair_is, made_is, tested_some, whole_some, IsCase, cases_are}
+use Rattle.s4_codec.proofs.Lawful.{IsFormat, some_is, bind_some, both_true, byte_is, block_is, only_is, pair_is, made_is, tested_some, whole_some, whole_takes, whole_again, are_bytes, IsCase, cases_are}
 use Rattle.s4_codec.proofs.PartLaws.{principal_is, word_is}
+use Rattle.s4_codec.proofs.TableLaws.{both, principal_holds}
+use Rattle.s4_stream.specs.Rows.{is_hello, IsHello}
 use Rattle.s4_stream.specs.declared.hello.Hello.{Hello}
 use Rattle.s4_stream.specs.Hello.{version, hello_fields, hello, hello_in}
 use Rattle.std.proofs.lemmas.Bool.{eqb-true}
@@ -65,3 +67,20 @@ first_case (suc n ∷ bytes) h rest e = absurd cc
 -- who is named by a Hello speaks version 1
 pub first_hello : (body : List ℕ) (h : Hello) → hello_in body ≡ Some h → h.caller.version ≡ One
 first_hello body h e = first_case body h [] (whole_some (hello.at body) h e)
+
+-- ---- as a row
+
+version_holds : (v : WireVersion) → version.fits v ≡ (number_of_version v == 1)
+version_holds One = refl
+version_holds Two = refl
+
+hello_holds : (h : Hello) → hello.fits h ≡ is_hello h
+hello_holds h = both (version_holds h.caller.version) (both (principal_holds h.caller.who) refl)
+
+pub read_hello : (body : List ℕ) (h : Hello) → AreBytes body → hello_in body ≡ Some h → IsHello body h
+read_hello body h bytes e =
+    let takes = whole_takes hello hello_is body h (are_bytes body bytes) e in
+    record { parts = sym (hello_holds h) ∙ takes.1; bytes = takes.0 }
+
+pub hello_read : (body : List ℕ) (h : Hello) → IsHello body h → hello_in body ≡ Some h
+hello_read body h row = ap hello_in row.bytes ∙ whole_again hello hello_is h (hello_holds h ∙ row.parts)

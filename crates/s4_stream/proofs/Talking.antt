@@ -6,7 +6,7 @@ use Rattle.s4_types.specs.declared.principal.Caller.{Caller}
 use Rattle.s4_types.specs.declared.request.Request as asked
 use Rattle.s4_types.specs.declared.reply.Reply.{Reply}
 use Rattle.s4_codec.specs.Requests.{request_in}
-use Rattle.s4_codec.specs.Frames.{frame_limit, Front, Whole, Part, BadLength, front_of}
+use Rattle.s4_codec.specs.Frames.{Front, Whole, Part, BadLength, front_of}
 use Rattle.s4_stream.specs.declared.event.Event.{Event}
 use Rattle.s4_stream.specs.declared.event.Event.TheVariants.{Welcome, Request, Fault}
 use Rattle.s4_stream.specs.declared.event.SessionFault as kinds
@@ -15,7 +15,7 @@ use Rattle.s4_stream.specs.declared.event.SessionState.TheVariants.{Greeting, Op
 use Rattle.s4_stream.specs.Logins.{Logins, is_login}
 use Rattle.s4_stream.specs.declared.hello.Hello.{Hello}
 use Rattle.s4_stream.specs.Hello.{hello_in, greeted}
-use Rattle.s4_stream.specs.Stream.{Heard, hear_frames, from_front, asked_by, state_after}
+use Rattle.s4_stream.specs.Stream.{Heard, hear_frames, from_front, asked_by, state_after, limit_at}
 use Rattle.s4_stream.specs.Talk.{sent_for, welcome, reply_frame, fault_frame, ended_by, asked_until, talk_of, IsTalk, Unwelcome, Welcomed, fault_bytes, told_in_order}
 use Rattle.s4_stream.proofs.Hearing.{closed_frames}
 
@@ -35,13 +35,13 @@ asks_body n logins caller rest (Some r) more = record { requests = r ∷ more.re
 
 asks_front : (n : ℕ) (logins : Logins) (caller : Caller) (bytes : List ℕ) (f : Front) → ((rest : List ℕ) → Asks caller (hear_frames n logins (Open caller) rest).events)
     → Asks caller (from_front logins (Open caller) bytes (hear_frames n logins) f).events
-asks_front n logins caller bytes (Whole body rest) more = asks_body n logins caller rest (request_in body) (more rest)
+asks_front n logins caller bytes (Whole body rest) more = asks_body n logins caller rest (request_in caller.version body) (more rest)
 asks_front n logins caller bytes Part more = record { requests = []; fault = None; is = refl }
 asks_front n logins caller bytes BadLength more = record { requests = []; fault = Some FrameLength; is = refl }
 
 asks : (n : ℕ) (logins : Logins) (caller : Caller) (bytes : List ℕ) → Asks caller (hear_frames n logins (Open caller) bytes).events
 asks zero logins caller bytes = record { requests = []; fault = None; is = refl }
-asks (suc n) logins caller bytes = asks_front n logins caller bytes (front_of frame_limit bytes) (asks n logins caller)
+asks (suc n) logins caller bytes = asks_front n logins caller bytes (front_of (limit_at (Open caller)) bytes) (asks n logins caller)
 
 -- what a first body brings about is a welcome or a fault
 abbrev IsGreeting : Event → Type 0
@@ -71,7 +71,7 @@ talks_front n logins bytes BadLength = Unwelcome (Some FrameLength)
 
 pub talks_frames : (n : ℕ) (logins : Logins) (bytes : List ℕ) → IsTalk (hear_frames n logins Greeting bytes).events
 talks_frames zero logins bytes = Unwelcome None
-talks_frames (suc n) logins bytes = talks_front n logins bytes (front_of frame_limit bytes)
+talks_frames (suc n) logins bytes = talks_front n logins bytes (front_of (limit_at Greeting) bytes)
 
 -- what is sent for a fault, if there is one
 pub sent_at_end : (fault : Option kinds.SessionFault) (replies : List Reply) → sent_for (ended_by fault) replies ≡ fault_bytes fault

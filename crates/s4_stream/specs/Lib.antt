@@ -1,6 +1,7 @@
 pub mod Logins
 pub mod LoginText
 pub mod Hello
+pub mod Rows
 pub mod Stream
 pub mod First
 pub mod Feeding

@@ -2,8 +2,10 @@
 use Rattle.std.specs.Prelude.{ℕ, zero, suc, Option, Some, None, List, [], ◌∷◌, length}
 use Rattle.s4_types.specs.declared.principal.Caller.{Caller}
 use Rattle.s4_types.specs.declared.request.Request as asked
+use Rattle.s4_types.specs.declared.principal.WireVersion.TheVariants.{One}
 use Rattle.s4_codec.specs.Requests.{request_in}
-use Rattle.s4_codec.specs.Frames.{frame_limit, Front, Whole, Part, BadLength, front_of}
+use Rattle.s4_codec.specs.Versions.{frame_limit}
+use Rattle.s4_codec.specs.Frames.{Front, Whole, Part, BadLength, front_of}
 use Rattle.s4_stream.specs.declared.event.Event.{Event}
 use Rattle.s4_stream.specs.declared.event.Event.TheVariants.{Welcome, Request, Fault}
 use Rattle.s4_stream.specs.declared.event.SessionFault.TheVariants as fault
@@ -19,7 +21,7 @@ asked_by caller (Some r) = Request caller r
 
 -- what a whole body brings about: the first one is a Hello, and those after a good Hello are requests
 abbrev pub said : Logins → SessionState → List ℕ → Event
-said logins (Open caller) body = asked_by caller (request_in body)
+said logins (Open caller) body = asked_by caller (request_in caller.version body)
 said logins Greeting body = greeted logins (hello_in body)
 said logins Closed body = greeted logins (hello_in body)
 
@@ -34,6 +36,12 @@ abbrev pub caller_at : SessionState → Option Caller
 caller_at Greeting = None
 caller_at (Open caller) = Some caller
 caller_at Closed = None
+
+-- the most bytes that a body has there: those of version 1 up to a good Hello, and then those of the caller's version
+abbrev pub limit_at : SessionState → ℕ
+limit_at Greeting = frame_limit One
+limit_at (Open caller) = frame_limit caller.version
+limit_at Closed = frame_limit One
 
 -- What bytes say: the events, where they leave the connection, and the bytes of the frame that isn't whole yet.
 pub record Heard : Type 0 where
@@ -60,8 +68,8 @@ unheard Closed bytes = record { events = []; state = Closed; left = [] }
 -- What the bytes say where the connection stands, of so many frames at most. After a fault nothing is heard.
 abbrev pub hear_frames : ℕ → Logins → SessionState → List ℕ → Heard
 hear_frames zero logins state bytes = unheard state bytes
-hear_frames (suc n) logins Greeting bytes = from_front logins Greeting bytes (hear_frames n logins) (front_of frame_limit bytes)
-hear_frames (suc n) logins (Open caller) bytes = from_front logins (Open caller) bytes (hear_frames n logins) (front_of frame_limit bytes)
+hear_frames (suc n) logins Greeting bytes = from_front logins Greeting bytes (hear_frames n logins) (front_of (limit_at Greeting) bytes)
+hear_frames (suc n) logins (Open caller) bytes = from_front logins (Open caller) bytes (hear_frames n logins) (front_of (limit_at (Open caller)) bytes)
 hear_frames (suc n) logins Closed bytes = unheard Closed bytes
 
 -- What the bytes say: there are not more frames than bytes.

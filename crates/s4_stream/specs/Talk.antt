@@ -3,6 +3,7 @@ use Rattle.std.specs.Prelude.{◌≡◌, ℕ, ◌+◌, Option, Some, None, List,
 use Rattle.s4_types.specs.declared.principal.Caller.{Caller}
 use Rattle.s4_types.specs.declared.request.Request as asked
 use Rattle.s4_types.specs.declared.reply.Reply.{Reply}
+use Rattle.s4_types.specs.declared.principal.WireVersion.TheVariants.{One}
 use Rattle.s4_codec.specs.Frames.{framed}
 use Rattle.s4_codec.specs.Replies.{reply}
 use Rattle.s4_stream.specs.declared.event.Event.{Event}
@@ -26,9 +27,9 @@ fault_number FrameLength = 3
 abbrev pub fault_frame : kinds.SessionFault → List ℕ
 fault_frame f = framed (17 ∷ fault_number f ∷ [])
 
--- the frame of a reply
+-- the frame of a reply, by version 1, which is all that callers speak
 abbrev pub reply_frame : Reply → List ℕ
-reply_frame r = framed (reply.spell r)
+reply_frame r = framed ((reply One).spell r)
 
 -- EVENTS
 

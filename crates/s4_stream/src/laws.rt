@@ -1,17 +1,19 @@
 //! What holds of all streams.
 
-ghost use Rattle.std.specs.Prelude.{◌≡◌, ℕ, Option, List, ◌++◌, length};
+ghost use Rattle.std.specs.Prelude.{◌≡◌, ℕ, Option, Some, List, ◌++◌, length};
 ghost use Rattle.s4_types.specs.declared.principal.Caller as callers;
 ghost use Rattle.s4_types.specs.declared.reply.Reply as told;
 ghost use Rattle.s4_types.specs.declared.request.Request as asked;
-ghost use Rattle.s4_codec.specs.Format.{IsPrefixFree, IsReadBack, IsSpelledAsRead};
+ghost use Rattle.s4_codec.specs.Format.{AreBytes, IsPrefixFree, IsReadBack, IsSpelledAsRead};
 ghost use Rattle.s4_stream.specs.Hello as hellos;
 ghost use Rattle.s4_stream.specs.Logins as table;
+ghost use Rattle.s4_stream.specs.Rows.{IsHello};
 ghost use Rattle.s4_stream.specs.Stream.{hear, events_of};
 ghost use Rattle.s4_stream.specs.Talk.{sent_for, IsTalk, TellsFaultAlone, talk_of, told_in_order};
 ghost use Rattle.s4_stream.specs.Feeding.{after_events};
 ghost use Rattle.s4_stream.specs.declared.event.SessionFault as faults;
 ghost use Rattle.s4_stream.specs.declared.event.SessionState.{SessionState};
+ghost use Rattle.s4_stream.specs.declared.hello.Hello as hello;
 
 /// A stream says the same however it is cut: what is heard of two pieces that are joined is what is
 /// heard of the first, and then of what that left and the second. So a session that is fed pieces
@@ -40,4 +42,12 @@ pub fn hellos_have_one_spelling()
     ensures prefix_free { IsPrefixFree hellos.hello }
     ensures read_back { IsReadBack hellos.hello }
     ensures spelled { IsSpelledAsRead hellos.hello }
+{}
+
+/// A body of bytes says a Hello just where it is that Hello's row.
+pub fn hellos_are_their_rows()
+    ensures said { (body : List ℕ) (h : hello.Hello)
+        → AreBytes body → hellos.hello_in body ≡ Some h → IsHello body h }
+    ensures read { (body : List ℕ) (h : hello.Hello)
+        → IsHello body h → hellos.hello_in body ≡ Some h }
 {}

@@ -13,7 +13,10 @@ mod session;
 pub use event::{Event, SessionFault, SessionState};
 pub use frames::{FAULT, WELCOME, add_fault, add_frame, add_reply, add_welcome, reserve_frame};
 pub use hello::{Hello, VERSION};
-pub use laws::{connections_speak_in_order, cuts_change_nothing, hellos_have_one_spelling};
+pub use laws::{
+    connections_speak_in_order, cuts_change_nothing, hellos_are_their_rows,
+    hellos_have_one_spelling,
+};
 pub use login_text::{principal_in, secret_in};
 pub use logins::{LoginFault, Logins};
 pub use session::{FeedError, Session};

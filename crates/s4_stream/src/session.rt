@@ -3,7 +3,7 @@
 ghost use Rattle.std.specs.Prelude.{◌≡◌, ◌≤◌, ◌↔◌, All, length, drop, [], IfOk, IsErrOf, OnOk, OnErr};
 ghost use Rattle.s4_stream.specs.First.{NamesFirst};
 ghost use Rattle.s4_stream.specs.Hello.{greeted, hello_in};
-ghost use Rattle.s4_stream.specs.Stream.{caller_at, said, state_after, hear};
+ghost use Rattle.s4_stream.specs.Stream.{caller_at, hear, limit_at, said, state_after};
 ghost use Rattle.s4_stream.specs.Feeding.{HearsOne, heard_so_far, hear_piece, left_by};
 ghost use Rattle.s4_stream.specs.declared.event.SessionState.TheVariants as states;
 ghost use Rattle.s4_stream.specs.declared.session.FeedError.TheVariants as feed_error;
@@ -12,8 +12,8 @@ use crate::event::{Event, SessionFault, SessionState};
 use crate::hello::read_hello;
 use crate::logins::Logins;
 use bytes::BytesMut;
-use s4_codec::{FRAME_LIMIT, Front, ReadError, read_frame, read_request};
-use s4_types::{Caller, NoMemory};
+use s4_codec::{Front, ReadError, frame_limit, read_frame, read_request};
+use s4_types::{Caller, NoMemory, WireVersion};
 use std::alloc::{AllocError, Global};
 use std::marker::Model;
 
@@ -177,7 +177,7 @@ fn hear_frame(
         (heard_so_far hearing.new.events.items hearing.new.state
         (drop hearing.new.count bytes.now))) }
 {
-    match read_frame(FRAME_LIMIT, &bytes[hearing.count..]) {
+    match read_frame(limit_at(&hearing.state), &bytes[hearing.count..]) {
         Front::Whole { body, rest } => {
             let event = said(alloc, logins, &hearing.state, body)?;
             let state = state_after(&event);
@@ -203,6 +203,16 @@ fn hear_frame(
     }
 }
 
+/// The most bytes that a body has there.
+fn limit_at(state: &SessionState) -> usize
+    ensures { result ≡ limit_at state.now }
+{
+    match state {
+        SessionState::Open(caller) => frame_limit(caller.version),
+        SessionState::Greeting | SessionState::Closed => frame_limit(WireVersion::One),
+    }
+}
+
 /// What a whole body says.
 fn said(
     alloc: Global,
@@ -213,7 +223,7 @@ fn said(
     ensures { IfOk result (λ event. event ≡ said logins.now state.now body.now) }
 {
     match state {
-        SessionState::Open(caller) => match read_request(alloc, body) {
+        SessionState::Open(caller) => match read_request(caller.version, alloc, body) {
             Ok(request) => Ok(Event::Request(*caller, request)),
             Err(ReadError::Malformed) => Ok(Event::Fault(SessionFault::Malformed)),
             Err(ReadError::NoMemory) => Err(AllocError),

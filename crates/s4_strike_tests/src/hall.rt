@@ -5,11 +5,11 @@ ghost use Rattle.std.specs.Prelude.{◌↔◌, IsTrue};
 ghost use Rattle.s4_session.specs.Arrivals.{NeverDown};
 
 use crate::campaigns::{Asked, steps_of, told, window_of};
-use s4_codec::{FRAME_LIMIT, Front, read_frame, read_reply, write_request};
+use s4_codec::{Front, frame_limit, read_frame, read_reply, write_request};
 use s4_run::read_logins;
 use s4_script::ReplyText;
 use s4_session::{Hall, HallStep, Logins};
-use s4_types::{Bytes, Moment, NoMemory, Request, Step};
+use s4_types::{Bytes, Moment, NoMemory, Request, Step, WireVersion};
 use std::alloc::{AllocError, Global};
 use std::process::Abort;
 use std::test::Fail;
@@ -59,7 +59,7 @@ fn hello(alloc: Global, who: u32) -> Result<HallStep, Fail> {
 
 /// The frame of a request.
 fn frame_of(alloc: Global, request: &Request) -> Result<Bytes, Fail> {
-    let body = write_request(alloc, request)?;
+    let body = write_request(WireVersion::One, alloc, request)?;
     framed(alloc, &body)
 }
 
@@ -146,7 +146,7 @@ fn sent<A: Abort>(rt: &A, alloc: Global, script: &str) -> Result<Vec<(u32, Vec<u
 
 /// Adds the text of a framed reply.
 fn add_reply(alloc: Global, texts: &mut String, body: &[u8]) -> Result<(), Fail> {
-    let reply = read_reply(alloc, body)?;
+    let reply = read_reply(WireVersion::One, alloc, body)?;
     writeln!(texts, "{}", ReplyText(&reply))?;
     Ok(())
 }
@@ -156,7 +156,7 @@ fn texts_in(alloc: Global, frames: &[u8]) -> Result<String, Fail> {
     let mut texts = String::new(alloc);
     let mut bytes = frames;
     for _ in 0..100 {
-        let Front::Whole { body, rest } = read_frame(FRAME_LIMIT, bytes) else {
+        let Front::Whole { body, rest } = read_frame(frame_limit(WireVersion::One), bytes) else {
             break;
         };
         add_reply(alloc, &mut texts, body)?;

@@ -7,6 +7,7 @@ use Rattle.std.specs.Io.KnownBytes.{Consumes, Appends, Keeps}
 use Rattle.s4_types.specs.declared.principal.Caller.{Caller}
 use Rattle.s4_types.specs.declared.request.Request as asked
 use Rattle.s4_types.specs.declared.reply.Reply.{Reply}
+use Rattle.s4_types.specs.declared.principal.WireVersion.TheVariants.{One}
 use Rattle.s4_codec.specs.Replies.{has_body}
 use Rattle.s4_stream.specs.declared.event.Event.{Event}
 use Rattle.s4_stream.specs.declared.event.Event.TheVariants.{Welcome, Request, Fault}
@@ -150,7 +151,7 @@ Serves-then w xs ys c d e f g h p q r a b =
           ∙ ap (λ (z : List ℕ). p ++ z) (sym (sent_for-append a.served b.served a.replies b.replies a.each))));
       none_missed = b.none_missed;
       none_lost = b.none_lost;
-      bodies = λ is. rw (list_all-append has_body a.replies b.replies, a.bodies refl, b.bodies is) refl;
+      bodies = λ is. rw (list_all-append (has_body One) a.replies b.replies, a.bodies refl, b.bodies is) refl;
     }
 
 -- what comes behind is missed
@@ -223,7 +224,7 @@ Serves-fault g c f p q e = record {
   bodies = λ _. refl;
 }
 
-pub Serves-request : (caller : Caller) (r : asked.Request) (x : Reply) (c d : List Call) (f : Option faults.SessionFault) (p q : List ℕ) → d ≡ c ++ call_made caller r x → IsTrue (has_body x) → q ≡ p ++ reply_frame x
+pub Serves-request : (caller : Caller) (r : asked.Request) (x : Reply) (c d : List Call) (f : Option faults.SessionFault) (p q : List ℕ) → d ≡ c ++ call_made caller r x → IsTrue (has_body One x) → q ≡ p ++ reply_frame x
     → Serves true (Request caller r ∷ []) c d f f p q
 Serves-request caller r x c d f p q calls body e = record {
   served = Request caller r ∷ [];

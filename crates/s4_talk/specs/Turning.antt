@@ -3,6 +3,7 @@ use Rattle.std.specs.Prelude.{◌≡◌, ℕ, Bool, true, false, IsTrue, Option,
 use Rattle.std.specs.List.{list_all}
 use Rattle.std.specs.Io.KnownBytes.{Consumes, Appends, IsAtEnd}
 use Rattle.s4_types.specs.declared.reply.Reply.{Reply}
+use Rattle.s4_types.specs.declared.principal.WireVersion.TheVariants.{One}
 use Rattle.s4_codec.specs.Replies.{has_body}
 use Rattle.s4_stream.specs.declared.event.Event.{Event}
 use Rattle.s4_stream.specs.declared.event.Event.TheVariants.{Welcome, Request, Fault}
@@ -45,7 +46,7 @@ pub record Serves (whole : Bool) (events : List Event) (calls calls' : List Call
   pub sent : after ++ lost ≡ before ++ sent_for served replies
   pub none_missed : whole ≡ true → missed ≡ []
   pub none_lost : whole ≡ true → lost ≡ []
-  pub bodies : whole ≡ true → IsTrue (list_all has_body replies)
+  pub bodies : whole ≡ true → IsTrue (list_all (has_body One) replies)
 
 -- HEARING
 

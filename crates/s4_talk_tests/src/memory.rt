@@ -4,8 +4,9 @@
 use crate::peers::Peer;
 use crate::stream::stream;
 use crate::talks::{Outcome, talk_with};
-use s4_codec::{FRAME_LIMIT, Front, read_frame};
+use s4_codec::{Front, frame_limit, read_frame};
 use s4_talk::TalkEnd;
+use s4_types::WireVersion;
 use std::test::Fail;
 
 /// The reply to a request that met want of memory.
@@ -17,7 +18,7 @@ fn count_frames(written: &[u8]) -> (usize, usize) {
     let mut frames: usize = 0;
     let mut wanting: usize = 0;
     for _ in 0..written.len() {
-        match read_frame(FRAME_LIMIT, left) {
+        match read_frame(frame_limit(WireVersion::One), left) {
             Front::Whole { body, rest } => {
                 frames = frames.saturating_add(1);
                 if body == NO_MEMORY {

@@ -26,7 +26,7 @@ pub returns-clause-name : goal.returns-clause-name
 returns-clause-name c = prefix_free parts.name name_is
 
 pub returns-clause-byte_string : goal.returns-clause-byte_string
-returns-clause-byte_string c = prefix_free parts.byte_string bytes_are
+returns-clause-byte_string c = λ version. prefix_free (parts.byte_string version) (bytes_are version)
 
 pub returns-clause-optional_moment : goal.returns-clause-optional_moment
 returns-clause-optional_moment c = prefix_free parts.optional_moment optional_moment_is
@@ -47,7 +47,7 @@ pub returns-clause-refusal : goal.returns-clause-refusal
 returns-clause-refusal c = prefix_free refusal refusal_is
 
 pub returns-clause-request : goal.returns-clause-request
-returns-clause-request c = prefix_free request request_is
+returns-clause-request c = λ version. prefix_free (request version) (request_is version)
 
 pub returns-clause-reply : goal.returns-clause-reply
-returns-clause-reply c = prefix_free reply reply_is
+returns-clause-reply c = λ version. prefix_free (reply version) (reply_is version)

@@ -26,7 +26,7 @@ pub returns-clause-name : goal.returns-clause-name
 returns-clause-name c = spelled_as_read parts.name name_is
 
 pub returns-clause-byte_string : goal.returns-clause-byte_string
-returns-clause-byte_string c = spelled_as_read parts.byte_string bytes_are
+returns-clause-byte_string c = λ version. spelled_as_read (parts.byte_string version) (bytes_are version)
 
 pub returns-clause-optional_moment : goal.returns-clause-optional_moment
 returns-clause-optional_moment c = spelled_as_read parts.optional_moment optional_moment_is
@@ -47,7 +47,7 @@ pub returns-clause-refusal : goal.returns-clause-refusal
 returns-clause-refusal c = spelled_as_read refusal refusal_is
 
 pub returns-clause-request : goal.returns-clause-request
-returns-clause-request c = spelled_as_read request request_is
+returns-clause-request c = λ version. spelled_as_read (request version) (request_is version)
 
 pub returns-clause-reply : goal.returns-clause-reply
-returns-clause-reply c = spelled_as_read reply reply_is
+returns-clause-reply c = λ version. spelled_as_read (reply version) (reply_is version)

@@ -1,7 +1,7 @@
 use Rattle.std.proofs.Common.{◌≡◌, ◌++◌, ◌∷◌, [], List, ℕ, sym, subst}
 use Rattle.s4_types.specs.declared.principal.WireVersion.{WireVersion}
-use Rattle.s4_types.specs.declared.principal.WireVersion.TheVariants.{One}
 use Rattle.s4_types.specs.Limits.{is_within_limits}
+use Rattle.s4_types.specs.declared.principal.WireVersion.TheVariants.{One}
 use Rattle.s4_stream.specs.First.{NamesFirst}
 use Rattle.std.specs.Prelude.{OnOk, IsTrue, Result, Ok, Err}
 use Rattle.s4_types.specs.declared.reply.Reply.{Reply}
@@ -19,7 +19,7 @@ use Rattle.s4_session.proofs.answer.answer.Goals as goal
 
 -- the same, where the frame was written
 on_ok : {E : Type 0} (result : Result (Unit {0}) E) (t : ℕ) (event : Event) (caller : Caller) (r : asked.Request) (old new : Log) (reply : Reply) (p q : List ℕ) → event ≡ Request caller r
-    → Steps old new t caller r reply → OnOk result (q ≡ p ++ reply_frame reply) → OnOk result (IsTrue (has_body reply)) → OnOk result (Answered t (event ∷ []) old new p q)
+    → Steps old new t caller r reply → OnOk result (q ≡ p ++ reply_frame reply) → OnOk result (IsTrue (has_body One reply)) → OnOk result (Answered t (event ∷ []) old new p q)
 on_ok (Ok x) t event caller r old new reply p q is made sent body =
     subst (λ (e : Event). Answered t (e ∷ []) old new p q) (sym is) (answered_request t caller r old new reply p q sent body made)
 on_ok (Err x) t event caller r old new reply p q is made sent body = tt
