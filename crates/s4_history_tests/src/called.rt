@@ -1,11 +1,11 @@
 //! Records that want calls, and files of calls.
 
-use crate::scripted::{block, record};
+use crate::scripted::{block, header_of, record};
 use s4_history::{
     Called, Cursor, HistoryFault, Source, count_uncalled, pass_batch, take_calls, wanted_calls,
 };
-use s4_journal::{Batch, Call, Calls, Header, Writer, begin};
-use s4_types::{Moment, ObjectId, Principal, Purse, PurseNo, Record, Reply, Request, Serial};
+use s4_journal::{Batch, Call, Calls, Writer, begin};
+use s4_types::{ObjectId, Principal, Purse, PurseNo, Record, Reply, Request, Serial};
 use std::alloc::Global;
 use std::process::Abort;
 use std::test::Fail;
@@ -29,14 +29,7 @@ fn setting() -> Result<Record, Fail> {
 
 /// A journal of two cells, of which each has a record of its own in front of one of all cells.
 fn journal(alloc: Global) -> Result<Vec<u8>, Fail> {
-    let header = Header {
-        window: 10,
-        cells: 2,
-        first_moment: Moment::new(0),
-        wall_clock: 0,
-        first_record: 0,
-    };
-    let (mut bytes, mut writer) = begin(alloc, &header)?;
+    let (mut bytes, mut writer) = begin(alloc, &header_of(2))?;
     for cell in 0..2 {
         bytes.extend_from_slice(&block(alloc, &mut writer, cell, creation()?)?)?;
         bytes.extend_from_slice(&block(alloc, &mut writer, cell, setting()?)?)?;

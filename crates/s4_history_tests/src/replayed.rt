@@ -1,9 +1,9 @@
 //! Replays of a cell's records.
 
-use crate::scripted::{block, record};
+use crate::scripted::{block, header_of, record};
 use s4_history::{Cursor, HistoryFault, Replayed, Source, replay};
-use s4_journal::{Header, begin};
-use s4_types::{Moment, ObjectId, Principal, Purse, PurseNo, Record, Reply, Request, Serial};
+use s4_journal::begin;
+use s4_types::{ObjectId, Principal, Purse, PurseNo, Record, Reply, Request, Serial};
 use std::alloc::Global;
 use std::process::Abort;
 use std::test::Fail;
@@ -32,14 +32,7 @@ fn creation(moment: u64, serial: u16) -> Result<Record, Fail> {
 
 /// A journal of one cell with two records.
 fn journal(alloc: Global, first: Record, second: Record) -> Result<Vec<u8>, Fail> {
-    let header = Header {
-        window: 10,
-        cells: 1,
-        first_moment: Moment::new(0),
-        wall_clock: 0,
-        first_record: 0,
-    };
-    let (mut bytes, mut writer) = begin(alloc, &header)?;
+    let (mut bytes, mut writer) = begin(alloc, &header_of(1))?;
     bytes.extend_from_slice(&block(alloc, &mut writer, 0, first)?)?;
     bytes.extend_from_slice(&block(alloc, &mut writer, 0, second)?)?;
     Ok(bytes)

@@ -54,16 +54,20 @@ pub fn block(
     Ok(writer.block(alloc, &Batch::new(cell, records))?)
 }
 
-/// A journal of two cells.
-pub fn journal(alloc: Global) -> Result<Vec<u8>, Fail> {
-    let header = Header {
+/// The header of a journal of so many cells.
+pub fn header_of(cells: u32) -> Header {
+    Header {
         window: 10,
-        cells: 2,
+        cells,
         first_moment: Moment::new(0),
         wall_clock: 0,
         first_record: 0,
-    };
-    let (mut bytes, mut writer) = begin(alloc, &header)?;
+    }
+}
+
+/// A journal of two cells.
+pub fn journal(alloc: Global) -> Result<Vec<u8>, Fail> {
+    let (mut bytes, mut writer) = begin(alloc, &header_of(2))?;
     let set = record(9, 0, Request::SetWindow { ticks: 4 }, Reply::Done)?;
     bytes.extend_from_slice(&block(alloc, &mut writer, 1, creation(6, 1, 1)?)?)?;
     bytes.extend_from_slice(&block(alloc, &mut writer, 0, creation(5, 2, 0)?)?)?;
