@@ -7,6 +7,8 @@ use Rattle.s4_types.specs.declared.reply.Grant.{Grant}
 use Rattle.s4_types.specs.declared.reply.Grant.TheVariants as grants
 use Rattle.s4_types.specs.declared.reply.NameLine.{NameLine}
 use Rattle.s4_types.specs.declared.audit.AuditLine.{AuditLine}
+use Rattle.s4_types.specs.declared.request.Request.{Request}
+use Rattle.s4_types.specs.declared.request.Request.TheVariants.{Read}
 use Rattle.s4_types.specs.declared.reply.Reply.{Reply}
 use Rattle.s4_types.specs.declared.reply.Reply.TheVariants.{Data, Attr, Entry, Mounted, Names, Audit}
 
@@ -47,3 +49,13 @@ is_within_limits version (Mounted grant o) = is_shown_grant grant
 is_within_limits version (Names lines more) = nat_le (length lines) 64 && list_all is_page_line lines
 is_within_limits version (Audit lines more) = nat_le (length lines) 32 && list_all is_audit_line lines
 is_within_limits version _ = true
+
+-- the most bytes of data that a reply to the request gives: as many as a Read asks for, and none to any other
+abbrev pub data_asked : Request → ℕ
+data_asked (Read o offset size at) = size
+data_asked _ = 0
+
+-- how many bytes of data the reply gives
+abbrev pub data_in : Reply → ℕ
+data_in (Data grant bytes) = length bytes
+data_in _ = 0
