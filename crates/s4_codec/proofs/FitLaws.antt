@@ -24,7 +24,7 @@ whole_is : (a b c d : List ℕ) → Whole a b ≡ Whole c d → (a ≡ c) × (b 
 whole_is a b c d e = (cc, cc)
 
 -- two replies of one version whose frames begin the same bytes
-same_frame : (w : WireVersion) (x y : Reply) (p q : List ℕ) → has_body w x ≡ true → has_body w y ≡ true → framed ((reply w).spell x) ++ p ≡ framed ((reply w).spell y) ++ q → (x ≡ y) × (p ≡ q)
+pub same_frame : (w : WireVersion) (x y : Reply) (p q : List ℕ) → has_body w x ≡ true → has_body w y ≡ true → framed ((reply w).spell x) ++ p ≡ framed ((reply w).spell y) ++ q → (x ≡ y) × (p ≡ q)
 same_frame w x y p q f g e =
     let same = whole_is ((reply w).spell x) p ((reply w).spell y) q (sym (body_framed w x p f) ∙ ap (front_of (frame_limit w)) e ∙ body_framed w y q g) in
     (some_is x y (sym (body_read w x f) ∙ ap (reply_in w) same.0 ∙ body_read w y g), same.1)

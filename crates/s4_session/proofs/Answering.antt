@@ -2,9 +2,7 @@
 use Rattle.std.proofs.Common.{◌≡◌, ℕ, ◌+◌, ◌≤◌, Bool, true, false, not, cond, List, [], ◌∷◌, ◌++◌, length, refl, sym, ap, subst, ◌∙◌, append_assoc, arith}
 use Rattle.std.specs.Prelude.{if◌then◌else◌, MatchBool}
 use Rattle.std.proofs.lemmas.List.{append-nil, length-append}
-use Rattle.std.specs.List.{list_all}
 use Rattle.std.proofs.lemmas.List.Elements.{filter-append}
-use Rattle.std.proofs.lemmas.List.Folds.{list_all-append}
 use Rattle.s4_types.specs.declared.principal.Caller.{Caller}
 use Rattle.s4_types.specs.declared.request.Request as asked
 use Rattle.s4_types.specs.declared.reply.Reply.{Reply}
@@ -14,13 +12,16 @@ use Rattle.s4_types.specs.Play.{record_of, replies as replies_in, last_of, is_no
 use Rattle.s4_types.proofs.Booleans.{by_test}
 use Rattle.s4_types.proofs.Snoc.{last_of-snoc, replies-snoc}
 use Rattle.s4_types.specs.Log.{Log, base_of, log_after, steps_on}
-use Rattle.s4_types.specs.declared.principal.WireVersion.TheVariants.{One}
+use Rattle.s4_types.specs.declared.principal.WireVersion.{WireVersion}
+use Rattle.s4_codec.specs.Fits.{fit}
 use Rattle.s4_codec.specs.Replies.{has_body}
+use Rattle.s4_codec.proofs.FitLaws.{fit-append}
 use Rattle.s4_drive.specs.Step.{Steps, Answers}
 use Rattle.s4_stream.specs.declared.event.Event.{Event}
 use Rattle.s4_stream.specs.declared.event.Event.TheVariants.{Welcome, Request, Fault}
 use Rattle.s4_stream.specs.declared.event.SessionFault as kinds
 use Rattle.s4_stream.specs.Talk.{sent_for, welcome, fault_frame, reply_frame}
+use Rattle.s4_session.specs.Arrivals.{versions_of}
 use Rattle.s4_session.specs.Answered.{steps_by, Answered}
 
 -- ---- lists that are joined
@@ -61,12 +62,32 @@ pub sent_for-append : (t : ℕ) (xs ys : List Event) (told more : List Reply) �
 sent_for-append t [] ys [] more e = refl
 sent_for-append t [] ys (x ∷ told) more e = absurd (omega (arith, e))
 sent_for-append t (Welcome caller ∷ xs) ys told more e =
-    ap (λ (w : List ℕ). welcome ++ w) (sent_for-append t xs ys told more e) ∙ sym (append_assoc welcome (sent_for xs told) (sent_for ys more))
+    ap (λ (w : List ℕ). welcome caller.version ++ w) (sent_for-append t xs ys told more e) ∙ sym (append_assoc (welcome caller.version) (sent_for xs told) (sent_for ys more))
 sent_for-append t (Request caller r ∷ xs) ys [] more e = absurd (omega (arith, e))
 sent_for-append t (Request caller r ∷ xs) ys (x ∷ told) more e =
-    ap (λ (w : List ℕ). reply_frame x ++ w) (sent_for-append t xs ys told more (omega (arith, e))) ∙ sym (append_assoc (reply_frame x) (sent_for xs told) (sent_for ys more))
+    ap (λ (w : List ℕ). reply_frame caller.version x ++ w) (sent_for-append t xs ys told more (omega (arith, e))) ∙ sym (append_assoc (reply_frame caller.version x) (sent_for xs told) (sent_for ys more))
 sent_for-append t (Fault f ∷ xs) ys told more e =
     ap (λ (w : List ℕ). fault_frame f ++ w) (sent_for-append t xs ys told more e) ∙ sym (append_assoc (fault_frame f) (sent_for xs told) (sent_for ys more))
+
+-- ---- versions
+
+versions_of-append : (xs ys : List Step) → versions_of (xs ++ ys) ≡ versions_of xs ++ versions_of ys
+versions_of-append [] ys = refl
+versions_of-append (steps.Sweep n ∷ xs) ys = versions_of-append xs ys
+versions_of-append (steps.Request t caller r ∷ xs) ys = ap (λ (w : List WireVersion). caller.version ∷ w) (versions_of-append xs ys)
+
+versions_count : (xs : List Step) → length (versions_of xs) ≡ request_count xs
+versions_count [] = refl
+versions_count (steps.Sweep n ∷ xs) = versions_count xs
+versions_count (steps.Request t caller r ∷ xs) = omega (arith, versions_count xs)
+
+-- replies that fit, and further ones that do
+pub fit_joined : (xs ys : List Step) (told more : List Reply) → length told ≡ request_count xs → fit (versions_of xs) told ≡ true → fit (versions_of ys) more ≡ true
+    → fit (versions_of (xs ++ ys)) (told ++ more) ≡ true
+fit_joined xs ys told more e one two =
+    ap (λ (w : List WireVersion). fit w (told ++ more)) (versions_of-append xs ys)
+    ∙ fit-append (versions_of xs) (versions_of ys) told more (e ∙ sym (versions_count xs))
+    ∙ (rw (one, two) refl)
 
 -- ---- answers one after the other
 
@@ -87,7 +108,7 @@ answered_then t xs ys a b c p q r one two =
     record {
       replies = one.replies ++ two.replies;
       each = rw (steps_by-append t xs ys) (omega (arith, length-append one.replies two.replies, request_count-append first second, one.each, two.each));
-      bodies = rw (list_all-append (has_body One) one.replies two.replies, one.bodies, two.bodies) refl;
+      bodies = ap (λ (w : List Step). fit (versions_of w) (one.replies ++ two.replies)) (steps_by-append t xs ys) ∙ fit_joined first second one.replies two.replies one.each one.bodies two.bodies;
       log = two.log
           ∙ ap (λ (l : Log). steps_on l (carried_out second two.replies)) one.log
           ∙ sym (steps_on-append a (carried_out first one.replies) (carried_out second two.replies))
@@ -103,14 +124,14 @@ answered_then t xs ys a b c p q r one two =
 
 -- ---- one event
 
-pub answered_welcome : (t : ℕ) (caller : Caller) (log : Log) (p q : List ℕ) → q ≡ p ++ welcome → Answered t (Welcome caller ∷ []) log log p q
+pub answered_welcome : (t : ℕ) (caller : Caller) (log : Log) (p q : List ℕ) → q ≡ p ++ welcome caller.version → Answered t (Welcome caller ∷ []) log log p q
 answered_welcome t caller log p q e = record {
   replies = [];
   each = refl;
   bodies = refl;
   log = refl;
   told = sym (append-nil (replies_in log.history));
-  sent = e ∙ ap (λ (w : List ℕ). p ++ w) (sym (append-nil welcome));
+  sent = e ∙ ap (λ (w : List ℕ). p ++ w) (sym (append-nil (welcome caller.version)));
 }
 
 pub answered_fault : (t : ℕ) (f : kinds.SessionFault) (log : Log) (p q : List ℕ) → q ≡ p ++ fault_frame f → Answered t (Fault f ∷ []) log log p q
@@ -133,7 +154,7 @@ module _ (t : ℕ) (caller : Caller) (r : asked.Request) (old new : Log) (reply 
       let is : last_of new.history ≡ t = ap (λ (l : Log). last_of l.history) a.grows ∙ last_of-snoc old.history (record_of (base_of old) old.history t caller r) in
       omega (arith, is))
 
-  module _ (p q : List ℕ) (sent : q ≡ p ++ reply_frame reply) (body : has_body One reply ≡ true) where
+  module _ (p q : List ℕ) (sent : q ≡ p ++ reply_frame caller.version reply) (body : has_body caller.version reply ≡ true) where
     refused : is_no_memory reply ≡ true → new ≡ old → Answered t (Request caller r ∷ []) old new p q
     refused e same = record {
       replies = reply ∷ [];
@@ -141,7 +162,7 @@ module _ (t : ℕ) (caller : Caller) (r : asked.Request) (old new : Log) (reply 
       bodies = rw body refl;
       log = same ∙ ap (λ b. steps_on old (cond b [] (steps.Request t caller r ∷ []))) (sym e);
       told = ap (λ (l : Log). replies_in l.history) same ∙ sym (append-nil (replies_in old.history)) ∙ ap (λ b. replies_in old.history ++ (if not b then reply ∷ [] else [])) (sym e);
-      sent = sent ∙ ap (λ (w : List ℕ). p ++ w) (sym (append-nil (reply_frame reply)));
+      sent = sent ∙ ap (λ (w : List ℕ). p ++ w) (sym (append-nil (reply_frame caller.version reply)));
     }
 
     carried : is_no_memory reply ≡ false → Answers old new t caller r reply → Answered t (Request caller r ∷ []) old new p q
@@ -152,7 +173,7 @@ module _ (t : ℕ) (caller : Caller) (r : asked.Request) (old new : Log) (reply 
       log = a.grows ∙ ap (λ b. steps_on old (cond b [] (steps.Request t caller r ∷ []))) (sym e);
       told = ap (λ (l : Log). replies_in l.history) a.grows ∙ replies-snoc old.history (record_of (base_of old) old.history t caller r)
           ∙ ap (λ x. replies_in old.history ++ x ∷ []) (sym a.answer_is) ∙ ap (λ b. replies_in old.history ++ (if not b then reply ∷ [] else [])) (sym e);
-      sent = sent ∙ ap (λ (w : List ℕ). p ++ w) (sym (append-nil (reply_frame reply)));
+      sent = sent ∙ ap (λ (w : List ℕ). p ++ w) (sym (append-nil (reply_frame caller.version reply)));
     }
 
     pub answered_request : Steps old new t caller r reply → Answered t (Request caller r ∷ []) old new p q

@@ -4,16 +4,15 @@ use Rattle.std.specs.Prelude.{filter_map, unwrap_or, if◌then◌else◌}
 use Rattle.std.proofs.lemmas.Bool.{eqb-true, eq-eqb}
 use Rattle.std.proofs.lemmas.List.{append-nil, length-append, map-append, drop_at}
 use Rattle.std.proofs.lemmas.List.Concat.{flat_map-append, flat_map-cons}
-use Rattle.std.specs.List.{list_all}
-use Rattle.std.proofs.lemmas.List.Folds.{list_any-append, list_all-append}
+use Rattle.std.proofs.lemmas.List.Folds.{list_any-append}
 use Rattle.s4_types.specs.declared.reply.Reply.{Reply}
 use Rattle.s4_types.specs.declared.record.Step.{Step}
 use Rattle.s4_types.specs.declared.record.Step.TheVariants as steps
 use Rattle.s4_types.specs.Play.{request_count, carried_out, without_no_memory}
 use Rattle.s4_types.proofs.Booleans.{by_test, ||-false, ||-true}
 use Rattle.s4_types.specs.Log.{Log, fresh_log, steps_on}
-use Rattle.s4_types.specs.declared.principal.WireVersion.TheVariants.{One}
-use Rattle.s4_codec.specs.Replies.{has_body}
+use Rattle.s4_types.specs.declared.principal.WireVersion.{WireVersion}
+use Rattle.s4_codec.specs.Fits.{fit}
 use Rattle.s4_stream.specs.declared.event.Event.{Event}
 use Rattle.s4_stream.specs.declared.event.Event.TheVariants.{Welcome, Request, Fault}
 use Rattle.s4_stream.specs.declared.event.SessionState.TheVariants.{Greeting}
@@ -22,13 +21,13 @@ use Rattle.s4_session.specs.declared.hall_step.HallStep.TheVariants.{Arrive, Swe
 use Rattle.s4_stream.specs.Logins.{Logins}
 use Rattle.s4_stream.specs.Stream.{Heard, hear, events_of}
 use Rattle.s4_stream.specs.Feeding.{Listening, after_events, left_by}
-use Rattle.s4_session.specs.Arrivals.{piece_on, stream_of, is_on, occurs, moment_after, Asked, Asks, Sweeps, step_of, asked_by_event, events_by, asked_by_step, asked_after, asked_in, requests_of}
-use Rattle.s4_stream.specs.Talk.{sent_for, requests_in}
+use Rattle.s4_session.specs.Arrivals.{piece_on, stream_of, is_on, occurs, moment_after, Asked, Asks, Sweeps, step_of, asked_by_event, events_by, asked_by_step, asked_after, asked_in, requests_of, versions_of}
+use Rattle.s4_stream.specs.Talk.{sent_for, requests_in, versions_in}
 use Rattle.s4_session.specs.Sent.{replies_on, sent_by}
 use Rattle.s4_session.specs.Answered.{steps_by, Answered}
 use Rattle.s4_session.specs.Halls.{Hall, fresh, session_of, session_after, heard_on, Takes, StandsAfter, Adds}
 use Rattle.s4_stream.proofs.Cuts.{hear_cut}
-use Rattle.s4_session.proofs.Answering.{steps_on-append, request_count-append, carried_out-append, without-append, sent_for-append}
+use Rattle.s4_session.proofs.Answering.{steps_on-append, request_count-append, carried_out-append, without-append, sent_for-append, fit_joined}
 
 same_number : (c : ℕ) → eqb c c ≡ true
 same_number c = eq-eqb c c refl
@@ -36,10 +35,6 @@ same_number c = eq-eqb c c refl
 neither : (a b : Bool) → (a || b) ≡ false → (a ≡ false) × (b ≡ false)
 neither true b e = absurd cc
 neither false b e = (refl, e)
-
-counted : (b : Bool) (all n m : ℕ) → all ≡ n + m → cond b (all + 1) all ≡ cond b (n + 1) n + m
-counted true all n m e = omega (arith, e)
-counted false all n m e = e
 
 -- ---- streams
 
@@ -144,25 +139,27 @@ requests_more logins arrivals c t piece =
 
 -- ---- whose replies
 
--- how many requests are asked on the connection
-abbrev pub asked_on : ℕ → List Asked → ℕ
-asked_on d [] = 0
-asked_on d (Sweeps n ∷ asked) = asked_on d asked
-asked_on d (Asks c t caller r ∷ asked) = cond (eqb c d) (asked_on d asked + 1) (asked_on d asked)
+-- the versions of those who ask on the connection
+abbrev pub versions_on : ℕ → List Asked → List WireVersion
+versions_on d [] = []
+versions_on d (Sweeps n ∷ asked) = versions_on d asked
+versions_on d (Asks c t caller r ∷ asked) = cond (eqb c d) (caller.version ∷ versions_on d asked) (versions_on d asked)
 
-chosen_length : (b : Bool) (x : Reply) (xs : List Reply) (n : ℕ) → length xs ≡ n → length (cond b (x ∷ xs) xs) ≡ cond b (n + 1) n
-chosen_length true x xs n e = omega (arith, e)
-chosen_length false x xs n e = e
+chosen_length : (b : Bool) (x : Reply) (w : WireVersion) (xs : List Reply) (ws : List WireVersion) → length xs ≡ length ws → length (cond b (x ∷ xs) xs) ≡ length (cond b (w ∷ ws) ws)
+chosen_length true x w xs ws e = omega (arith, e)
+chosen_length false x w xs ws e = e
 
-pub replies_length : (d : ℕ) (asked : List Asked) (told : List Reply) → length told ≡ request_count (map step_of asked) → length (replies_on d asked told) ≡ asked_on d asked
-replies_length d [] told e = refl
+pub replies_length : (d : ℕ) (asked : List Asked) (told : List Reply) → length told ≡ request_count (map step_of asked) → length (replies_on d asked told) ≡ length (versions_on d asked)
+replies_length d [] [] e = refl
+replies_length d [] (x ∷ told) e = absurd (omega (arith, e))
 replies_length d (Sweeps n ∷ asked) told e = replies_length d asked told e
 replies_length d (Asks c t caller r ∷ asked) [] e = absurd (omega (arith, e))
-replies_length d (Asks c t caller r ∷ asked) (x ∷ told) e = chosen_length (eqb c d) x (replies_on d asked told) (asked_on d asked) (replies_length d asked told (omega (arith, e)))
+replies_length d (Asks c t caller r ∷ asked) (x ∷ told) e =
+    chosen_length (eqb c d) x caller.version (replies_on d asked told) (versions_on d asked) (replies_length d asked told (omega (arith, e)))
 
-chosen_reply : (b : Bool) (x : Reply) (xs ys : List Reply) → cond b (x ∷ (xs ++ ys)) (xs ++ ys) ≡ cond b (x ∷ xs) xs ++ ys
-chosen_reply true x xs ys = refl
-chosen_reply false x xs ys = refl
+chosen_more : {A : Type 0} (b : Bool) (x : A) (xs ys : List A) → cond b (x ∷ (xs ++ ys)) (xs ++ ys) ≡ cond b (x ∷ xs) xs ++ ys
+chosen_more true x xs ys = refl
+chosen_more false x xs ys = refl
 
 pub replies_more : (d : ℕ) (xs ys : List Asked) (told more : List Reply) → length told ≡ request_count (map step_of xs) → replies_on d (xs ++ ys) (told ++ more) ≡ replies_on d xs told ++ replies_on d ys more
 replies_more d [] ys [] more e = refl
@@ -171,7 +168,7 @@ replies_more d (Sweeps n ∷ xs) ys told more e = replies_more d xs ys told more
 replies_more d (Asks c t caller r ∷ xs) ys [] more e = absurd (omega (arith, e))
 replies_more d (Asks c t caller r ∷ xs) ys (x ∷ told) more e =
     ap (λ (w : List Reply). cond (eqb c d) (x ∷ w) w) (replies_more d xs ys told more (omega (arith, e)))
-    ∙ chosen_reply (eqb c d) x (replies_on d xs told) (replies_on d ys more)
+    ∙ chosen_more (eqb c d) x (replies_on d xs told) (replies_on d ys more)
 
 -- all replies are those of the connection
 replies_here : (c t : ℕ) (events : List Event) (told : List Reply) → length told ≡ requests_in events → replies_on c (asked_of c t events) told ≡ told
@@ -194,69 +191,83 @@ replies_there c d t (Request caller r ∷ events) (x ∷ told) e =
     let rest : List Reply = replies_on d (asked_of c t events) told in
     ap (λ (b : Bool). cond b (x ∷ rest) rest) e ∙ replies_there c d t events told e
 
-asked_on-append : (d : ℕ) (xs ys : List Asked) → asked_on d (xs ++ ys) ≡ asked_on d xs + asked_on d ys
-asked_on-append d [] ys = omega arith
-asked_on-append d (Sweeps n ∷ xs) ys = asked_on-append d xs ys
-asked_on-append d (Asks c t caller r ∷ xs) ys = counted (eqb c d) (asked_on d (xs ++ ys)) (asked_on d xs) (asked_on d ys) (asked_on-append d xs ys)
+versions_on-append : (d : ℕ) (xs ys : List Asked) → versions_on d (xs ++ ys) ≡ versions_on d xs ++ versions_on d ys
+versions_on-append d [] ys = refl
+versions_on-append d (Sweeps n ∷ xs) ys = versions_on-append d xs ys
+versions_on-append d (Asks c t caller r ∷ xs) ys =
+    ap (λ (w : List WireVersion). cond (eqb c d) (caller.version ∷ w) w) (versions_on-append d xs ys)
+    ∙ chosen_more (eqb c d) caller.version (versions_on d xs) (versions_on d ys)
 
-asked_here : (c t : ℕ) (events : List Event) → asked_on c (asked_of c t events) ≡ requests_in events
-asked_here c t [] = refl
-asked_here c t (Welcome caller ∷ events) = asked_here c t events
-asked_here c t (Fault f ∷ events) = asked_here c t events
-asked_here c t (Request caller r ∷ events) =
-    let n : ℕ = asked_on c (asked_of c t events) in
-    ap (λ (b : Bool). cond b (n + 1) n) (same_number c) ∙ ap (λ (k : ℕ). k + 1) (asked_here c t events)
+versions_here : (c t : ℕ) (events : List Event) → versions_on c (asked_of c t events) ≡ versions_in events
+versions_here c t [] = refl
+versions_here c t (Welcome caller ∷ events) = versions_here c t events
+versions_here c t (Fault f ∷ events) = versions_here c t events
+versions_here c t (Request caller r ∷ events) =
+    let rest : List WireVersion = versions_on c (asked_of c t events) in
+    ap (λ (b : Bool). cond b (caller.version ∷ rest) rest) (same_number c) ∙ ap (λ (w : List WireVersion). caller.version ∷ w) (versions_here c t events)
 
-asked_there : (c d t : ℕ) (events : List Event) → eqb c d ≡ false → asked_on d (asked_of c t events) ≡ 0
-asked_there c d t [] e = refl
-asked_there c d t (Welcome caller ∷ events) e = asked_there c d t events e
-asked_there c d t (Fault f ∷ events) e = asked_there c d t events e
-asked_there c d t (Request caller r ∷ events) e =
-    let n : ℕ = asked_on d (asked_of c t events) in
-    ap (λ (b : Bool). cond b (n + 1) n) e ∙ asked_there c d t events e
+versions_there : (c d t : ℕ) (events : List Event) → eqb c d ≡ false → versions_on d (asked_of c t events) ≡ []
+versions_there c d t [] e = refl
+versions_there c d t (Welcome caller ∷ events) e = versions_there c d t events e
+versions_there c d t (Fault f ∷ events) e = versions_there c d t events e
+versions_there c d t (Request caller r ∷ events) e =
+    let rest : List WireVersion = versions_on d (asked_of c t events) in
+    ap (λ (b : Bool). cond b (caller.version ∷ rest) rest) e ∙ versions_there c d t events e
 
--- ---- as many requests are asked on a connection as its stream says
+versions_in-append : (xs ys : List Event) → versions_in (xs ++ ys) ≡ versions_in xs ++ versions_in ys
+versions_in-append [] ys = refl
+versions_in-append (Welcome caller ∷ xs) ys = versions_in-append xs ys
+versions_in-append (Request caller r ∷ xs) ys = ap (λ (w : List WireVersion). caller.version ∷ w) (versions_in-append xs ys)
+versions_in-append (Fault f ∷ xs) ys = versions_in-append xs ys
 
-abbrev heard_count : ℕ → Logins → List HallStep → ℕ
-heard_count d logins past = requests_in (events_of logins (stream_of d past))
+versions_count : (events : List Event) → length (versions_in events) ≡ requests_in events
+versions_count [] = refl
+versions_count (Welcome caller ∷ events) = versions_count events
+versions_count (Request caller r ∷ events) = omega (arith, versions_count events)
+versions_count (Fault f ∷ events) = versions_count events
 
-count_arrival : (d : ℕ) (logins : Logins) (past : List HallStep) (c t : ℕ) (piece : List ℕ)
-    → asked_on d (asked_by_step logins past (Arrive c t piece)) + heard_count d logins past ≡ heard_count d logins (past ++ Arrive c t piece ∷ [])
-count_arrival d logins past c t piece =
+-- ---- those who ask on a connection are those whom its stream says
+
+abbrev told_versions : ℕ → Logins → List HallStep → List WireVersion
+told_versions d logins past = versions_in (events_of logins (stream_of d past))
+
+versions_arrival : (d : ℕ) (logins : Logins) (past : List HallStep) (c t : ℕ) (piece : List ℕ)
+    → told_versions d logins past ++ versions_on d (asked_by_step logins past (Arrive c t piece)) ≡ told_versions d logins (past ++ Arrive c t piece ∷ [])
+versions_arrival d logins past c t piece =
     let events : List Event = (heard_then logins past c piece).events in
-    let asked-is : asked_on d (asked_by_step logins past (Arrive c t piece)) ≡ asked_on d (asked_of c t events) = ap (λ (w : List Event). asked_on d (asked_of c t w)) (events_by_is logins past c piece) in
+    let asked-is : versions_on d (asked_by_step logins past (Arrive c t piece)) ≡ versions_on d (asked_of c t events) = ap (λ (w : List Event). versions_on d (asked_of c t w)) (events_by_is logins past c piece) in
     by_test (eqb c d)
     (λ e. let same : c ≡ d = eqb-true c d e in
-    let more : heard_count c logins (past ++ Arrive c t piece ∷ []) ≡ heard_count c logins past + requests_in events
-    = ap (λ (w : List ℕ). requests_in (events_of logins w)) (stream_here c t piece past) ∙ ap requests_in (events_more logins past c piece) ∙ requests_in-append (events_of logins (stream_of c past)) events in
-    let here : asked_on c (asked_of c t events) ≡ requests_in events = asked_here c t events in
-    let start : asked_on c (asked_by_step logins past (Arrive c t piece)) ≡ asked_on c (asked_of c t events) = ap (λ (w : List Event). asked_on c (asked_of c t w)) (events_by_is logins past c piece) in
-    let there : asked_on c (asked_by_step logins past (Arrive c t piece)) + heard_count c logins past ≡ heard_count c logins (past ++ Arrive c t piece ∷ []) = omega (arith, more, here, start) in
-    subst (λ (k : ℕ). asked_on k (asked_by_step logins past (Arrive c t piece)) + heard_count k logins past ≡ heard_count k logins (past ++ Arrive c t piece ∷ [])) same there)
-    (λ e. let more : heard_count d logins (past ++ Arrive c t piece ∷ []) ≡ heard_count d logins past = ap (λ (w : List ℕ). requests_in (events_of logins w)) (stream_there c t piece past d e) in
-    let none : asked_on d (asked_of c t events) ≡ 0 = asked_there c d t events e in
-    omega (arith, more, none, asked-is))
+    let here : versions_on d (asked_of c t events) ≡ versions_in events = subst (λ (k : ℕ). versions_on k (asked_of c t events) ≡ versions_in events) same (versions_here c t events) in
+    let more : told_versions d logins (past ++ Arrive c t piece ∷ []) ≡ told_versions d logins past ++ versions_in events
+    = subst (λ (k : ℕ). told_versions k logins (past ++ Arrive c t piece ∷ []) ≡ told_versions k logins past ++ versions_in events) same
+    (ap (λ (w : List ℕ). versions_in (events_of logins w)) (stream_here c t piece past) ∙ ap versions_in (events_more logins past c piece) ∙ versions_in-append (events_of logins (stream_of c past)) events) in
+    ap (λ (w : List WireVersion). told_versions d logins past ++ w) (asked-is ∙ here) ∙ sym more)
+    (λ e. ap (λ (w : List WireVersion). told_versions d logins past ++ w) (asked-is ∙ versions_there c d t events e) ∙ append-nil (told_versions d logins past)
+    ∙ sym (ap (λ (w : List ℕ). versions_in (events_of logins w)) (stream_there c t piece past d e)))
 
-count_after : (d : ℕ) (logins : Logins) (past arrivals : List HallStep) → asked_on d (asked_after logins past arrivals) + heard_count d logins past ≡ heard_count d logins (past ++ arrivals)
-count_after d logins past [] =
-    let same : heard_count d logins past ≡ heard_count d logins (past ++ []) = ap (heard_count d logins) (sym (append-nil past)) in
-    omega (arith, same)
-count_after d logins past (Arrive c t piece ∷ arrivals) =
-    let one = count_arrival d logins past c t piece in
-    let rest = count_after d logins (past ++ Arrive c t piece ∷ []) arrivals in
-    let all : heard_count d logins ((past ++ Arrive c t piece ∷ []) ++ arrivals) ≡ heard_count d logins (past ++ Arrive c t piece ∷ arrivals) = ap (heard_count d logins) (append_assoc past (Arrive c t piece ∷ []) arrivals) in
-    omega (arith, one, rest, all, asked_on-append d (asked_by_step logins past (Arrive c t piece)) (asked_after logins (past ++ Arrive c t piece ∷ []) arrivals))
-count_after d logins past (Sweep n ∷ arrivals) =
-    let same : heard_count d logins (past ++ Sweep n ∷ []) ≡ heard_count d logins past = ap (λ (w : List ℕ). requests_in (events_of logins w)) (stream_more d past (Sweep n) ∙ append-nil (stream_of d past)) in
-    let rest = count_after d logins (past ++ Sweep n ∷ []) arrivals in
-    let all : heard_count d logins ((past ++ Sweep n ∷ []) ++ arrivals) ≡ heard_count d logins (past ++ Sweep n ∷ arrivals) = ap (heard_count d logins) (append_assoc past (Sweep n ∷ []) arrivals) in
-    omega (arith, same, rest, all)
+versions_after : (d : ℕ) (logins : Logins) (past arrivals : List HallStep) → told_versions d logins past ++ versions_on d (asked_after logins past arrivals) ≡ told_versions d logins (past ++ arrivals)
+versions_after d logins past [] = append-nil (told_versions d logins past) ∙ ap (told_versions d logins) (sym (append-nil past))
+versions_after d logins past (Arrive c t piece ∷ arrivals) =
+    let x : HallStep = Arrive c t piece in
+    let rest : List Asked = asked_after logins (past ++ x ∷ []) arrivals in
+    ap (λ (w : List WireVersion). told_versions d logins past ++ w) (versions_on-append d (asked_by_step logins past x) rest)
+    ∙ sym (append_assoc (told_versions d logins past) (versions_on d (asked_by_step logins past x)) (versions_on d rest))
+    ∙ ap (λ (w : List WireVersion). w ++ versions_on d rest) (versions_arrival d logins past c t piece)
+    ∙ versions_after d logins (past ++ x ∷ []) arrivals
+    ∙ ap (told_versions d logins) (append_assoc past (x ∷ []) arrivals)
+versions_after d logins past (Sweep n ∷ arrivals) =
+    let rest : List Asked = asked_after logins (past ++ Sweep n ∷ []) arrivals in
+    let same : told_versions d logins (past ++ Sweep n ∷ []) ≡ told_versions d logins past = ap (λ (w : List ℕ). versions_in (events_of logins w)) (stream_more d past (Sweep n) ∙ append-nil (stream_of d past)) in
+    ap (λ (w : List WireVersion). w ++ versions_on d rest) (sym same)
+    ∙ versions_after d logins (past ++ Sweep n ∷ []) arrivals
+    ∙ ap (told_versions d logins) (append_assoc past (Sweep n ∷ []) arrivals)
 
-pub count_in : (d : ℕ) (logins : Logins) (arrivals : List HallStep) → asked_on d (asked_in logins arrivals) ≡ requests_in (events_of logins (stream_of d arrivals))
-count_in d logins arrivals =
-    let all = count_after d logins [] arrivals in
-    let none : heard_count d logins [] ≡ 0 = refl in
-    omega (arith, all, none)
+pub versions_told : (d : ℕ) (logins : Logins) (arrivals : List HallStep) → versions_on d (asked_in logins arrivals) ≡ versions_in (events_of logins (stream_of d arrivals))
+versions_told d logins arrivals = versions_after d logins [] arrivals
+
+pub count_in : (d : ℕ) (logins : Logins) (arrivals : List HallStep) → length (versions_on d (asked_in logins arrivals)) ≡ requests_in (events_of logins (stream_of d arrivals))
+count_in d logins arrivals = ap length (versions_told d logins arrivals) ∙ versions_count (events_of logins (stream_of d arrivals))
 
 -- ---- an arrival
 
@@ -312,7 +323,7 @@ module _ (window : ℕ) (logins : Logins) (arrivals : List HallStep) (told : Lis
     last_is = tk.last ∙ sym (moment_more 0 arrivals c t piece);
     sessions = sessions_now;
     each = rw requests_now (omega (arith, length-append told more, request_count-append (requests_of logins arrivals) (steps_by t heard.events), st.each, answered.each));
-    bodies = rw (list_all-append (has_body One) told more, st.bodies, answered.bodies) refl;
+    bodies = ap (λ (w : List Step). fit (versions_of w) (told ++ more)) requests_now ∙ fit_joined (requests_of logins arrivals) (steps_by t heard.events) told more st.each st.bodies answered.bodies;
     log = answered.log
         ∙ ap (λ (l : Log). steps_on l (carried_out (steps_by t heard.events) more)) st.log
         ∙ sym (steps_on-append (fresh_log window) (carried_out (requests_of logins arrivals) told) (carried_out (steps_by t heard.events) more))

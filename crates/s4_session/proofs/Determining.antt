@@ -1,76 +1,72 @@
 -- The bytes that are sent determine the replies.
 use Rattle.std.proofs.Common.{◌≡◌, ℕ, ◌+◌, Bool, true, false, ◌&&◌, cond, eqb, Option, Some, None, List, [], ◌∷◌, ◌++◌, length, map, refl, sym, ap, ◌∙◌, append_assoc, arith}
-use Rattle.std.specs.List.{list_all}
 use Rattle.std.proofs.lemmas.Bool.{eq-eqb}
 use Rattle.std.proofs.lemmas.List.{append_cancel_left}
 use Rattle.s4_types.specs.declared.reply.Reply.{Reply}
 use Rattle.s4_types.specs.declared.record.Step.{Step}
 use Rattle.s4_types.specs.Play.{request_count}
 use Rattle.s4_types.proofs.Booleans.{by_test}
-use Rattle.s4_types.specs.declared.principal.WireVersion.TheVariants.{One}
-use Rattle.s4_codec.specs.Versions.{frame_limit}
-use Rattle.s4_codec.specs.Frames.{Front, Whole, front_of}
-use Rattle.s4_codec.specs.Replies.{reply, reply_in, has_body}
+use Rattle.s4_types.specs.declared.principal.WireVersion.{WireVersion}
+use Rattle.s4_codec.specs.Replies.{has_body}
+use Rattle.s4_codec.specs.Fits.{fit}
 use Rattle.s4_codec.proofs.Lawful.{both_true, some_is}
-use Rattle.s4_codec.proofs.Short.{body_read, body_framed}
+use Rattle.s4_codec.proofs.FitLaws.{same_frame}
 use Rattle.s4_stream.specs.declared.event.Event.{Event}
 use Rattle.s4_stream.specs.declared.event.Event.TheVariants.{Welcome, Request, Fault}
 use Rattle.s4_session.specs.declared.hall_step.HallStep.{HallStep}
 use Rattle.s4_stream.specs.Logins.{Logins}
 use Rattle.s4_stream.specs.Stream.{events_of}
-use Rattle.s4_session.specs.Arrivals.{stream_of, occurs, Asked, Asks, Sweeps, step_of, asked_in, requests_of}
-use Rattle.s4_stream.specs.Talk.{welcome, fault_frame, reply_frame, sent_for, requests_in}
+use Rattle.s4_session.specs.Arrivals.{stream_of, occurs, Asked, Asks, Sweeps, step_of, asked_in, requests_of, versions_of}
+use Rattle.s4_stream.specs.Talk.{welcome, fault_frame, sent_for, requests_in, versions_in}
 use Rattle.s4_session.specs.Sent.{replies_on, sent_by, bytes_for}
 use Rattle.s4_session.specs.Determined.{EachRequestHasOneReply, CanBeSent, SentBytesDetermineReplies, RunsHaveOneListOfReplies}
-use Rattle.s4_session.proofs.Arriving.{replies_length, count_in}
+use Rattle.s4_session.proofs.Arriving.{replies_length, count_in, versions_on, versions_told}
 use Rattle.s4_session.proofs.Sending.{sent_none}
 
 pub one_reply_each : EachRequestHasOneReply
 one_reply_each c logins arrivals told e = replies_length c (asked_in logins arrivals) told e ∙ count_in c logins arrivals
 
--- ---- one frame
-
-whole_parts : (a b p q : List ℕ) → Whole a p ≡ Whole b q → (a ≡ b) × (p ≡ q)
-whole_parts a b p q e = (cc, cc)
-
--- the frames of two replies begin the same bytes only where the replies are the same
-same_frame : (x y : Reply) (p q : List ℕ) → has_body One x ≡ true → has_body One y ≡ true → reply_frame x ++ p ≡ reply_frame y ++ q → (x ≡ y) × (p ≡ q)
-same_frame x y p q fx fy e =
-    let parts = whole_parts ((reply One).spell x) ((reply One).spell y) p q (sym (body_framed One x p fx) ∙ ap (front_of (frame_limit One)) e ∙ body_framed One y q fy) in
-    (some_is x y (sym (body_read One x fx) ∙ ap (reply_in One) parts.0 ∙ body_read One y fy), parts.1)
-
 -- ---- one connection
 
 same_on_one : (events : List Event) (one two : List Reply) → length one ≡ requests_in events → length two ≡ requests_in events
-    → list_all (has_body One) one ≡ true → list_all (has_body One) two ≡ true → sent_for events one ≡ sent_for events two → one ≡ two
+    → fit (versions_in events) one ≡ true → fit (versions_in events) two ≡ true → sent_for events one ≡ sent_for events two → one ≡ two
 same_on_one [] [] [] n m f g e = refl
 same_on_one [] (x ∷ xs) two n m f g e = absurd (omega (arith, n))
 same_on_one [] [] (y ∷ ys) n m f g e = absurd (omega (arith, m))
 same_on_one (Welcome caller ∷ events) one two n m f g e =
-    same_on_one events one two n m f g (append_cancel_left welcome (sent_for events one) (sent_for events two) e)
+    same_on_one events one two n m f g (append_cancel_left (welcome caller.version) (sent_for events one) (sent_for events two) e)
 same_on_one (Fault k ∷ events) one two n m f g e =
     same_on_one events one two n m f g (append_cancel_left (fault_frame k) (sent_for events one) (sent_for events two) e)
 same_on_one (Request caller r ∷ events) [] two n m f g e = absurd (omega (arith, n))
 same_on_one (Request caller r ∷ events) (x ∷ xs) [] n m f g e = absurd (omega (arith, m))
 same_on_one (Request caller r ∷ events) (x ∷ xs) (y ∷ ys) n m f g e =
-    let fx = both_true (has_body One x) (list_all (has_body One) xs) f in
-    let fy = both_true (has_body One y) (list_all (has_body One) ys) g in
-    let first = same_frame x y (sent_for events xs) (sent_for events ys) fx.0 fy.0 e in
+    let fx = both_true (has_body caller.version x) (fit (versions_in events) xs) f in
+    let fy = both_true (has_body caller.version y) (fit (versions_in events) ys) g in
+    let first = same_frame caller.version x y (sent_for events xs) (sent_for events ys) fx.0 fy.0 e in
     let rest : xs ≡ ys = same_on_one events xs ys (omega (arith, n)) (omega (arith, m)) fx.1 fy.1 first.1 in
     λ i. first.0 i ∷ rest i
 
 -- the replies on a connection are among all
-chosen_bodies : (b : Bool) (x : Reply) (xs : List Reply) → has_body One x ≡ true → list_all (has_body One) xs ≡ true → list_all (has_body One) (cond b (x ∷ xs) xs) ≡ true
-chosen_bodies true x xs one all = rw (one, all) refl
-chosen_bodies false x xs one all = all
+chosen_fit : (b : Bool) (w : WireVersion) (x : Reply) (ws : List WireVersion) (xs : List Reply) → has_body w x ≡ true → fit ws xs ≡ true → fit (cond b (w ∷ ws) ws) (cond b (x ∷ xs) xs) ≡ true
+chosen_fit true w x ws xs one all = rw (one, all) refl
+chosen_fit false w x ws xs one all = all
 
-bodies_on : (c : ℕ) (asked : List Asked) (told : List Reply) → list_all (has_body One) told ≡ true → list_all (has_body One) (replies_on c asked told) ≡ true
-bodies_on c [] told all = refl
-bodies_on c (Sweeps n ∷ asked) told all = bodies_on c asked told all
-bodies_on c (Asks d t caller r ∷ asked) [] all = refl
-bodies_on c (Asks d t caller r ∷ asked) (x ∷ told) all =
-    let parts = both_true (has_body One x) (list_all (has_body One) told) all in
-    chosen_bodies (eqb d c) x (replies_on c asked told) parts.0 (bodies_on c asked told parts.1)
+fit_nothing : (ws : List WireVersion) → fit ws [] ≡ true
+fit_nothing [] = refl
+fit_nothing (w ∷ ws) = refl
+
+fit_on : (c : ℕ) (asked : List Asked) (told : List Reply) → fit (versions_of (map step_of asked)) told ≡ true → fit (versions_on c asked) (replies_on c asked told) ≡ true
+fit_on c [] told all = refl
+fit_on c (Sweeps n ∷ asked) told all = fit_on c asked told all
+fit_on c (Asks d t caller r ∷ asked) [] all = fit_nothing (versions_on c (Asks d t caller r ∷ asked))
+fit_on c (Asks d t caller r ∷ asked) (x ∷ told) all =
+    let parts = both_true (has_body caller.version x) (fit (versions_of (map step_of asked)) told) all in
+    chosen_fit (eqb d c) caller.version x (versions_on c asked) (replies_on c asked told) parts.0 (fit_on c asked told parts.1)
+
+fit_here : (c : ℕ) (logins : Logins) (arrivals : List HallStep) (told : List Reply) → fit (versions_of (requests_of logins arrivals)) told ≡ true
+    → fit (versions_in (events_of logins (stream_of c arrivals))) (replies_on c (asked_in logins arrivals) told) ≡ true
+fit_here c logins arrivals told all =
+    ap (λ (w : List WireVersion). fit w (replies_on c (asked_in logins arrivals) told)) (sym (versions_told c logins arrivals)) ∙ fit_on c (asked_in logins arrivals) told all
 
 -- ---- all connections
 
@@ -105,7 +101,7 @@ bytes_determine logins arrivals one two can may e =
     same_in_all asked one two can.each may.each
     (λ c. same_on_one (events_of logins (stream_of c arrivals)) (replies_on c asked one) (replies_on c asked two)
     (one_reply_each c logins arrivals one can.each) (one_reply_each c logins arrivals two may.each)
-    (bodies_on c asked one can.bodies) (bodies_on c asked two may.bodies) (e c))
+    (fit_here c logins arrivals one can.bodies) (fit_here c logins arrivals two may.bodies) (e c))
 
 -- ---- runs
 

@@ -2,6 +2,7 @@
 use Rattle.std.specs.Prelude.{ℕ, ◌≤◌, Bool, false, ◌==◌, if◌then◌else◌, Option, Some, None, List, [], ◌∷◌, ◌++◌, length, drop, map, filter_map, flat_map}
 use Rattle.std.specs.List.{list_any}
 use Rattle.s4_types.specs.declared.principal.Caller.{Caller}
+use Rattle.s4_types.specs.declared.principal.WireVersion.{WireVersion}
 use Rattle.s4_types.specs.declared.request.Request as asked
 use Rattle.s4_types.specs.declared.record.Step.{Step}
 use Rattle.s4_types.specs.declared.record.Step.TheVariants as steps
@@ -95,3 +96,9 @@ asked_in logins arrivals = asked_after logins [] arrivals
 -- the same, as steps of the drive
 abbrev pub requests_of : Logins → List HallStep → List Step
 requests_of logins arrivals = map step_of (asked_in logins arrivals)
+
+-- the versions of those who ask, one for each request
+abbrev pub versions_of : List Step → List WireVersion
+versions_of [] = []
+versions_of (steps.Request t caller r ∷ steps) = caller.version ∷ versions_of steps
+versions_of (steps.Sweep n ∷ steps) = versions_of steps

@@ -1,16 +1,14 @@
 -- What the bytes that are sent say of the replies.
 use Rattle.std.specs.Prelude.{◌≡◌, ℕ, IsTrue, List, length}
-use Rattle.std.specs.List.{list_all}
 use Rattle.s4_types.specs.declared.reply.Reply.{Reply}
 use Rattle.s4_types.specs.Base.{Base}
 use Rattle.s4_types.specs.Play.{request_count}
-use Rattle.s4_types.specs.declared.principal.WireVersion.TheVariants.{One}
-use Rattle.s4_codec.specs.Replies.{has_body}
+use Rattle.s4_codec.specs.Fits.{fit}
 use Rattle.s4_session.specs.declared.hall_step.HallStep.{HallStep}
 use Rattle.s4_stream.specs.Logins.{Logins}
 use Rattle.s4_stream.specs.Stream.{events_of}
 use Rattle.s4_stream.specs.Talk.{requests_in}
-use Rattle.s4_session.specs.Arrivals.{stream_of, asked_in, requests_of}
+use Rattle.s4_session.specs.Arrivals.{stream_of, asked_in, requests_of, versions_of}
 use Rattle.s4_session.specs.Sent.{replies_on, sent_by, IsSent}
 
 -- Of replies, one to each request that the arrivals ask, each connection has one to each request that its bytes say.
@@ -20,10 +18,10 @@ EachRequestHasOneReply =
     → length replies ≡ request_count (requests_of logins arrivals)
     → length (replies_on c (asked_in logins arrivals) replies) ≡ requests_in (events_of logins (stream_of c arrivals))
 
--- The replies are one to each request that the arrivals ask, and each has a spelling within a frame, as that of want of memory has.
+-- The replies are one to each request that the arrivals ask, and each has a spelling within a frame of its caller's version, as that of want of memory has.
 pub record CanBeSent (logins : Logins) (arrivals : List HallStep) (replies : List Reply) : Type 0 where
   pub each : length replies ≡ request_count (requests_of logins arrivals)
-  pub bodies : IsTrue (list_all (has_body One) replies)
+  pub bodies : IsTrue (fit (versions_of (requests_of logins arrivals)) replies)
 
 -- Where two such lists of replies have the same bytes sent on each connection, they are the same list.
 abbrev pub SentBytesDetermineReplies : Type 0

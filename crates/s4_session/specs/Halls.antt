@@ -1,6 +1,5 @@
 -- What a hall is, and what an arrival makes of it.
 use Rattle.std.specs.Prelude.{◌≡◌, ℕ, Bool, false, ◌==◌, IsTrue, Option, Some, None, unwrap_or, cond, List, [], ◌∷◌, ◌++◌, length}
-use Rattle.std.specs.List.{list_all}
 use Rattle.std.specs.Map.{lookup}
 use Rattle.std.specs.Ordering.{is_eq, nat_cmp}
 use Rattle.s4_types.specs.declared.readiness.Readiness.TheVariants.{ForNone}
@@ -9,15 +8,14 @@ use Rattle.s4_types.specs.Base.{opened}
 use Rattle.s4_types.specs.Lists.{fresh_lists}
 use Rattle.s4_types.specs.Play.{replies as replies_in, carried_out, without_no_memory, request_count}
 use Rattle.s4_types.specs.Log.{Log, fresh_log, steps_on}
-use Rattle.s4_types.specs.declared.principal.WireVersion.TheVariants.{One}
-use Rattle.s4_codec.specs.Replies.{has_body}
+use Rattle.s4_codec.specs.Fits.{fit}
 use Rattle.s4_stream.specs.declared.event.SessionState.TheVariants.{Greeting}
 use Rattle.s4_session.specs.declared.hall_step.HallStep.{HallStep}
 use Rattle.s4_session.specs.declared.hall_step.HallStep.TheVariants.{Arrive}
 use Rattle.s4_stream.specs.Logins.{Logins}
 use Rattle.s4_stream.specs.Stream.{Heard, hear}
 use Rattle.s4_stream.specs.Feeding.{Listening, hear_piece, left_by}
-use Rattle.s4_session.specs.Arrivals.{requests_of, stream_of, occurs, moment_after}
+use Rattle.s4_session.specs.Arrivals.{requests_of, stream_of, occurs, moment_after, versions_of}
 use Rattle.s4_session.specs.Sent.{sent_by, IsSent}
 use Rattle.s4_session.specs.Answered.{Answered}
 
@@ -83,7 +81,7 @@ pub record StandsAfter (window : ℕ) (logins : Logins) (arrivals : List HallSte
   pub last_is : hall.last ≡ moment_after 0 arrivals
   pub sessions : (c : ℕ) → session_of c hall.sessions ≡ cond (occurs c arrivals) (Some (session_after c logins arrivals)) None
   pub each : length replies ≡ request_count (requests_of logins arrivals)
-  pub bodies : IsTrue (list_all (has_body One) replies)
+  pub bodies : IsTrue (fit (versions_of (requests_of logins arrivals)) replies)
   pub log : hall.log ≡ steps_on (fresh_log window) (carried_out (requests_of logins arrivals) replies)
   pub told : replies_in hall.log.history ≡ without_no_memory replies
 

@@ -1,6 +1,5 @@
 -- What is sent on each connection.
 use Rattle.std.specs.Prelude.{◌≡◌, ℕ, Bool, false, ◌==◌, IsTrue, Option, Some, None, List, [], ◌∷◌, ◌++◌, length, map, filter, cond}
-use Rattle.std.specs.List.{list_all}
 use Rattle.std.specs.List.Sorted.{IsStrictlySortedBy}
 use Rattle.std.specs.Map.{keys_of, lookup}
 use Rattle.std.specs.Ordering.{is_eq, nat_cmp}
@@ -9,13 +8,12 @@ use Rattle.s4_types.specs.declared.reply.Reply.{Reply}
 use Rattle.s4_types.specs.Base.{Base}
 use Rattle.s4_types.specs.Play.{play, replies as replies_in, carried_out, without_no_memory, request_count}
 use Rattle.s4_types.specs.Strike.{records_of, strike}
-use Rattle.s4_types.specs.declared.principal.WireVersion.TheVariants.{One}
-use Rattle.s4_codec.specs.Replies.{has_body}
+use Rattle.s4_codec.specs.Fits.{fit}
 use Rattle.s4_session.specs.declared.hall_step.HallStep.{HallStep}
 use Rattle.s4_stream.specs.Logins.{Logins}
 use Rattle.s4_stream.specs.Stream.{events_of}
 use Rattle.s4_stream.specs.Talk.{sent_for}
-use Rattle.s4_session.specs.Arrivals.{Asked, Asks, Sweeps, asked_in, requests_of, stream_of, occurs, is_connection_of}
+use Rattle.s4_session.specs.Arrivals.{Asked, Asks, Sweeps, asked_in, requests_of, stream_of, occurs, is_connection_of, versions_of}
 
 -- CONNECTIONS
 
@@ -68,10 +66,10 @@ IsIsolated base logins arrivals sent =
 
 -- The replies, one to each request that the arrivals ask, are those of the plain
 -- log, where a request that was answered NoMemory counts as not made.
--- Each has a spelling within a frame.
+-- Each has a spelling within a frame of its caller's version.
 pub record AreReplies (base : Base) (logins : Logins) (arrivals : List HallStep) (replies : List Reply) : Type 0 where
   pub each : length replies ≡ request_count (requests_of logins arrivals)
-  pub bodies : IsTrue (list_all (has_body One) replies)
+  pub bodies : IsTrue (fit (versions_of (requests_of logins arrivals)) replies)
   pub log : replies_in (play base (carried_out (requests_of logins arrivals) replies)) ≡ without_no_memory replies
 
 -- What a run sends: exactly on the connections that occur, by rising number, the bytes

@@ -1,6 +1,6 @@
 -- What is heard of bytes that come in two pieces.
-use Rattle.std.proofs.Common.{◌≡◌, ℕ, zero, suc, ◌+◌, ◌≤◌, List, [], ◌∷◌, ◌++◌, length, refl, sym, ap, ◌∙◌, arith}
-use Rattle.std.proofs.lemmas.List.{length-append, nil_from_length}
+use Rattle.std.proofs.Common.{◌≡◌, ℕ, zero, suc, ◌+◌, ◌≤◌, Some, None, List, [], ◌∷◌, ◌++◌, drop, length, refl, sym, ap, ◌∙◌, arith}
+use Rattle.std.proofs.lemmas.List.{length-append, length-drop, nil_from_length}
 use Rattle.s4_codec.specs.Frames.{Front, Whole, Part, BadLength, front_of}
 use Rattle.s4_stream.specs.Logins.{Logins}
 use Rattle.s4_stream.specs.declared.event.Event.TheVariants as event
@@ -8,7 +8,8 @@ use Rattle.s4_stream.specs.declared.event.SessionFault.TheVariants as fault
 use Rattle.s4_stream.specs.declared.event.SessionState.{SessionState}
 use Rattle.s4_stream.specs.declared.event.SessionState.TheVariants.{Greeting, Open, Closed}
 use Rattle.s4_stream.specs.Stream.{Heard, hear, hear_frames, from_front, first, said, state_after, unheard, limit_at}
-use Rattle.s4_stream.specs.Feeding.{after_events}
+use Rattle.s4_stream.specs.declared.session.Next as fronts
+use Rattle.s4_stream.specs.Feeding.{after_events, heard_so_far, StandsFirst}
 use Rattle.s4_codec.proofs.FrontLaws.{whole_more, bad_stays, bad_is_long, behind, behind_is_shorter}
 use Rattle.s4_stream.proofs.Hearing.{open_frames, closed_frames, unheard_live}
 
@@ -50,6 +51,27 @@ enough zero logins bytes le m (Open caller) lm =
     ap (hear_frames zero logins (Open caller)) none ∙ sym (nothing_heard m logins (Open caller)) ∙ ap (hear_frames m logins (Open caller)) (sym none)
 enough (suc n) logins bytes le m Greeting lm = same_live n m logins Greeting bytes (λ e. absurd cc) (enough n logins) le lm
 enough (suc n) logins bytes le m (Open caller) lm = same_live n m logins (Open caller) bytes (λ e. absurd cc) (enough n logins) le lm
+
+-- ---- the next event
+
+-- where nothing stands first, nothing is heard
+pub nothing_next : (logins : Logins) (state : SessionState) (bytes : List ℕ) → StandsFirst logins state bytes None → hear logins state bytes ≡ heard_so_far [] state bytes
+nothing_next logins state bytes stands =
+    let all : length bytes ≤ length bytes = omega arith in
+    let more : length bytes ≤ suc (length bytes) = omega arith in
+    enough (length bytes) logins bytes all (suc (length bytes)) state more ∙ stands (length bytes)
+
+-- what stands first, and then what is heard of the rest
+pub next_then : (logins : Logins) (state : SessionState) (bytes : List ℕ) (next : fronts.Next) → StandsFirst logins state bytes (Some next)
+    → hear logins state bytes ≡ after_events (next.event ∷ []) (hear logins (state_after next.event) (drop next.count bytes))
+next_then logins state bytes next stands =
+    let rest : List ℕ = drop next.count bytes in
+    let all : length bytes ≤ length bytes = omega arith in
+    let more : length bytes ≤ suc (length bytes) = omega arith in
+    let some : length rest ≤ length rest = omega arith in
+    let fewer : length rest ≤ length bytes = omega (arith, length-drop next.count bytes) in
+    enough (length bytes) logins bytes all (suc (length bytes)) state more ∙ stands (length bytes)
+    ∙ ap (first next.event) (sym (enough (length rest) logins rest some (length bytes) (state_after next.event) fewer))
 
 -- ---- two pieces
 

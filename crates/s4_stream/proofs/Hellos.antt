@@ -1,12 +1,12 @@
--- A Hello has one spelling, and names version 1 of the wire.
-use Rattle.std.proofs.Common.{◌≡◌, ℕ, zero, suc, true, List, [], ◌∷◌, Some, refl, sym, ap, ◌∙◌}
+-- A Hello has one spelling.
+use Rattle.std.proofs.Common.{◌≡◌, ℕ, Bool, true, false, List, [], ◌∷◌, Some, refl, sym, ap, ◌∙◌}
 use Rattle.s4_types.specs.declared.principal.WireVersion.{WireVersion}
 use Rattle.s4_types.specs.declared.principal.WireVersion.TheVariants.{One, Two}
 use Rattle.s4_types.specs.Limits.{number_of_version, version_of}
-use Rattle.s4_codec.specs.Format.{◌>>=◌, ◌&◌, AreBytes, number, block, byte, byte_at, tested, only, case_at}
-use Rattle.std.specs.Prelude.{◌==◌}
+use Rattle.s4_codec.specs.Format.{◌&◌, AreBytes, number, block, byte, only}
+use Rattle.std.specs.Prelude.{◌==◌, ◌||◌, if◌then◌else◌}
 use Rattle.s4_codec.specs.Parts.{principal}
-use Rattle.s4_codec.proofs.Lawful.{IsFormat, some_is, bind_some, both_true, byte_is, block_is, only_is, pair_is, made_is, tested_some, whole_some, whole_takes, whole_again, are_bytes, IsCase, cases_are}
+use Rattle.s4_codec.proofs.Lawful.{IsFormat, some_is, both_true, byte_is, block_is, only_is, pair_is, made_is, whole_takes, whole_again, are_bytes, IsCase, cases_are}
 use Rattle.s4_codec.proofs.PartLaws.{principal_is, word_is}
 use Rattle.s4_codec.proofs.TableLaws.{both, principal_holds}
 use Rattle.s4_stream.specs.Rows.{is_hello, IsHello}
@@ -14,15 +14,20 @@ use Rattle.s4_stream.specs.declared.hello.Hello.{Hello}
 use Rattle.s4_stream.specs.Hello.{version, hello_fields, hello, hello_in}
 use Rattle.std.proofs.lemmas.Bool.{eqb-true}
 
-there_version : (n : ℕ) → (only (λ n. n == 1) byte).fits n ≡ true → number_of_version (version_of n) ≡ n
-there_version n e = let is : n ≡ 1 = eqb-true n 1 (both_true _ _ e).1 in ap (λ (k : ℕ). number_of_version (version_of k)) is ∙ sym is
+named : (n : ℕ) (one two : Bool) → (n == 1) ≡ one → (n == 2) ≡ two → (one || two) ≡ true → number_of_version (if one then One else Two) ≡ n
+named n true two a b e = sym (eqb-true n 1 a)
+named n false true a b e = sym (eqb-true n 2 b)
+named n false false a b e = cc
+
+there_version : (n : ℕ) → (only (λ n. (n == 1) || (n == 2)) byte).fits n ≡ true → number_of_version (version_of n) ≡ n
+there_version n e = named n (n == 1) (n == 2) refl refl (both_true _ _ e).1
 
 back_version : (v : WireVersion) (n : ℕ) → Some (number_of_version v) ≡ Some n → version_of n ≡ v
 back_version One n e = ap version_of (sym (some_is 1 n e))
 back_version Two n e = ap version_of (sym (some_is 2 n e))
 
 version_is : IsFormat version
-version_is = made_is (only (λ n. n == 1) byte) version_of (λ v. Some (number_of_version v)) (only_is _ byte byte_is)
+version_is = made_is (only (λ n. (n == 1) || (n == 2)) byte) version_of (λ v. Some (number_of_version v)) (only_is _ byte byte_is)
     (λ n e. ap Some (there_version n e)) back_version
 
 fields_are : IsFormat (version & (principal & (number 4 & block 16)))
@@ -39,38 +44,9 @@ hello_case = record { lawful = hello_fields_are; coded = λ h e. refl }
 pub hello_is : IsFormat hello
 hello_is = cases_are (λ h. 0) (hello_fields ∷ []) (hello_case, tt)
 
--- ---- what is read
-
--- the version that is read is the first
-first_version : (bytes : List ℕ) (v : WireVersion) (rest : List ℕ) → version.at bytes ≡ Some (v, rest) → v ≡ One
-first_version bytes v rest e =
-    let n = bind_some (tested (λ n. n == 1) (byte_at bytes)) (λ n. Some (version_of n.0, n.1)) (v, rest) e in
-    let is : n.0.0 ≡ 1 = eqb-true n.0.0 1 (tested_some (λ n. n == 1) (byte_at bytes) n.0.0 n.0.1 n.1).1 in
-    let made : WireVersion × List ℕ = (version_of n.0.0, n.0.1) in
-    ap (λ (z : WireVersion × List ℕ). z.0) (sym (some_is made (v, rest) n.2)) ∙ ap version_of is
-
-first_fields : (bytes : List ℕ) (h : Hello) (rest : List ℕ) → hello_fields.at bytes ≡ Some (h, rest) → h.caller.version ≡ One
-first_fields bytes h rest e =
-    let x = bind_some ((version & (principal & (number 4 & block 16))).at bytes) _ (h, rest) e in
-    let v = bind_some (version.at bytes) _ x.0 x.1 in
-    let more = bind_some ((principal & (number 4 & block 16)).at v.0.1) _ x.0 v.2 in
-    let made : Hello × List ℕ = (record { caller = record { who = x.0.0.1.0; client = x.0.0.1.1.0; version = x.0.0.0 }; secret = x.0.0.1.1.1 }, x.0.1) in
-    ap (λ (z : Hello × List ℕ). z.0.caller.version) (sym (some_is made (h, rest) x.2))
-    ∙ ap (λ (z : (WireVersion × (ℕ × (ℕ × List ℕ))) × List ℕ). z.0.0) (sym (some_is ((v.0.0, more.0.0), more.0.1) x.0 more.2))
-    ∙ first_version bytes v.0.0 v.0.1 v.1
-
-first_case : (bytes : List ℕ) (h : Hello) (rest : List ℕ) → hello.at bytes ≡ Some (h, rest) → h.caller.version ≡ One
-first_case [] h rest e = absurd cc
-first_case (zero ∷ bytes) h rest e = first_fields bytes h rest e
-first_case (suc n ∷ bytes) h rest e = absurd cc
-
--- who is named by a Hello speaks version 1
-pub first_hello : (body : List ℕ) (h : Hello) → hello_in body ≡ Some h → h.caller.version ≡ One
-first_hello body h e = first_case body h [] (whole_some (hello.at body) h e)
-
 -- ---- as a row
 
-version_holds : (v : WireVersion) → version.fits v ≡ (number_of_version v == 1)
+version_holds : (v : WireVersion) → version.fits v ≡ true
 version_holds One = refl
 version_holds Two = refl
 

@@ -3,7 +3,6 @@ pub mod Cuts
 pub mod Closing
 pub mod Talking
 pub mod Hellos
-pub mod First
 pub mod LoginLines
 pub mod LoginExamples
 pub mod Compared

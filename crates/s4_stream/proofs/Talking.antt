@@ -79,14 +79,14 @@ sent_at_end None replies = refl
 sent_at_end (Some f) replies = append-nil (fault_frame f)
 
 sent_for_requests : (caller : Caller) (requests : List asked.Request) (fault : Option kinds.SessionFault) (replies : List Reply) → length replies ≡ length requests
-    → sent_for (asked_until caller requests fault) replies ≡ flat_map reply_frame replies ++ fault_bytes fault
+    → sent_for (asked_until caller requests fault) replies ≡ flat_map (reply_frame caller.version) replies ++ fault_bytes fault
 sent_for_requests caller [] fault [] e = sent_at_end fault []
 sent_for_requests caller [] fault (x ∷ replies) e = absurd cc
 sent_for_requests caller (r ∷ requests) fault [] e = absurd cc
 sent_for_requests caller (r ∷ requests) fault (x ∷ replies) e =
-    ap (λ (w : List ℕ). reply_frame x ++ w) (sent_for_requests caller requests fault replies (omega (arith, e)))
-    ∙ sym (append_assoc (reply_frame x) (flat_map reply_frame replies) (fault_bytes fault))
+    ap (λ (w : List ℕ). reply_frame caller.version x ++ w) (sent_for_requests caller requests fault replies (omega (arith, e)))
+    ∙ sym (append_assoc (reply_frame caller.version x) (flat_map (reply_frame caller.version) replies) (fault_bytes fault))
 
 pub sent_for_talk : (caller : Caller) (requests : List asked.Request) (fault : Option kinds.SessionFault) (replies : List Reply) → length replies ≡ length requests
-    → sent_for (talk_of caller requests fault) replies ≡ told_in_order replies fault
-sent_for_talk caller requests fault replies e = ap (λ (w : List ℕ). welcome ++ w) (sent_for_requests caller requests fault replies e)
+    → sent_for (talk_of caller requests fault) replies ≡ told_in_order caller.version replies fault
+sent_for_talk caller requests fault replies e = ap (λ (w : List ℕ). welcome caller.version ++ w) (sent_for_requests caller requests fault replies e)

@@ -1,5 +1,5 @@
 -- How a connection begins.
-use Rattle.std.specs.Prelude.{ℕ, ◌==◌, if◌then◌else◌, Option, Some, None, List, [], ◌∷◌}
+use Rattle.std.specs.Prelude.{ℕ, ◌==◌, ◌||◌, if◌then◌else◌, Option, Some, None, List, [], ◌∷◌}
 use Rattle.s4_types.specs.declared.principal.WireVersion.{WireVersion}
 use Rattle.s4_types.specs.Limits.{number_of_version, version_of}
 use Rattle.s4_codec.specs.Format.{Format, ◌&◌, byte, number, block, only, made, cases, whole}
@@ -10,9 +10,9 @@ use Rattle.s4_stream.specs.declared.event.Event.{Event}
 use Rattle.s4_stream.specs.declared.event.Event.TheVariants.{Welcome, Fault}
 use Rattle.s4_stream.specs.declared.event.SessionFault.TheVariants as fault
 
--- the version of the wire that a Hello names, which is 1 alone
+-- the version of the wire that a Hello names, 1 or 2
 abbrev pub version : Format WireVersion
-version = made (only (λ n. n == 1) byte) version_of (λ v. Some (number_of_version v))
+version = made (only (λ n. (n == 1) || (n == 2)) byte) version_of (λ v. Some (number_of_version v))
 
 -- version, principal, client and secret
 abbrev pub hello_fields : Format Hello

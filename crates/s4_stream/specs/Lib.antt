@@ -3,6 +3,6 @@ pub mod LoginText
 pub mod Hello
 pub mod Rows
 pub mod Stream
-pub mod First
 pub mod Feeding
+pub mod Rooms
 pub mod Talk

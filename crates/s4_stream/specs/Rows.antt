@@ -8,9 +8,9 @@ use Rattle.s4_stream.specs.declared.hello.Hello.{Hello}
 abbrev pub hello_bytes : Hello → List ℕ
 hello_bytes h = 0 ∷ number_of_version h.caller.version ∷ big_bytes 4 h.caller.who ++ (big_bytes 4 h.caller.client ++ h.secret)
 
--- whether there is such a Hello: of version 1, of a principal, with a client's number and a secret of 16 bytes
+-- whether there is such a Hello: of a principal, with a client's number and a secret of 16 bytes
 abbrev pub is_hello : Hello → Bool
-is_hello h = (number_of_version h.caller.version == 1) && (nat_lt h.caller.who 4294967295 && (nat_lt h.caller.client (2 ^ 32) && (length h.secret == 16)))
+is_hello h = nat_lt h.caller.who 4294967295 && (nat_lt h.caller.client (2 ^ 32) && (length h.secret == 16))
 
 -- The body is the Hello's bytes, and there is such a Hello.
 pub record IsHello (body : List ℕ) (h : Hello) : Type 0 where

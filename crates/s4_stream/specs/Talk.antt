@@ -3,9 +3,11 @@ use Rattle.std.specs.Prelude.{◌≡◌, ℕ, ◌+◌, Option, Some, None, List,
 use Rattle.s4_types.specs.declared.principal.Caller.{Caller}
 use Rattle.s4_types.specs.declared.request.Request as asked
 use Rattle.s4_types.specs.declared.reply.Reply.{Reply}
-use Rattle.s4_types.specs.declared.principal.WireVersion.TheVariants.{One}
+use Rattle.s4_types.specs.declared.principal.WireVersion.{WireVersion}
+use Rattle.s4_types.specs.Limits.{data_asked, number_of_version}
 use Rattle.s4_codec.specs.Frames.{framed}
 use Rattle.s4_codec.specs.Replies.{reply}
+use Rattle.s4_stream.specs.Rooms.{reply_room}
 use Rattle.s4_stream.specs.declared.event.Event.{Event}
 use Rattle.s4_stream.specs.declared.event.Event.TheVariants.{Welcome, Request, Fault}
 use Rattle.s4_stream.specs.declared.event.SessionFault as kinds
@@ -13,9 +15,9 @@ use Rattle.s4_stream.specs.declared.event.SessionFault.TheVariants.{Malformed, B
 
 -- FRAMES
 
--- the frame that answers a good Hello: kind 16, and the version
-abbrev pub welcome : List ℕ
-welcome = framed (16 ∷ 1 ∷ [])
+-- the frame that answers a good Hello: kind 16, and its version
+abbrev pub welcome : WireVersion → List ℕ
+welcome version = framed (16 ∷ number_of_version version ∷ [])
 
 -- a fault's number
 abbrev pub fault_number : kinds.SessionFault → ℕ
@@ -27,9 +29,15 @@ fault_number FrameLength = 3
 abbrev pub fault_frame : kinds.SessionFault → List ℕ
 fault_frame f = framed (17 ∷ fault_number f ∷ [])
 
--- the frame of a reply, by version 1, which is all that callers speak
-abbrev pub reply_frame : Reply → List ℕ
-reply_frame r = framed ((reply One).spell r)
+-- the frame of a reply, by its caller's version
+abbrev pub reply_frame : WireVersion → Reply → List ℕ
+reply_frame version r = framed ((reply version).spell r)
+
+-- the most bytes of the frame that answers an event: 6 of a welcome or a fault
+abbrev pub room_for : Event → ℕ
+room_for (Welcome caller) = 6
+room_for (Request caller r) = reply_room caller.version (data_asked r)
+room_for (Fault f) = 6
 
 -- EVENTS
 
@@ -40,12 +48,19 @@ requests_in (Welcome caller ∷ events) = requests_in events
 requests_in (Request caller r ∷ events) = requests_in events + 1
 requests_in (Fault f ∷ events) = requests_in events
 
+-- the versions of those who ask, one for each request
+abbrev pub versions_in : List Event → List WireVersion
+versions_in [] = []
+versions_in (Welcome caller ∷ events) = versions_in events
+versions_in (Request caller r ∷ events) = caller.version ∷ versions_in events
+versions_in (Fault f ∷ events) = versions_in events
+
 -- What is sent for events whose requests have these replies: the welcome for a good Hello, the reply to each request, the fault.
 abbrev pub sent_for : List Event → List Reply → List ℕ
 sent_for [] replies = []
-sent_for (Welcome caller ∷ events) replies = welcome ++ sent_for events replies
+sent_for (Welcome caller ∷ events) replies = welcome caller.version ++ sent_for events replies
 sent_for (Request caller r ∷ events) [] = []
-sent_for (Request caller r ∷ events) (x ∷ replies) = reply_frame x ++ sent_for events replies
+sent_for (Request caller r ∷ events) (x ∷ replies) = reply_frame caller.version x ++ sent_for events replies
 sent_for (Fault f ∷ events) replies = fault_frame f ++ sent_for events replies
 
 -- THEIR ORDER
@@ -77,6 +92,6 @@ fault_bytes (Some fault) = fault_frame fault
 abbrev pub TellsFaultAlone : Option kinds.SessionFault → Type 0
 TellsFaultAlone fault = (replies : List Reply) → sent_for (ended_by fault) replies ≡ fault_bytes fault
 
--- the Welcome, the replies in order, and the frame of the fault, if there is one
-abbrev pub told_in_order : List Reply → Option kinds.SessionFault → List ℕ
-told_in_order replies fault = welcome ++ flat_map reply_frame replies ++ fault_bytes fault
+-- the Welcome of a version, the replies in order, and the frame of the fault, if there is one
+abbrev pub told_in_order : WireVersion → List Reply → Option kinds.SessionFault → List ℕ
+told_in_order version replies fault = welcome version ++ flat_map (reply_frame version) replies ++ fault_bytes fault

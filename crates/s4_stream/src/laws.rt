@@ -32,7 +32,8 @@ pub fn connections_speak_in_order()
     ensures sent { (caller : callers.Caller) (requests : List asked.Request)
         (fault : Option faults.SessionFault) (replies : List told.Reply)
         → length replies ≡ length requests
-        → sent_for (talk_of caller requests fault) replies ≡ told_in_order replies fault }
+        → sent_for (talk_of caller requests fault) replies
+        ≡ told_in_order caller.version replies fault }
     ensures unwelcome { (fault : Option faults.SessionFault) → TellsFaultAlone fault }
 {}
 

@@ -11,12 +11,12 @@ mod logins;
 mod session;
 
 pub use event::{Event, SessionFault, SessionState};
-pub use frames::{FAULT, WELCOME, add_fault, add_frame, add_reply, add_welcome, reserve_frame};
-pub use hello::{Hello, VERSION};
+pub use frames::{FAULT, WELCOME, put_fault, put_welcome, reserve_answer};
+pub use hello::Hello;
 pub use laws::{
     connections_speak_in_order, cuts_change_nothing, hellos_are_their_rows,
     hellos_have_one_spelling,
 };
 pub use login_text::{principal_in, secret_in};
 pub use logins::{LoginFault, Logins};
-pub use session::{FeedError, Session};
+pub use session::{FeedError, FillError, Session};

@@ -1,21 +1,31 @@
 //! What a connection's bytes say, however they are cut.
 
-ghost use Rattle.std.specs.Prelude.{◌≡◌, ◌≤◌, ◌↔◌, All, length, drop, [], IfOk, IsErrOf, OnOk, OnErr};
-ghost use Rattle.s4_stream.specs.First.{NamesFirst};
+ghost use Rattle.std.specs.Prelude.{◌≡◌, ◌≤◌, ◌↔◌, length, drop, [], IfOk, IfSome, IsErrOf, OnOk, OnErr};
+ghost use Rattle.std.specs.Io.KnownBytes.{IsAtEnd, Keeps};
 ghost use Rattle.s4_stream.specs.Hello.{greeted, hello_in};
 ghost use Rattle.s4_stream.specs.Stream.{caller_at, hear, limit_at, said, state_after};
-ghost use Rattle.s4_stream.specs.Feeding.{HearsOne, heard_so_far, hear_piece, left_by};
+ghost use Rattle.s4_stream.specs.Feeding.{Fills, HearsOne, StandsFirst, TakesNext, heard_so_far, hear_piece, left_by};
+ghost use Rattle.s4_stream.specs.Talk.{room_for};
 ghost use Rattle.s4_stream.specs.declared.event.SessionState.TheVariants as states;
 ghost use Rattle.s4_stream.specs.declared.session.FeedError.TheVariants as feed_error;
 
 use crate::event::{Event, SessionFault, SessionState};
+use crate::frames::reserve_answer;
 use crate::hello::read_hello;
 use crate::logins::Logins;
 use bytes::BytesMut;
 use s4_codec::{Front, ReadError, frame_limit, read_frame, read_request};
 use s4_types::{Caller, NoMemory, WireVersion};
 use std::alloc::{AllocError, Global};
+use std::io;
+use std::io::Read;
 use std::marker::Model;
+
+/// How many bytes a session makes room for before it reads.
+const PIECE: usize = 4096;
+
+/// The most bytes that a session's buffer keeps where it holds nothing.
+const KEPT: usize = 16384;
 
 /// Why a piece was not taken.
 #[derive(Clone, Copy, Debug, PartialEq, Eq)]
@@ -26,8 +36,17 @@ pub enum FeedError {
     NoMemory,
 }
 
-/// One connection: where it stands, and the bytes of the frame that isn't whole yet. Whoever calls
-/// on it speaks version 1 of the wire, as each Hello says.
+/// Why no bytes came.
+#[derive(Debug, Drop)]
+pub enum FillError {
+    /// A growth was refused, and nothing was read.
+    NoMemory,
+    /// The reader failed so.
+    Failed(io::Error),
+}
+
+/// One connection: where it stands, and the bytes that came and aren't heard yet. A caller who takes
+/// all events, by `feed` or by `next`, leaves it the bytes of the frame that isn't whole.
 #[derive(Drop)]
 pub struct Session {
     alloc: Global,
@@ -43,11 +62,9 @@ impl Model for Session {
     ghost view = { λ s. record { state = s.state; pending = s.pending.items } };
 
     ghost use Rattle.std.specs.Prelude.{◌≡◌, []};
-    ghost use Rattle.s4_stream.specs.First.{SpeaksFirst};
     ghost use Rattle.s4_stream.specs.declared.event.SessionState.TheVariants as states;
 
-    ghost invariant = { λ s. (s.state ≡ states.Closed → s.pending.items ≡ [])
-        × SpeaksFirst s.state };
+    ghost invariant = { λ s. s.state ≡ states.Closed → s.pending.items ≡ [] };
 }
 
 impl Session {
@@ -68,8 +85,6 @@ impl Session {
         // The events, where the connection stands then and what is held are the definition's.
         ensures events { IfOk result (λ events. hear_piece logins.now self.old piece.now
             ≡ heard_so_far events.items self.new.state self.new.pending) }
-        // Whoever is named in them speaks version 1.
-        ensures first { IfOk result (λ events. All NamesFirst events.items) }
         // After a fault nothing is heard.
         ensures closed { IsErrOf result feed_error.Closed ↔ (self.old.state ≡ states.Closed) }
         ensures err { OnErr result (self.new ≡ self.old) }
@@ -115,7 +130,6 @@ impl Session {
     pub fn hear(&mut self, logins: &Logins, piece: &[u8]) -> Result<Vec<Event>, NoMemory>
         ensures events { IfOk result
             (λ events. events.items ≡ (hear_piece logins.now self.old piece.now).events) }
-        ensures first { IfOk result (λ events. All NamesFirst events.items) }
         ensures session { OnOk result
             (self.new ≡ left_by (hear_piece logins.now self.old piece.now)) }
     {
@@ -123,6 +137,68 @@ impl Session {
             Ok(events) => Ok(events),
             Err(FeedError::Closed) => Ok(Vec::new(self.alloc)),
             Err(FeedError::NoMemory) => Err(AllocError),
+        }
+    }
+}
+
+impl Session {
+    /// Reads once, and holds what came behind what it held. Tells how many bytes came: none where
+    /// the reader is at its end.
+    pub fn fill<R: Read>(&mut self, reader: &mut R) -> Result<usize, FillError>
+        // After a fault nothing is heard, so there is nothing to read for.
+        requires { self.old.state ≡ states.Closed → ⊥ }
+        ensures fills { IfOk result
+            (λ n. Fills (R.remaining reader.old) (R.remaining reader.new) n self.old self.new) }
+        ensures end { IfOk result (λ n. n ≡ 0 → IsAtEnd (R.remaining reader.new)) }
+        ensures err { OnErr result ((self.new ≡ self.old)
+            × Keeps (R.remaining reader.old) (R.remaining reader.new)) }
+    {
+        if self.pending.reserve(PIECE).is_err() {
+            return Err(FillError::NoMemory);
+        }
+        match self.pending.read_from(reader) {
+            Ok(count) => Ok(count),
+            Err(error) => {
+                self.give_back(0);
+                Err(FillError::Failed(error))
+            }
+        }
+    }
+
+    /// The next event that is held, taken once there is room in `out` for the frame that answers it.
+    /// There is none where no whole frame is held, and after a fault. Where a growth was refused all
+    /// is as it was.
+    pub fn next(
+        &mut self,
+        logins: &Logins,
+        out: &mut BytesMut,
+    ) -> Result<Option<Event>, NoMemory>
+        ensures next { IfOk result (λ event. TakesNext logins.now self.old self.new event) }
+        ensures room { IfOk result
+            (λ event. IfSome event (λ some. room_for some ≤ out.new.spare)) }
+        ensures err { OnErr result (self.new ≡ self.old) }
+        ensures out { out.new.items ≡ out.old.items }
+    {
+        if matches!(&self.state, SessionState::Closed) {
+            return Ok(None);
+        }
+        let first = hear_first(self.alloc, logins, &self.state, self.pending.as_slice())?;
+        let Some(Next { event, count }) = first else {
+            return Ok(None);
+        };
+        reserve_answer(out, &event)?;
+        self.state = state_after(&event);
+        self.pending.advance(count);
+        self.give_back(KEPT);
+        Ok(Some(event))
+    }
+
+    /// Gives back the buffer where it holds nothing and is larger than that.
+    fn give_back(&mut self, most: usize)
+        ensures { self.new ≡ self.old }
+    {
+        if self.pending.is_empty() && self.pending.capacity() > most {
+            self.pending = BytesMut::new(self.alloc);
         }
     }
 }
@@ -177,29 +253,52 @@ fn hear_frame(
         (heard_so_far hearing.new.events.items hearing.new.state
         (drop hearing.new.count bytes.now))) }
 {
-    match read_frame(limit_at(&hearing.state), &bytes[hearing.count..]) {
+    let left = &bytes[hearing.count..];
+    let Some(Next { event, count }) = hear_first(alloc, logins, &hearing.state, left)? else {
+        return Ok(false);
+    };
+    let state = state_after(&event);
+    hearing.events.push(event)?;
+    hearing.state = state;
+    hearing.count += count;
+    Ok(!matches!(&state, SessionState::Closed))
+}
+
+/// An event, and how many bytes say it.
+#[derive(Drop)]
+struct Next {
+    event: Event,
+    count: usize,
+}
+
+/// The event that stands first, if a whole frame or a wrong length stands there. With a fault all
+/// bytes are heard.
+fn hear_first(
+    alloc: Global,
+    logins: &Logins,
+    state: &SessionState,
+    bytes: &[u8],
+) -> Result<Option<Next>, NoMemory>
+    requires live { state.now ≡ states.Closed → ⊥ }
+    ensures within { IfOk result (λ next. IfSome next (λ n. n.count ≤ length bytes.now)) }
+    ensures first { IfOk result (λ next. StandsFirst logins.now state.now bytes.now next) }
+    ensures all { IfOk result (λ next. IfSome next
+        (λ n. state_after n.event ≡ states.Closed → n.count ≡ length bytes.now)) }
+{
+    match read_frame(limit_at(state), bytes) {
         Front::Whole { body, rest } => {
-            let event = said(alloc, logins, &hearing.state, body)?;
-            let state = state_after(&event);
-            let ends = matches!(&state, SessionState::Closed);
-            hearing.events.push(event)?;
-            hearing.state = state;
-            if ends {
-                hearing.count = bytes.len();
-                return Ok(false);
-            }
-            hearing.count = bytes.len() - rest.len();
-            Ok(true)
+            let event = said(alloc, logins, state, body)?;
+            let count = match &event {
+                Event::Fault(_) => bytes.len(),
+                _ => bytes.len() - rest.len(),
+            };
+            Ok(Some(Next { event, count }))
         }
-        Front::Part => Ok(false),
-        Front::BadLength => {
-            hearing
-                .events
-                .push(Event::Fault(SessionFault::FrameLength))?;
-            hearing.state = SessionState::Closed;
-            hearing.count = bytes.len();
-            Ok(false)
-        }
+        Front::Part => Ok(None),
+        Front::BadLength => Ok(Some(Next {
+            event: Event::Fault(SessionFault::FrameLength),
+            count: bytes.len(),
+        })),
     }
 }
 

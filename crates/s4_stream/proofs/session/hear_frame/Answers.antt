@@ -1,59 +1,34 @@
-use Rattle.std.proofs.Common.{rules, ◌≡◌, ◌++◌, ◌-◌, ℕ, List, [], ◌∷◌, length, drop, false, true, sym, ap, ◌∙◌, arith}
+use Rattle.std.proofs.Common.{rules, ◌≡◌, ◌+◌, ◌-◌, ◌++◌, ℕ, Some, List, [], ◌∷◌, length, drop, take, false, true, sym, ap, subst, ◌∙◌, arith}
 use Rattle.std.proofs.Math.ListN.{drop_of_length-le}
-use Rattle.std.proofs.lemmas.List.{take_all, length-drop}
-use Rattle.s4_codec.specs.Frames.{Whole, front_of}
-use Rattle.s4_codec.specs.Fronts.{lists_of}
+use Rattle.std.proofs.lemmas.List.{take_all, length-drop, drop-drop}
 use Rattle.s4_stream.specs.declared.event.Event.{Event}
 use Rattle.s4_stream.specs.declared.event.SessionState.TheVariants as states
-use Rattle.s4_stream.specs.Stream.{said, state_after, limit_at}
-use Rattle.s4_stream.specs.Feeding.{heard_so_far, HearsOne}
-use Rattle.s4_codec.proofs.FrontLaws.{behind, behind_at, behind_is_shorter}
-use Rattle.s4_stream.proofs.Hearing.{last_heard, whole_heard}
+use Rattle.s4_stream.specs.Stream.{state_after}
+use Rattle.s4_stream.specs.Feeding.{heard_so_far, HearsOne, StandsFirst}
+use Rattle.s4_stream.proofs.Hearing.{next_ends, next_goes_on}
 use Rattle.s4_stream.proofs.session.hear_frame.Goals as goal
-use Rattle.s4_stream.proofs.session.hear_frame.Goals.{in-Closed, in_default}
+use Rattle.s4_stream.proofs.session.hear_frame.Goals.{in-Closed, in_default-matches}
 
-pub returns-then-ends-clause-heard : goal.returns-then-ends-clause-heard
-returns-then-ends-clause-heard c =
+pub returns-clause-heard : goal.returns-clause-heard
+returns-clause-heard c =
     let logins = c.args.logins.now in
     let bytes : List ℕ = c.args.bytes.now in
     let old = c.args.hearing.now in
-    let body : List ℕ = c.in-Whole.body.now in
-    let rest : List ℕ = c.in-Whole.rest.now in
-    let front : front_of (limit_at old.state) (drop old.count bytes) ≡ Whole body rest = ap (λ (n : ℕ). front_of n (drop old.count bytes)) (sym c.limit_at.ensures) ∙ ap (front_of c.limit_at.result) (sym (take_all (length bytes - old.count) (drop old.count bytes) (omega (arith, length-drop old.count bytes)))) ∙ sym c.read_frame.ensures ∙ ap lists_of c.in-Whole.is in
-    let event-is : c.in_ok-event-in-Whole.event ≡ said logins old.state body = search rules in
-    let ends : c.state_after-state.result ≡ states.Closed = elim c.match-matches.branch [ in-Closed w ↦ search rules | in_default w ↦ search rules ] in
-    let items : c.push.new.self.items ≡ old.events.items ++ c.in_ok-event-in-Whole.event ∷ [] = search rules in
-    let state-is : c.state_after-state.result ≡ state_after (said logins old.state body) = c.state_after-state.ensures ∙ ap state_after event-is in
-    let none : drop (length bytes) bytes ≡ [] = drop_of_length-le bytes (omega arith) in
-    let events-are : c.push.new.self.items ≡ old.events.items ++ said logins old.state body ∷ [] = items ∙ ap (λ (e : Event). old.events.items ++ e ∷ []) event-is in
-    let heard : HearsOne false logins (heard_so_far old.events.items old.state (drop old.count bytes)) (heard_so_far (old.events.items ++ said logins old.state body ∷ []) (state_after (said logins old.state body)) [])
-    = last_heard logins old.events.items old.state (drop old.count bytes) c.requires.live body rest front (sym state-is ∙ ends) in
-    rw (events-are, state-is, none) heard
-
-pub returns-else-ends-clause-heard : goal.returns-else-ends-clause-heard
-returns-else-ends-clause-heard c =
-    let logins = c.args.logins.now in
-    let bytes : List ℕ = c.args.bytes.now in
-    let old = c.args.hearing.now in
-    let body : List ℕ = c.in-Whole.body.now in
-    let rest : List ℕ = c.in-Whole.rest.now in
-    let front : front_of (limit_at old.state) (drop old.count bytes) ≡ Whole body rest = ap (λ (n : ℕ). front_of n (drop old.count bytes)) (sym c.limit_at.ensures) ∙ ap (front_of c.limit_at.result) (sym (take_all (length bytes - old.count) (drop old.count bytes) (omega (arith, length-drop old.count bytes)))) ∙ sym c.read_frame.ensures ∙ ap lists_of c.in-Whole.is in
-    let event-is : c.in_ok-event-in-Whole.event ≡ said logins old.state body = search rules in
-    let live : c.state_after-state.result ≡ states.Closed → ⊥ = elim c.match-matches.branch [ in-Closed w ↦ search rules | in_default w ↦ search rules ] in
-    let items : c.push.new.self.items ≡ old.events.items ++ c.in_ok-event-in-Whole.event ∷ [] = search rules in
-    let state-is : c.state_after-state.result ≡ state_after (said logins old.state body) = c.state_after-state.ensures ∙ ap state_after event-is in
-    let left : drop (length bytes - length rest) bytes ≡ rest = behind_at bytes rest old.count c.requires.within (behind (limit_at old.state) (drop old.count bytes) body rest front) in
-    let events-are : c.push.new.self.items ≡ old.events.items ++ said logins old.state body ∷ [] = items ∙ ap (λ (e : Event). old.events.items ++ e ∷ []) event-is in
-    let heard : HearsOne true logins (heard_so_far old.events.items old.state (drop old.count bytes)) (heard_so_far (old.events.items ++ said logins old.state body ∷ []) (state_after (said logins old.state body)) rest)
-    = whole_heard logins old.events.items old.state (drop old.count bytes) c.requires.live body rest front (λ e. live (state-is ∙ e)) in
-    rw (events-are, state-is, left) heard
-
-pub overflow_sub-hearing : goal.overflow_sub-hearing
-overflow_sub-hearing c =
-    let bytes : List ℕ = c.args.bytes.now in
-    let old = c.args.hearing.now in
-    let body : List ℕ = c.in-Whole.body.now in
-    let rest : List ℕ = c.in-Whole.rest.now in
-    let front : front_of c.limit_at.result (drop old.count bytes) ≡ Whole body rest = ap (front_of c.limit_at.result) (sym (take_all (length bytes - old.count) (drop old.count bytes) (omega (arith, length-drop old.count bytes)))) ∙ sym c.read_frame.ensures ∙ ap lists_of c.in-Whole.is in
-    let short = behind_is_shorter (drop old.count bytes) rest (behind c.limit_at.result (drop old.count bytes) body rest front) in
-    omega (arith, short, length-drop old.count bytes)
+    let next = c.in-Some.field-0 in
+    let left : List ℕ = drop old.count bytes in
+    let slice : take (length bytes - old.count) left ≡ left = take_all (length bytes - old.count) left (omega (arith, length-drop old.count bytes)) in
+    let stands : StandsFirst logins old.state left (Some next)
+    = subst (λ (w : List ℕ). StandsFirst logins old.state w (Some next)) slice (subst (λ o. StandsFirst logins old.state (take (length bytes - old.count) left) o) c.in-Some.is c.in_ok-event.ensures.first) in
+    let rest : drop (old.count + next.count) bytes ≡ drop next.count left = sym (drop-drop next.count old.count bytes) in
+    let state-is : c.state_after-state.result ≡ state_after next.event = search rules in
+    let events-are : c.push.new.self.items ≡ old.events.items ++ next.event ∷ [] = search rules in
+    elim c.match-matches.branch [
+      | in-Closed w ↦
+          let ends : state_after next.event ≡ states.Closed = sym state-is ∙ w.in-Closed.is in
+          let all : next.count ≡ length (take (length bytes - old.count) left) = search rules in
+          let none : drop next.count left ≡ [] = drop_of_length-le left (omega (arith, all, ap length slice)) in
+          rw (w.matches-is, events-are, state-is, rest) (next_ends logins old.events.items old.state left next stands ends none)
+      | in_default-matches w ↦
+          let goes : state_after next.event ≡ states.Closed → ⊥ = search rules in
+          rw (w.matches-is, events-are, state-is, rest) (next_goes_on logins old.events.items old.state left next stands goes)
+    ]

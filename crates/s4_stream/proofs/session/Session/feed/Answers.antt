@@ -1,10 +1,7 @@
 use Rattle.std.proofs.Common.{rules, ◌≡◌, ◌∙◌, sym, ap, drop}
 use Rattle.s4_stream.specs.Feeding.{heard_so_far}
-use Rattle.s4_stream.specs.First.{SpeaksFirst}
 use Rattle.s4_stream.proofs.Closing.{closed_left}
-use Rattle.s4_stream.proofs.First.{heard_events, heard_state}
 use Rattle.s4_stream.proofs.session.Session.feed.Goals as goal
-use Rattle.s4_stream.proofs.session.Session.feed.Goals.{in-Closed, in_default}
 
 pub invariant_of-self-in-Ok : goal.invariant_of-self-in-Ok
 invariant_of-self-in-Ok c =
@@ -12,12 +9,4 @@ invariant_of-self-in-Ok c =
     let all = c.as_slice.result.now in
     let is : c.advance.new.self.items ≡ drop h.count all = c.advance.ensures.items ∙ ap (drop h.count) (sym c.as_slice.ensures) in
     let heard = heard_so_far h.events.items h.state (drop h.count all) in
-    let speaks : SpeaksFirst c.match-matches.self-inside.state = elim c.match-matches.branch [ in-Closed w ↦ search rules | in_default w ↦ search rules ] in
-    (λ closes. is ∙ closed_left c.args.logins.now _ all heard c.in-Ok.ensures.heard closes, heard_state c.args.logins.now _ all heard c.in-Ok.ensures.heard speaks)
-
-pub returns-in-Ok-clause-first : goal.returns-in-Ok-clause-first
-returns-in-Ok-clause-first c =
-    let h = c.in-Ok.hearing in
-    let all = c.as_slice.result.now in
-    let speaks : SpeaksFirst c.match-matches.self-inside.state = elim c.match-matches.branch [ in-Closed w ↦ search rules | in_default w ↦ search rules ] in
-    heard_events c.args.logins.now _ all (heard_so_far h.events.items h.state (drop h.count all)) c.in-Ok.ensures.heard speaks
+    λ closes. is ∙ closed_left c.args.logins.now _ all heard c.in-Ok.ensures.heard closes

@@ -1,8 +1,6 @@
 use Rattle.std.proofs.Common.{rules, ◌≡◌, ◌∙◌, sym, ap}
 use Rattle.s4_stream.specs.declared.event.SessionState.TheVariants as states
-use Rattle.s4_stream.specs.First.{NamesFirst}
 use Rattle.s4_stream.specs.Stream.{Heard}
-use Rattle.std.proofs.lemmas.List.Elements.{All-nil}
 use Rattle.s4_stream.proofs.Closing.{closed_hears}
 use Rattle.s4_stream.proofs.session.Session.hear.Goals as goal
 use Rattle.s4_stream.proofs.session.Session.hear.Goals.{in-Ok, in-Err-Closed, in-Err-NoMemory}
@@ -13,12 +11,5 @@ returns-clause-events c = elim c.match-feed.branch [
   | in-Err-Closed w ↦
       let closed : c.args.self.now.state ≡ states.Closed = search rules in
       rw w.result-is (w.new.ensures.items ∙ ap (λ (h : Heard). h.events) (sym (closed_hears c.args.logins.now c.args.self.now c.args.piece.now closed)))
-  | in-Err-NoMemory w ↦ rw w.result-is tt
-]
-
-pub returns-clause-first : goal.returns-clause-first
-returns-clause-first c = elim c.match-feed.branch [
-  | in-Ok w ↦ rw w.result-is w.in-Ok.ensures.first
-  | in-Err-Closed w ↦ rw (w.result-is, w.new.ensures.items) (All-nil NamesFirst)
   | in-Err-NoMemory w ↦ rw w.result-is tt
 ]
