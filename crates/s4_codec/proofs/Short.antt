@@ -2,7 +2,7 @@
 use Rattle.std.proofs.Common.{◌≡◌, ℕ, ◌+◌, ◌*◌, ◌^◌, ◌≤◌, ◌<◌, Bool, true, false, ◌&&◌, Option, Some, None, List, [], ◌∷◌, ◌++◌, length, refl, arith}
 use Rattle.std.specs.Prelude.{◌==◌, nat_le, nat_lt}
 use Rattle.std.specs.List.{flat_map, list_all}
-use Rattle.std.proofs.lemmas.Bool.{leb-true, le-leb}
+use Rattle.std.proofs.lemmas.Bool.{leb-true, le-leb, lt-ltb}
 use Rattle.std.proofs.lemmas.List.{length-append}
 use Rattle.byteorder.specs.Endian.{big_bytes}
 use Rattle.s4_types.specs.declared.principal.WireVersion.TheVariants.{One}
@@ -13,12 +13,13 @@ use Rattle.s4_types.specs.declared.reply.Reply.{Reply}
 use Rattle.s4_types.specs.declared.reply.Reply.TheVariants.{Done, Made, Data, Attr, Entry, Mounted, Names, Audit, Refused}
 use Rattle.s4_types.specs.Rights.{number_of}
 use Rattle.s4_types.specs.Name.{is_name, is_name_byte}
-use Rattle.s4_types.specs.Limits.{is_shown_grant, is_within_limits, data_limit}
+use Rattle.s4_types.specs.Limits.{is_audit_line, is_page_line, is_shown_grant, is_within_limits, data_in, data_limit}
 use Rattle.s4_types.specs.declared.principal.WireVersion.{WireVersion}
 use Rattle.s4_types.specs.declared.principal.WireVersion.TheVariants.{One, Two}
 use Rattle.s4_codec.specs.Format.{Format, ◌&◌, byte, number, only, made, fits_part, spell_part, optional, list_up_to}
 use Rattle.s4_codec.specs.Parts.{moment, principal, user, purse_number, index, serial, pad, object, name, byte_string, rights_given, grant, flag, flag_of, number_of_flag, right_needed, right_of, is_right}
 use Rattle.s4_codec.specs.Versions.{length_width, frame_limit}
+use Rattle.s4_codec.specs.Rooms.{is_spellable, body_room, reply_room}
 use Rattle.s4_codec.specs.Frames.{framed, front_of, Whole}
 use Rattle.s4_codec.specs.Replies.{name_line, code, reply_code, audit_line, refusal, reply, reply_in, has_body}
 use Rattle.s4_codec.proofs.Lawful.{IsWide, wide2, wide4, wide8, both_true, spelled_is_read}
@@ -125,15 +126,6 @@ audit_line_short = made_short 19 (moment & (principal & (number 4 & (code & (fla
     (pair_short 1 2 code (flag & reply_code) (only_short 1 _ byte byte_short)
     (pair_short 1 1 flag reply_code flag_short (only_short 1 _ byte byte_short))))))
 
-lines_short : {A : Type 0} (most n : ℕ) (f : Format A) → IsShort n f → IsShort (1 + most * n) (list_up_to most f)
-lines_short most n f F = record {
-  most = λ xs e.
-      let parts = both_true (nat_le (length xs) most) (list_all f.fits xs) e in
-      let few = leb-true (length xs) most parts.0 in
-      let all = many_short n f F xs parts.1 in
-      grind (arith, few, all);
-}
-
 -- REFUSALS
 
 right_short : IsShort 1 right_needed
@@ -169,61 +161,103 @@ entry_short = pair_short 10 6 grant (index & (user & rights_given)) grant_short
 mounted_short : IsShort 18 (grant & object)
 mounted_short = pair_short 10 8 grant object grant_short object_short
 
-names_short : IsShort 3266 (list_up_to 64 name_line & flag)
-names_short = pair_short 3265 1 (list_up_to 64 name_line) flag (lines_short 64 51 name_line name_line_short) flag_short
+-- lines, and whether more of them follow
+page_short : {A : Type 0} (most n : ℕ) (f : Format A) → IsShort n f → (xs : List A) (more : Bool) → (list_up_to most f & flag).fits (xs, more) ≡ true → length ((list_up_to most f & flag).spell (xs, more)) ≤ 2 + length xs * n
+page_short most n f F xs more e =
+    let parts = both_true ((list_up_to most f).fits xs) (flag.fits more) e in
+    let lines = both_true (nat_le (length xs) most) (list_all f.fits xs) parts.0 in
+    let all = many_short n f F xs lines.1 in
+    let last = flag_short.most more parts.1 in
+    let sum = length-append (flat_map f.spell xs) (flag.spell more) in
+    omega (arith, all, last, sum)
 
-audit_short : IsShort 610 (list_up_to 32 audit_line & flag)
-audit_short = pair_short 609 1 (list_up_to 32 audit_line) flag (lines_short 32 19 audit_line audit_line_short) flag_short
+read_short : (version : WireVersion) (g : Grant) (bytes : List ℕ) → (grant & byte_string version).fits (g, bytes) ≡ true → length ((grant & byte_string version).spell (g, bytes)) ≤ 10 + (length_width version + length bytes)
+read_short version g bytes e =
+    let own = grant_short.most g (both_true (grant.fits g) ((byte_string version).fits bytes) e).0 in
+    let size = (width_is version).len (length bytes) in
+    let sum = length-append (grant.spell g) ((byte_string version).spell bytes) in
+    let parts = length-append (big_bytes (length_width version) (length bytes)) bytes in
+    omega (arith, own, size, sum, parts)
+
+pub body_short : (version : WireVersion) (r : Reply) → (reply version).fits r ≡ true → length ((reply version).spell r) ≤ body_room version r
+body_short version Done e = omega arith
+body_short version (Made o) e = let own = object_short.most o e in omega (arith, own)
+body_short version (Data g bytes) e = let own = read_short version g bytes e in omega (arith, own)
+body_short version (Attr g bytes) e = let own = read_short version g bytes e in omega (arith, own)
+body_short version (Entry g i who rights) e = let own = entry_short.most (g, (i, (who, rights))) e in omega (arith, own)
+body_short version (Mounted g o) e = let own = mounted_short.most (g, o) e in omega (arith, own)
+body_short version (Names lines more) e = let own = page_short 64 51 name_line name_line_short lines more e in omega (arith, own)
+body_short version (Audit lines more) e = let own = page_short 32 19 audit_line audit_line_short lines more e in omega (arith, own)
+body_short version (Refused r) e = let own = refusal_short r e in omega (arith, own)
 
 -- ---- frames of each version
 
--- a kind, a grant, a length and data
-data_room : (version : WireVersion) → 1 + 10 + length_width version + data_limit version ≤ frame_limit version
-data_room One = omega arith
-data_room Two = omega arith
+width_small : (version : WireVersion) → length_width version ≤ 4
+width_small One = omega arith
+width_small Two = omega arith
+
+data_fits : (version : WireVersion) → data_limit version < 256 ^ length_width version
+data_fits One = omega arith
+data_fits Two = omega arith
 
 some_data : (version : WireVersion) → 256 ≤ data_limit version
 some_data One = omega arith
 some_data Two = omega arith
 
-frame_room : (version : WireVersion) → 8192 ≤ frame_limit version
-frame_room One = omega arith
-frame_room Two = omega arith
+room_in_frame : (version : WireVersion) (count : ℕ) → reply_room version count ≤ 4 + frame_limit version
+room_in_frame One count = omega arith
+room_in_frame Two count = omega arith
 
 frame_fits : (version : WireVersion) → frame_limit version < 2 ^ 32
 frame_fits One = omega arith
 frame_fits Two = omega arith
 
-read_short : (version : WireVersion) (g : Grant) (bytes : List ℕ) → (grant & byte_string version).fits (g, bytes) ≡ true → length bytes ≤ data_limit version → length ((grant & byte_string version).spell (g, bytes)) + 1 ≤ frame_limit version
-read_short version g bytes e few =
-    let own = grant_short.most g (both_true (grant.fits g) ((byte_string version).fits bytes) e).0 in
-    let size = (width_is version).len (length bytes) in
-    let sum = length-append (grant.spell g) ((byte_string version).spell bytes) in
-    let parts = length-append (big_bytes (length_width version) (length bytes)) bytes in
-    let room = data_room version in
-    omega (arith, own, size, sum, parts, few, room)
-
 few_bytes : (a : Bool) (n most : ℕ) → (a && nat_le n most) ≡ true → n ≤ most
 few_bytes a n most e = leb-true n most (both_true a (nat_le n most) e).1
 
--- a kind of reply, and its fields
-with_kind : (version : WireVersion) (kind most : ℕ) (fields : List ℕ) → length fields ≤ most → most ≤ 8191 → length (kind ∷ fields) ≤ frame_limit version
-with_kind version kind most fields few small = let room = frame_room version in omega (arith, few, small, room)
+few_lines : (n most : ℕ) (a : Bool) → (nat_le n most && a) ≡ true → n ≤ most
+few_lines n most a e = leb-true n most (both_true (nat_le n most) a e).0
+
+shown_data : (version : WireVersion) (g : Grant) (bytes : List ℕ) (most : ℕ) → most ≤ data_limit version → (is_shown_grant g && nat_le (length bytes) most) ≡ true → (is_shown_grant g && nat_lt (length bytes) (256 ^ length_width version)) ≡ true
+shown_data version g bytes most small w =
+    let few = few_bytes (is_shown_grant g) (length bytes) most w in
+    rw ((both_true (is_shown_grant g) (nat_le (length bytes) most) w).0, lt-ltb (length bytes) (256 ^ length_width version) (omega (arith, few, small, data_fits version))) refl
+
+-- what is within the limits has a spelling
+pub within_spellable : (version : WireVersion) (r : Reply) → is_within_limits version r ≡ true → is_spellable version r ≡ true
+within_spellable version (Data g bytes) w = shown_data version g bytes (data_limit version) (omega arith) w
+within_spellable version (Attr g bytes) w = shown_data version g bytes 256 (some_data version) w
+within_spellable version r w = w
+
+-- and room for it is room for its frame
+pub within_room : (version : WireVersion) (r : Reply) → is_within_limits version r ≡ true → 4 + body_room version r ≤ reply_room version (data_in r)
+within_room version (Data g bytes) w = let few = few_bytes (is_shown_grant g) (length bytes) (data_limit version) w in omega (arith, few)
+within_room version (Attr g bytes) w =
+    let few = few_bytes (is_shown_grant g) (length bytes) 256 w in
+    let width = width_small version in
+    omega (arith, few, width)
+within_room version (Names lines more) w = let few = few_lines (length lines) 64 (list_all is_page_line lines) w in omega (arith, few)
+within_room version (Audit lines more) w = let few = few_lines (length lines) 32 (list_all is_audit_line lines) w in omega (arith, few)
+within_room version r w = omega arith
+
+-- the same where less data was known of
+pub frame_short : (version : WireVersion) (r : Reply) (count : ℕ) → (reply version).fits r ≡ true → is_within_limits version r ≡ true → data_in r ≤ count → 4 + length ((reply version).spell r) ≤ reply_room version count
+frame_short version r count e w few =
+    let own = body_short version r e in
+    let room = within_room version r w in
+    omega (arith, own, room, few)
 
 pub spelled_short : (version : WireVersion) (r : Reply) → (reply version).fits r ≡ true → is_within_limits version r ≡ true → length ((reply version).spell r) ≤ frame_limit version
-spelled_short version Done e w = with_kind version 0 0 [] (omega arith) (omega arith)
-spelled_short version (Made o) e w = with_kind version 1 8 (object.spell o) (object_short.most o e) (omega arith)
-spelled_short version (Data g bytes) e w = let short = read_short version g bytes e (few_bytes (is_shown_grant g) (length bytes) (data_limit version) w) in omega (arith, short)
-spelled_short version (Attr g bytes) e w =
-    let few : length bytes ≤ 256 = few_bytes (is_shown_grant g) (length bytes) 256 w in
-    let some = some_data version in
-    let short = read_short version g bytes e (omega (arith, few, some)) in
-    omega (arith, short)
-spelled_short version (Entry g i who rights) e w = with_kind version 4 16 ((grant & (index & (user & rights_given))).spell (g, (i, (who, rights)))) (entry_short.most (g, (i, (who, rights))) e) (omega arith)
-spelled_short version (Mounted g o) e w = with_kind version 5 18 ((grant & object).spell (g, o)) (mounted_short.most (g, o) e) (omega arith)
-spelled_short version (Names lines more) e w = with_kind version 6 3266 ((list_up_to 64 name_line & flag).spell (lines, more)) (names_short.most (lines, more) e) (omega arith)
-spelled_short version (Audit lines more) e w = with_kind version 7 610 ((list_up_to 32 audit_line & flag).spell (lines, more)) (audit_short.most (lines, more) e) (omega arith)
-spelled_short version (Refused r) e w = with_kind version 8 13 (refusal.spell r) (refusal_short r e) (omega arith)
+spelled_short version r e w =
+    let own = frame_short version r (data_in r) e w (omega arith) in
+    let room = room_in_frame version (data_in r) in
+    omega (arith, own, room)
+
+pub spelled_few : (version : WireVersion) (r : Reply) → (reply version).fits r ≡ true → is_within_limits version r ≡ true → length ((reply version).spell r) < 2 ^ 32
+spelled_few version r e w =
+    let own = spelled_short version r e w in
+    let most = frame_fits version in
+    omega (arith, own, most)
 
 -- a reply whose spelling is longer than a frame isn't within the limits
 pub longer_exceeds : (version : WireVersion) (r : Reply) → (reply version).fits r ≡ true → frame_limit version < length ((reply version).spell r) → is_within_limits version r ≡ false

@@ -10,3 +10,4 @@ pub mod Readings
 pub mod Writings
 pub mod Texts
 pub mod Fits
+pub mod Rooms

@@ -15,13 +15,14 @@ ghost use Rattle.std.specs.Prelude.{
   IsTrue,
   true,
 };
-ghost use Rattle.s4_types.specs.Limits.{is_within_limits};
+ghost use Rattle.s4_types.specs.Limits.{data_in, is_within_limits};
 ghost use Rattle.s4_types.specs.declared.principal.WireVersion.{WireVersion};
 ghost use Rattle.s4_types.specs.declared.reply.Reply as told;
 ghost use Rattle.s4_types.specs.declared.request.Request as asked;
 ghost use Rattle.s4_codec.specs.Table.{all_hold, bytes_of_all, row_of, row_of_reply, IsRow};
 ghost use Rattle.s4_codec.specs.Format.{AreBytes, IsPrefixFree, IsReadBack, IsSpelledAsRead};
 ghost use Rattle.s4_codec.specs.Frames.{framed, front_of, Whole};
+ghost use Rattle.s4_codec.specs.Rooms.{reply_room};
 ghost use Rattle.s4_codec.specs.Versions.{frame_limit};
 ghost use Rattle.s4_codec.specs.Fits.{fit, frames};
 ghost use Rattle.s4_codec.specs.Parts as parts;
@@ -135,6 +136,11 @@ pub fn framed_bodies_are_read_back()
 pub fn replies_within_limits_have_spellings()
     ensures spelled { (version : WireVersion) (r : told.Reply) → IsTrue ((reply version).fits r)
         → IsTrue (is_within_limits version r) → IsTrue (has_body version r) }
+    // What it takes of room is known before it is made.
+    ensures room { (version : WireVersion) (r : told.Reply) (count : ℕ)
+        → IsTrue ((reply version).fits r) → IsTrue (is_within_limits version r)
+        → data_in r ≤ count
+        → length (framed ((reply version).spell r)) ≤ reply_room version count }
     ensures read { (version : WireVersion) (r : told.Reply) → IsTrue (has_body version r)
         → reply_in version ((reply version).spell r) ≡ Some r }
     ensures framed { (version : WireVersion) (r : told.Reply) (rest : List ℕ)

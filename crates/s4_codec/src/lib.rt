@@ -5,10 +5,14 @@ mod error;
 mod frames;
 mod input;
 mod laws;
+mod put_lines;
+mod put_parts;
+mod put_replies;
 mod read_lines;
 mod read_parts;
 mod read_replies;
 mod read_requests;
+mod room;
 mod write_lines;
 mod write_parts;
 mod write_replies;
@@ -22,6 +26,7 @@ pub use laws::{
     read_values_are_spelled, replies_within_limits_have_spellings, spelled_values_are_read_back,
     spellings_are_in_the_table,
 };
+pub use put_replies::{put_reply, reply_room};
 pub use read_parts::{read_block, read_byte, read_principal, read_u32};
 pub use read_replies::read_reply;
 pub use read_requests::read_request;
