@@ -20,7 +20,8 @@ use Rattle.s4_drive.specs.Step.{Steps, Answers}
 use Rattle.s4_stream.specs.declared.event.Event.{Event}
 use Rattle.s4_stream.specs.declared.event.Event.TheVariants.{Welcome, Request, Fault}
 use Rattle.s4_stream.specs.declared.event.SessionFault as kinds
-use Rattle.s4_stream.specs.Talk.{sent_for, welcome, fault_frame, reply_frame}
+use Rattle.s4_stream.specs.Talk.{sent_for, welcome, fault_frame, reply_frame, requests_in}
+use Rattle.s4_stream.proofs.Joined.{sent_for-append}
 use Rattle.s4_session.specs.Arrivals.{versions_of}
 use Rattle.s4_session.specs.Answered.{steps_by, Answered}
 
@@ -52,22 +53,17 @@ carried_out-append (steps.Request t caller r ∷ xs) ys (x ∷ told) more e =
 pub without-append : (xs ys : List Reply) → without_no_memory (xs ++ ys) ≡ without_no_memory xs ++ without_no_memory ys
 without-append xs ys = filter-append (λ r. not (is_no_memory r)) xs ys
 
+pub count_steps : (t : ℕ) (events : List Event) → request_count (steps_by t events) ≡ requests_in events
+count_steps t [] = refl
+count_steps t (Welcome caller ∷ events) = count_steps t events
+count_steps t (Request caller r ∷ events) = ap (λ (n : ℕ). n + 1) (count_steps t events)
+count_steps t (Fault f ∷ events) = count_steps t events
+
 pub steps_by-append : (t : ℕ) (xs ys : List Event) → steps_by t (xs ++ ys) ≡ steps_by t xs ++ steps_by t ys
 steps_by-append t [] ys = refl
 steps_by-append t (Welcome caller ∷ xs) ys = steps_by-append t xs ys
 steps_by-append t (Request caller r ∷ xs) ys = ap (λ (w : List Step). steps.Request t caller r ∷ w) (steps_by-append t xs ys)
 steps_by-append t (Fault f ∷ xs) ys = steps_by-append t xs ys
-
-pub sent_for-append : (t : ℕ) (xs ys : List Event) (told more : List Reply) → length told ≡ request_count (steps_by t xs) → sent_for (xs ++ ys) (told ++ more) ≡ sent_for xs told ++ sent_for ys more
-sent_for-append t [] ys [] more e = refl
-sent_for-append t [] ys (x ∷ told) more e = absurd (omega (arith, e))
-sent_for-append t (Welcome caller ∷ xs) ys told more e =
-    ap (λ (w : List ℕ). welcome caller.version ++ w) (sent_for-append t xs ys told more e) ∙ sym (append_assoc (welcome caller.version) (sent_for xs told) (sent_for ys more))
-sent_for-append t (Request caller r ∷ xs) ys [] more e = absurd (omega (arith, e))
-sent_for-append t (Request caller r ∷ xs) ys (x ∷ told) more e =
-    ap (λ (w : List ℕ). reply_frame caller.version x ++ w) (sent_for-append t xs ys told more (omega (arith, e))) ∙ sym (append_assoc (reply_frame caller.version x) (sent_for xs told) (sent_for ys more))
-sent_for-append t (Fault f ∷ xs) ys told more e =
-    ap (λ (w : List ℕ). fault_frame f ++ w) (sent_for-append t xs ys told more e) ∙ sym (append_assoc (fault_frame f) (sent_for xs told) (sent_for ys more))
 
 -- ---- versions
 
@@ -119,7 +115,7 @@ answered_then t xs ys a b c p q r one two =
           ∙ ap (λ (w : List Reply). replies_in a.history ++ w) (sym (without-append one.replies two.replies));
       sent = two.sent ∙ ap (λ (w : List ℕ). w ++ sent_for ys two.replies) one.sent
           ∙ append_assoc p (sent_for xs one.replies) (sent_for ys two.replies)
-          ∙ ap (λ (w : List ℕ). p ++ w) (sym (sent_for-append t xs ys one.replies two.replies one.each));
+          ∙ ap (λ (w : List ℕ). p ++ w) (sym (sent_for-append xs ys one.replies two.replies (one.each ∙ count_steps t xs)));
     }
 
 -- ---- one event

@@ -27,7 +27,8 @@ use Rattle.s4_session.specs.Sent.{replies_on, sent_by}
 use Rattle.s4_session.specs.Answered.{steps_by, Answered}
 use Rattle.s4_session.specs.Halls.{Hall, fresh, session_of, session_after, heard_on, Takes, StandsAfter, Adds}
 use Rattle.s4_stream.proofs.Cuts.{hear_cut}
-use Rattle.s4_session.proofs.Answering.{steps_on-append, request_count-append, carried_out-append, without-append, sent_for-append, fit_joined}
+use Rattle.s4_stream.proofs.Joined.{versions_in-append, versions_count, sent_for-append}
+use Rattle.s4_session.proofs.Answering.{steps_on-append, request_count-append, carried_out-append, without-append, count_steps, fit_joined}
 
 same_number : (c : ℕ) → eqb c c ≡ true
 same_number c = eq-eqb c c refl
@@ -72,18 +73,6 @@ moment_swept from (Sweep k ∷ arrivals) n = moment_swept from arrivals n
 moment_swept from (Arrive d m first ∷ arrivals) n = moment_swept m arrivals n
 
 -- ---- events
-
-count_steps : (t : ℕ) (events : List Event) → request_count (steps_by t events) ≡ requests_in events
-count_steps t [] = refl
-count_steps t (Welcome caller ∷ events) = count_steps t events
-count_steps t (Request caller r ∷ events) = ap (λ (n : ℕ). n + 1) (count_steps t events)
-count_steps t (Fault f ∷ events) = count_steps t events
-
-requests_in-append : (xs ys : List Event) → requests_in (xs ++ ys) ≡ requests_in xs + requests_in ys
-requests_in-append [] ys = omega arith
-requests_in-append (Welcome caller ∷ xs) ys = requests_in-append xs ys
-requests_in-append (Request caller r ∷ xs) ys = omega (arith, requests_in-append xs ys)
-requests_in-append (Fault f ∷ xs) ys = requests_in-append xs ys
 
 -- what the events ask on the connection
 abbrev pub asked_of : ℕ → ℕ → List Event → List Asked
@@ -214,18 +203,6 @@ versions_there c d t (Request caller r ∷ events) e =
     let rest : List WireVersion = versions_on d (asked_of c t events) in
     ap (λ (b : Bool). cond b (caller.version ∷ rest) rest) e ∙ versions_there c d t events e
 
-versions_in-append : (xs ys : List Event) → versions_in (xs ++ ys) ≡ versions_in xs ++ versions_in ys
-versions_in-append [] ys = refl
-versions_in-append (Welcome caller ∷ xs) ys = versions_in-append xs ys
-versions_in-append (Request caller r ∷ xs) ys = ap (λ (w : List WireVersion). caller.version ∷ w) (versions_in-append xs ys)
-versions_in-append (Fault f ∷ xs) ys = versions_in-append xs ys
-
-versions_count : (events : List Event) → length (versions_in events) ≡ requests_in events
-versions_count [] = refl
-versions_count (Welcome caller ∷ events) = versions_count events
-versions_count (Request caller r ∷ events) = omega (arith, versions_count events)
-versions_count (Fault f ∷ events) = versions_count events
-
 -- ---- those who ask on a connection are those whom its stream says
 
 abbrev told_versions : ℕ → Logins → List HallStep → List WireVersion
@@ -342,11 +319,11 @@ module _ (window : ℕ) (logins : Logins) (arrivals : List HallStep) (told : Lis
   bytes_here =
       let old : List Event = events_of logins (stream_of c arrivals) in
       let mine : List Reply = replies_on c (asked_in logins arrivals) told in
-      let count : length mine ≡ request_count (steps_by t old) = replies_length c (asked_in logins arrivals) told st.each ∙ count_in c logins arrivals ∙ sym (count_steps t old) in
+      let count : length mine ≡ requests_in old = replies_length c (asked_in logins arrivals) told st.each ∙ count_in c logins arrivals in
       ap (λ (w : List ℕ). sent_for (events_of logins w) (replies_on c (asked_in logins now) (told ++ more))) (stream_here c t piece arrivals)
       ∙ ap (λ (w : List Event). sent_for w (replies_on c (asked_in logins now) (told ++ more))) (events_more logins arrivals c piece)
       ∙ ap (sent_for (old ++ heard.events)) (asked_now c ∙ ap (λ (w : List Reply). mine ++ w) (replies_here c t heard.events more (answered.each ∙ count_steps t heard.events)))
-      ∙ sent_for-append t old heard.events mine more count
+      ∙ sent_for-append old heard.events mine more count
       ∙ ap (λ (w : List ℕ). sent_for old mine ++ w) (sym answered.sent)
 
   bytes_there : (d : ℕ) → eqb c d ≡ false → sent_by d logins now (told ++ more) ≡ sent_by d logins arrivals told

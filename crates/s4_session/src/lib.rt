@@ -14,6 +14,6 @@ pub use hall_step::HallStep;
 pub use laws::{each_request_has_one_reply, sent_bytes_determine_replies};
 pub use s4_stream::{
     Event, FAULT, FeedError, Hello, LoginFault, Logins, Session, SessionFault, SessionState,
-    VERSION, WELCOME, connections_speak_in_order, cuts_change_nothing, hellos_have_one_spelling,
+    WELCOME, connections_speak_in_order, cuts_change_nothing, hellos_have_one_spelling,
     principal_in, secret_in,
 };

@@ -1,8 +1,7 @@
 //! The connections of a hall.
 
-ghost use Rattle.std.specs.Prelude.{◌≡◌, ◌==◌, All, ℕ, [], Some, false, unwrap_or, IfOk, OnOk};
+ghost use Rattle.std.specs.Prelude.{◌≡◌, ◌==◌, ℕ, [], Some, false, unwrap_or, IfOk, OnOk};
 ghost use Rattle.s4_session.specs.Halls.{session_of, fresh, heard_on, Feeds};
-ghost use Rattle.s4_stream.specs.First.{NamesFirst};
 
 use s4_stream::{Event, Logins, Session};
 use s4_types::NoMemory;
@@ -41,7 +40,6 @@ impl Sessions {
     pub fn feed(&mut self, logins: &Logins, conn: u32, piece: &[u8]) -> Result<Vec<Event>, NoMemory>
         ensures events { IfOk result
             (λ events. events.items ≡ (heard_on logins.now conn self.old piece.now).events) }
-        ensures first { IfOk result (λ events. All NamesFirst events.items) }
         ensures sessions { OnOk result (Feeds logins.now conn piece.now self.old self.new) }
     {
         self.open(conn)?;

@@ -6,3 +6,5 @@ pub mod Hellos
 pub mod LoginLines
 pub mod LoginExamples
 pub mod Compared
+pub mod Rooms
+pub mod Joined

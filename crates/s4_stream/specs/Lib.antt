@@ -4,5 +4,4 @@ pub mod Hello
 pub mod Rows
 pub mod Stream
 pub mod Feeding
-pub mod Rooms
 pub mod Talk

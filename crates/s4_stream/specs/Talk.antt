@@ -7,7 +7,7 @@ use Rattle.s4_types.specs.declared.principal.WireVersion.{WireVersion}
 use Rattle.s4_types.specs.Limits.{data_asked, number_of_version}
 use Rattle.s4_codec.specs.Frames.{framed}
 use Rattle.s4_codec.specs.Replies.{reply}
-use Rattle.s4_stream.specs.Rooms.{reply_room}
+use Rattle.s4_codec.specs.Rooms.{reply_room}
 use Rattle.s4_stream.specs.declared.event.Event.{Event}
 use Rattle.s4_stream.specs.declared.event.Event.TheVariants.{Welcome, Request, Fault}
 use Rattle.s4_stream.specs.declared.event.SessionFault as kinds

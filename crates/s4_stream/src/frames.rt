@@ -2,11 +2,11 @@
 
 ghost use Rattle.std.specs.Prelude.{◌≡◌, ◌≤◌, ◌++◌, ◌∷◌, [], OnOk};
 ghost use Rattle.s4_codec.specs.Frames.{framed};
-ghost use Rattle.s4_stream.specs.Rooms.{reply_room};
 ghost use Rattle.s4_stream.specs.Talk.{welcome, fault_frame, room_for};
 
 use crate::event::{Event, SessionFault};
 use bytes::BytesMut;
+use s4_codec::reply_room;
 use s4_types::{NoMemory, WireVersion};
 
 /// The kind of the body that answers a good Hello.
@@ -53,15 +53,4 @@ fn put_notice(out: &mut BytesMut, kind: u8, number: u8)
     ensures { out.new.items ≡ out.old.items ++ framed (kind ∷ number ∷ []) }
 {
     out.extend_reserved(&[0, 0, 0, 2, kind, number]);
-}
-
-fn reply_room(version: WireVersion, count: u32) -> usize
-    ensures { result ≡ reply_room version count }
-{
-    let width = match version {
-        WireVersion::One => 2,
-        WireVersion::Two => 4,
-    };
-    let given = count.min(version.data_limit()) as usize;
-    4 + (11 + width + given).max(3271)
 }

@@ -168,11 +168,7 @@ impl Session {
     /// The next event that is held, taken once there is room in `out` for the frame that answers it.
     /// There is none where no whole frame is held, and after a fault. Where a growth was refused all
     /// is as it was.
-    pub fn next(
-        &mut self,
-        logins: &Logins,
-        out: &mut BytesMut,
-    ) -> Result<Option<Event>, NoMemory>
+    pub fn next(&mut self, logins: &Logins, out: &mut BytesMut) -> Result<Option<Event>, NoMemory>
         ensures next { IfOk result (λ event. TakesNext logins.now self.old self.new event) }
         ensures room { IfOk result
             (λ event. IfSome event (λ some. room_for some ≤ out.new.spare)) }

@@ -1,73 +1,87 @@
-//! What is heard is served.
+//! What a session holds is served.
 
-ghost use Rattle.std.specs.Prelude.{All, ◌∷◌, [], is_ok};
-ghost use Rattle.s4_stream.specs.First.{NamesFirst};
-ghost use Rattle.s4_talk.specs.Turning.{Serves, Takes, told};
+ghost use Rattle.std.specs.Prelude.{◌≡◌, ◌≤◌, ◌∷◌, []};
+ghost use Rattle.s4_stream.specs.Talk.{room_for};
+ghost use Rattle.s4_talk.specs.Turning.{FaultIsMet, Serves, ServesSo, Takes, told};
 
 use crate::answer::Answer;
 use bytes::BytesMut;
-use s4_stream::{
-    Event, Logins, Session, SessionFault, add_fault, add_reply, add_welcome, reserve_frame,
-};
+use s4_codec::put_reply;
+use s4_stream::{Event, Logins, Session, SessionFault, put_fault, put_welcome};
 use s4_types::NoMemory;
 
-/// Hears a piece and serves the frames that it makes whole.
-pub fn take_piece<A: Answer>(
+/// How many frames a turn serves at most.
+const FRAMES: usize = 64;
+
+/// Once so many bytes wait to be written, a turn serves no further frame.
+const BYTES: usize = 65536;
+
+/// How much of what a session holds was served.
+#[derive(Clone, Copy, Debug, PartialEq, Eq)]
+pub enum Service {
+    /// Nothing, since it held no whole frame.
+    Nothing,
+    /// All whole frames.
+    All,
+    /// As much as is enough for a turn. It may hold more.
+    Enough,
+}
+
+/// Serves the whole frames that the session holds, in turn, until that is enough or there is no
+/// memory for one. A frame for which there was none is still held.
+pub fn serve_held<A: Answer>(
     session: &mut Session,
     fault: &mut Option<SessionFault>,
     waiting: &mut BytesMut,
     logins: &Logins,
-    piece: &[u8],
     answer: &mut A,
-) -> Result<(), NoMemory>
-    ensures { Takes (is_ok result) logins.now piece.now (A.calls answer.old) (A.calls answer.new)
+) -> Result<Service, NoMemory>
+    requires { FaultIsMet session.old fault.old }
+    ensures takes { Takes logins.now [] (A.calls answer.old) (A.calls answer.new)
         (told session.old fault.old waiting.old.items)
         (told session.new fault.new waiting.new.items) }
+    ensures so { ServesSo result logins.now (told session.old fault.old waiting.old.items)
+        (told session.new fault.new waiting.new.items) }
+    ensures met { FaultIsMet session.new fault.new }
 {
-    let events = session.hear(logins, piece)?;
-    serve_all(fault, waiting, events, answer)
-}
-
-/// Serves events in turn, until there is no memory for one. Their callers speak version 1.
-fn serve_all<A: Answer>(
-    fault: &mut Option<SessionFault>,
-    waiting: &mut BytesMut,
-    events: Vec<Event>,
-    answer: &mut A,
-) -> Result<(), NoMemory>
-    requires { All NamesFirst events.items }
-    ensures { Serves (is_ok result) events.items (A.calls answer.old) (A.calls answer.new)
-        fault.old fault.new waiting.old.items waiting.new.items }
-{
-    for event in events {
-        serve(fault, waiting, event, answer)?;
+    for served in 0..FRAMES {
+        let Some(event) = session.next(logins, waiting)? else {
+            return Ok(if served == 0 {
+                Service::Nothing
+            } else {
+                Service::All
+            });
+        };
+        serve(fault, waiting, event, answer);
+        if waiting.len() >= BYTES {
+            return Ok(Service::Enough);
+        }
     }
-    Ok(())
+    Ok(Service::Enough)
 }
 
-/// Serves an event: a good Hello by the Welcome, a request by its reply, a fault by its frame. Room
-/// for the greatest frame is made before a request is handed on.
+/// Serves an event in room that is there: a good Hello by the Welcome, a request by its reply, a
+/// fault by its frame.
 fn serve<A: Answer>(
     fault: &mut Option<SessionFault>,
     waiting: &mut BytesMut,
     event: Event,
     answer: &mut A,
-) -> Result<(), NoMemory>
-    requires { NamesFirst event }
-    ensures { Serves (is_ok result) (event ∷ []) (A.calls answer.old) (A.calls answer.new)
+)
+    requires { room_for event ≤ waiting.old.spare }
+    ensures { Serves (event ∷ []) (A.calls answer.old) (A.calls answer.new)
         fault.old fault.new waiting.old.items waiting.new.items }
 {
-    reserve_frame(waiting)?;
     match event {
-        Event::Welcome(_) => add_welcome(waiting)?,
+        Event::Welcome(caller) => put_welcome(waiting, caller.version),
         Event::Request(caller, request) => {
+            let version = caller.version;
             let reply = answer.answer(caller, request);
-            add_reply(waiting, &reply)?;
+            put_reply(version, waiting, &reply);
         }
         Event::Fault(told) => {
-            add_fault(waiting, told)?;
+            put_fault(waiting, told);
             *fault = Some(told);
         }
     }
-    Ok(())
 }

@@ -2,12 +2,12 @@
 
 ghost use Rattle.std.specs.Prelude.{◌≡◌, [], length};
 ghost use Rattle.s4_stream.specs.Stream.{caller_at};
-ghost use Rattle.s4_talk.specs.Turning.{EndsSo, Intakes, IntakesSo, Sends, Turns, TurnsSo, is_served, is_whole, fresh_talk, scene, told};
+ghost use Rattle.s4_talk.specs.Turning.{FaultIsMet, Intakes, IntakesSo, Sends, Turns, TurnsSo, fresh_talk, scene, told};
 
 use crate::answer::Answer;
-use crate::serving::take_piece;
+use crate::serving::{Service, serve_held};
 use bytes::BytesMut;
-use s4_stream::{Logins, Session, SessionFault};
+use s4_stream::{FillError, Logins, Session, SessionFault};
 use s4_types::Caller;
 use std::alloc::Global;
 use std::io::{ErrorKind, Read, Write};
@@ -31,8 +31,10 @@ pub enum TalkEnd {
 /// How a turn ends.
 #[derive(Clone, Copy, Debug, PartialEq, Eq)]
 pub enum TurnEnd {
-    /// There may be more to read.
+    /// There may be more to read. All that was read is served.
     More,
+    /// Enough was served for a turn. What was read may say more, which the next turn serves.
+    Enough,
     /// Nothing is there to read now. All is written.
     Waits,
     /// The writer takes nothing now, and something waits to be written.
@@ -41,13 +43,14 @@ pub enum TurnEnd {
     Ended(TalkEnd),
 }
 
-/// The most bytes that a turn reads.
-const PIECE: usize = 4096;
+/// The most bytes that the buffer of what waits keeps where nothing waits.
+const KEPT: usize = 16384;
 
-/// A talk with a peer that goes on: where its session stands, the fault that ended that, and the
-/// bytes that wait to be written.
+/// A talk with a peer that goes on: its session, the fault that ended that, and the bytes that wait
+/// to be written.
 #[derive(Drop)]
 pub struct Talking {
+    alloc: Global,
     session: Session,
     fault: Option<SessionFault>,
     waiting: BytesMut,
@@ -59,6 +62,10 @@ impl Model for Talking {
     ghost Value = { Told };
 
     ghost view = { λ t. told t.session t.fault t.waiting.items };
+
+    ghost use Rattle.s4_talk.specs.Turning.{FaultIsMet};
+
+    ghost invariant = { λ t. FaultIsMet t.session t.fault };
 }
 
 impl Talking {
@@ -67,16 +74,18 @@ impl Talking {
         ensures { result ≡ fresh_talk }
     {
         Talking {
+            alloc,
             session: Session::open(alloc),
             fault: None,
             waiting: BytesMut::new(alloc),
         }
     }
 
-    /// Writes what waits, and then reads once, serves the whole frames of what was read, and writes
-    /// what they are answered. It waits where the reader, the writer or the answer does; with a
-    /// reader and a writer that tell `WouldBlock` it ends by `Waits` or `Stuck`, and goes on at the
-    /// next turn. A read or a write that was interrupted is tried again.
+    /// Writes what waits, serves whole frames, and writes what they are answered. It reads once
+    /// where it holds no whole frame, and serves 64 frames at most, and none once 65536 bytes wait.
+    /// It waits where the reader, the writer or the answer does; with a reader and a writer that
+    /// tell `WouldBlock` it ends by `Waits` or `Stuck`, and goes on at the next turn. A read or a
+    /// write that was interrupted is tried again.
     pub fn turn<R: Read, W: Write, A: Answer>(
         &mut self,
         logins: &Logins,
@@ -84,21 +93,25 @@ impl Talking {
         writer: &mut W,
         answer: &mut A,
     ) -> TurnEnd
-        // Of what was read a beginning is served, each frame once and in order, and what it is
-        // answered is written behind what waited, or waits. A beginning is all of it, but for want
-        // of memory.
-        ensures turns { Turns (is_whole result) logins.now
+        // Of what is held and read a beginning is served, each frame once and in order, and what it
+        // is answered is written behind what waited, or waits. The rest is held.
+        ensures turns { Turns logins.now
             (scene (R.remaining reader.old) (W.contents writer.old) (A.calls answer.old) self.old)
             (scene (R.remaining reader.new) (W.contents writer.new) (A.calls answer.new) self.new) }
         // What each end says.
-        ensures so { TurnsSo result (R.remaining reader.new) self.new }
+        ensures so { TurnsSo result logins.now (R.remaining reader.new) self.new }
     {
         let Talking {
+            alloc,
             session,
             fault,
             waiting,
         } = self;
-        turn(session, fault, waiting, logins, reader, writer, answer)
+        let end = turn(session, fault, waiting, logins, reader, writer, answer);
+        if waiting.is_empty() && waiting.capacity() > KEPT {
+            *waiting = BytesMut::new(*alloc);
+        }
+        end
     }
 
     /// Who calls in this talk, after a good Hello and up to a fault.
@@ -132,13 +145,15 @@ fn turn<R: Read, W: Write, A: Answer>(
     writer: &mut W,
     answer: &mut A,
 ) -> TurnEnd
-    ensures turns { Turns (is_whole result) logins.now
+    requires { FaultIsMet session.old fault.old }
+    ensures turns { Turns logins.now
         (scene (R.remaining reader.old) (W.contents writer.old) (A.calls answer.old)
         (told session.old fault.old waiting.old.items))
         (scene (R.remaining reader.new) (W.contents writer.new) (A.calls answer.new)
         (told session.new fault.new waiting.new.items)) }
-    ensures so { TurnsSo result
+    ensures so { TurnsSo result logins.now
         (R.remaining reader.new) (told session.new fault.new waiting.new.items) }
+    ensures met { FaultIsMet session.new fault.new }
 {
     match send(waiting, writer) {
         Sending::All => {}
@@ -148,13 +163,14 @@ fn turn<R: Read, W: Write, A: Answer>(
     if let Some(told) = *fault {
         return TurnEnd::Ended(TalkEnd::Faulted(told));
     }
-    match take_in(session, fault, waiting, logins, reader, answer) {
-        Intake::Served => {}
+    let end = match take_in(session, fault, waiting, logins, reader, answer) {
+        Intake::Served => TurnEnd::More,
+        Intake::Enough => TurnEnd::Enough,
         Intake::Waits => return TurnEnd::Waits,
         Intake::AtEnd => return TurnEnd::Ended(TalkEnd::PeerClosed),
         Intake::Failed => return TurnEnd::Ended(TalkEnd::ReadFailed),
         Intake::NoMemory => return TurnEnd::Ended(TalkEnd::NoMemory),
-    }
+    };
     match send(waiting, writer) {
         Sending::All => {}
         Sending::Later => return TurnEnd::Stuck,
@@ -163,20 +179,21 @@ fn turn<R: Read, W: Write, A: Answer>(
     if let Some(told) = *fault {
         return TurnEnd::Ended(TalkEnd::Faulted(told));
     }
-    TurnEnd::More
+    end
 }
 
 /// What a read came to.
 #[derive(Clone, Copy, Debug, PartialEq, Eq)]
 enum Intake {
     Served,
+    Enough,
     Waits,
     AtEnd,
     Failed,
     NoMemory,
 }
 
-/// Reads once, and serves the whole frames.
+/// Serves whole frames. Where none is held it reads once, and serves those that are held then.
 fn take_in<R: Read, A: Answer>(
     session: &mut Session,
     fault: &mut Option<SessionFault>,
@@ -185,23 +202,33 @@ fn take_in<R: Read, A: Answer>(
     reader: &mut R,
     answer: &mut A,
 ) -> Intake
-    ensures takes { Intakes (is_served result) logins.now
+    requires met { FaultIsMet session.old fault.old }
+    requires none { fault.old ≡ None }
+    ensures takes { Intakes logins.now
         (R.remaining reader.old) (R.remaining reader.new)
         (A.calls answer.old) (A.calls answer.new)
         (told session.old fault.old waiting.old.items)
         (told session.new fault.new waiting.new.items) }
-    ensures so { IntakesSo result (R.remaining reader.new)
+    ensures so { IntakesSo result logins.now (R.remaining reader.new)
         (told session.old fault.old waiting.old.items)
         (told session.new fault.new waiting.new.items) }
+    ensures met { FaultIsMet session.new fault.new }
 {
-    let mut piece = [0; PIECE];
-    match reader.read(&mut piece) {
+    match serve_held(session, fault, waiting, logins, answer) {
+        Ok(Service::Nothing) => {}
+        Ok(Service::All) => return Intake::Served,
+        Ok(Service::Enough) => return Intake::Enough,
+        Err(_) => return Intake::NoMemory,
+    }
+    match session.fill(reader) {
         Ok(0) => Intake::AtEnd,
-        Ok(n) => match take_piece(session, fault, waiting, logins, &piece[..n], answer) {
-            Ok(()) => Intake::Served,
+        Ok(_) => match serve_held(session, fault, waiting, logins, answer) {
+            Ok(Service::Nothing) | Ok(Service::All) => Intake::Served,
+            Ok(Service::Enough) => Intake::Enough,
             Err(_) => Intake::NoMemory,
         },
-        Err(error) => match error.kind() {
+        Err(FillError::NoMemory) => Intake::NoMemory,
+        Err(FillError::Failed(error)) => match error.kind() {
             ErrorKind::WouldBlock => Intake::Waits,
             ErrorKind::Interrupted => Intake::Served,
             _ => Intake::Failed,

@@ -11,7 +11,8 @@ returns-clause-next c =
     let bytes : List ℕ = c.args.self.now.pending in
     let stands : StandsFirst logins c.args.self.now.state bytes (Some next) = search rules in
     let state-is : c.give_back.new.self.state ≡ state_after next.event = search rules in
-    let left : c.give_back.new.self.pending ≡ drop next.count bytes = search rules in
-    (state-is,
-    next_then logins c.args.self.now.state bytes next stands
-    ∙ ap (after_events (next.event ∷ [])) (ap (λ (l : List ℕ). hear logins (state_after next.event) l) (sym left) ∙ ap (λ s. hear logins s c.give_back.new.self.pending) (sym state-is)))
+    let left : c.give_back.new.self.pending ≡ drop next.count bytes = search rules in (
+      state-is,
+      next_then logins c.args.self.now.state bytes next stands
+          ∙ ap (after_events (next.event ∷ [])) (ap (λ (l : List ℕ). hear logins (state_after next.event) l) (sym left) ∙ ap (λ s. hear logins s c.give_back.new.self.pending) (sym state-is)),
+    )

@@ -1,0 +1,32 @@
+use Rattle.std.proofs.Common.{rules, ◌≡◌, ◌∙◌, [], Some, arith}
+use Rattle.s4_stream.specs.Feeding.{TakesNext}
+use Rattle.s4_talk.specs.Turning.{FaultIsMet, Takes, told}
+use Rattle.s4_talk.proofs.Laws.{Takes-then, Takes-next, met_next}
+use Rattle.s4_talk.proofs.serving.serve_held.Goals as goal
+
+pub returns-then-len-ge-BYTES-clause-takes : goal.returns-then-len-ge-BYTES-clause-takes
+returns-then-len-ge-BYTES-clause-takes g c =
+    let logins = c.args.logins.now in
+    let next : TakesNext logins c.loop-served.session c.next.new.self (Some c.in-Some.event) = search rules in
+    Takes-then logins [] [] _ _ _ (told c.args.session.now c.args.fault.now c.args.waiting.now.items) (told c.loop-served.session c.loop-served.fault c.loop-served.waiting.items)
+    (told c.next.new.self c.serve.new.fault c.serve.new.waiting.items) c.loop-served.invariant.takes
+    (Takes-next logins _ _ c.loop-served.session c.next.new.self c.loop-served.fault c.serve.new.fault c.loop-served.waiting.items c.serve.new.waiting.items c.in-Some.event next
+    (rw c.in_ok-event.ensures.out at c.serve.ensures))
+
+pub returns-then-len-ge-BYTES-clause-met : goal.returns-then-len-ge-BYTES-clause-met
+returns-then-len-ge-BYTES-clause-met g c =
+    let next : TakesNext c.args.logins.now c.loop-served.session c.next.new.self (Some c.in-Some.event) = search rules in
+    met_next c.args.logins.now c.loop-served.session c.next.new.self c.loop-served.fault c.serve.new.fault c.in-Some.event c.loop-served.invariant.met next c.serve.ensures.faulted
+
+pub loop-served-preserved : goal.loop-served-preserved
+loop-served-preserved g c =
+    let logins = c.args.logins.now in
+    let next : TakesNext logins c.loop-served.session c.next.new.self (Some c.in-Some.event) = search rules in
+    record {
+      met = met_next logins c.loop-served.session c.next.new.self c.loop-served.fault c.serve.new.fault c.in-Some.event c.loop-served.invariant.met next c.serve.ensures.faulted;
+      takes = Takes-then logins [] [] _ _ _ (told c.args.session.now c.args.fault.now c.args.waiting.now.items) (told c.loop-served.session c.loop-served.fault c.loop-served.waiting.items)
+          (told c.next.new.self c.serve.new.fault c.serve.new.waiting.items) c.loop-served.invariant.takes
+          (Takes-next logins _ _ c.loop-served.session c.next.new.self c.loop-served.fault c.serve.new.fault c.loop-served.waiting.items c.serve.new.waiting.items c.in-Some.event next
+          (rw c.in_ok-event.ensures.out at c.serve.ensures));
+      none = λ e. absurd (omega (arith, e));
+    }
