@@ -3,7 +3,7 @@
 ghost use Rattle.std.specs.Prelude.{◌≡◌, ◌<◌, ◌≤◌, true, false, length, IsTrue, IfOk, OnOk, OnErr};
 ghost use Rattle.s4_types.specs.Answer.{answer as answer_of};
 ghost use Rattle.s4_types.specs.Kinds.{is_wide};
-ghost use Rattle.s4_types.specs.Limits.{is_within_limits};
+ghost use Rattle.s4_types.specs.Limits.{data_asked, data_in, is_within_limits};
 ghost use Rattle.s4_types.specs.Play.{last_of, is_no_memory};
 ghost use Rattle.s4_types.specs.Log.{base_of};
 ghost use Rattle.s4_cells.specs.Many.{Each, AllAdd, AllStay, AreReady, wide_record};
@@ -30,6 +30,7 @@ pub fn wide(cells: &mut [Cell], moment: Moment, caller: Caller, request: &Reques
         }) cells.old cells.new }
     ensures refused { is_no_memory result ≡ true → AllStay cells.old cells.new }
     ensures limits { IsTrue (is_within_limits caller.version result) }
+    ensures asked { data_in result ≤ data_asked request.now }
 {
     match wide_with_copy(cells, moment, caller, request) {
         Ok(told) => told.reply,
@@ -60,6 +61,7 @@ pub fn wide_with_copy(
         }) cells.old cells.new) }
     ensures refused { OnErr result (AllStay cells.old cells.new) }
     ensures limits { IfOk result (λ told. IsTrue (is_within_limits caller.version told.reply)) }
+    ensures asked { IfOk result (λ told. data_in told.reply ≤ data_asked request.now) }
 {
     make_ready(cells, request)?;
     Ok(step_all(cells, moment, caller, request))
@@ -87,6 +89,7 @@ fn step_all(cells: &mut [Cell], moment: Moment, caller: Caller, request: &Reques
     ensures copy { result.copy ≡ result.reply }
     ensures adds { AllAdd (wide_record moment caller request.now) cells.old cells.new }
     ensures limits { IsTrue (is_within_limits caller.version result.reply) }
+    ensures asked { data_in result.reply ≤ data_asked request.now }
 {
     let mut told = Answered {
         reply: Reply::Done,

@@ -22,3 +22,4 @@ pub mod Fresh
 pub mod BoundInTurn
 pub mod Ruled
 pub mod BoundApplied
+pub mod Asked

@@ -9,7 +9,7 @@ mod principals;
 mod purses;
 mod values;
 
-pub use answers::answers_are_never_want_of_memory;
+pub use answers::{answers_are_never_want_of_memory, answers_give_no_more_than_was_asked};
 pub use horizons::{horizons_are_by_rule, horizons_depend_on_wide_changes, horizons_never_go_back};
 pub use principals::strangers_change_nothing;
 pub use purses::{purses_depend_on_their_records, spending_depends_on_its_purse};

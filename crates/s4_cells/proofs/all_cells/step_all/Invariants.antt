@@ -1,5 +1,5 @@
-use Rattle.std.proofs.Common.{◌≡◌, ◌<◌, IsTrue}
-use Rattle.s4_types.specs.Limits.{is_within_limits}
+use Rattle.std.proofs.Common.{◌≡◌, ◌<◌, ◌≤◌, IsTrue}
+use Rattle.s4_types.specs.Limits.{data_asked, data_in, is_within_limits}
 use Rattle.s4_cells.specs.Many.{FirstAdd, wide_record}
 use Rattle.s4_cells.proofs.all_cells.step_all.Given as goal
 
@@ -12,4 +12,5 @@ invariant-loop-place l =
       told : 0 < l.place → l.told.reply ≡ r.reply;
       copy : l.told.copy ≡ l.told.reply;
       limits : IsTrue (is_within_limits l.caller.version l.told.reply);
+      asked : data_in l.told.reply ≤ data_asked l.request;
     }
