@@ -67,7 +67,7 @@ steps_by-append t (Fault f ∷ xs) ys = steps_by-append t xs ys
 
 -- ---- versions
 
-versions_of-append : (xs ys : List Step) → versions_of (xs ++ ys) ≡ versions_of xs ++ versions_of ys
+pub versions_of-append : (xs ys : List Step) → versions_of (xs ++ ys) ≡ versions_of xs ++ versions_of ys
 versions_of-append [] ys = refl
 versions_of-append (steps.Sweep n ∷ xs) ys = versions_of-append xs ys
 versions_of-append (steps.Request t caller r ∷ xs) ys = ap (λ (w : List WireVersion). caller.version ∷ w) (versions_of-append xs ys)

@@ -4,7 +4,9 @@ use Rattle.std.specs.Prelude.{unwrap_or, IfOk, Result, Ok, Err}
 use Rattle.std.specs.Global.{Vec}
 use Rattle.std.proofs.lemmas.Bool.{eqb-true}
 use Rattle.std.proofs.lemmas.List.{append-nil, map-append, take_more}
+use Rattle.s4_types.specs.declared.principal.WireVersion.{WireVersion}
 use Rattle.s4_types.specs.declared.reply.Reply.{Reply}
+use Rattle.s4_codec.specs.Fits.{fit}
 use Rattle.s4_types.specs.declared.record.Step.{Step}
 use Rattle.s4_types.specs.declared.record.Step.TheVariants as steps
 use Rattle.s4_types.specs.Base.{opened}
@@ -16,13 +18,13 @@ use Rattle.s4_session.specs.declared.hall_step.HallStep.{HallStep}
 use Rattle.s4_session.specs.declared.hall_step.HallStep.TheVariants.{Arrive, Sweep}
 use Rattle.s4_stream.specs.declared.event.SessionState.TheVariants.{Greeting}
 use Rattle.s4_stream.specs.Logins.{Logins}
-use Rattle.s4_session.specs.Arrivals.{stream_of, occurs, moment_after, asked_in, Asked, Sweeps, step_of, requests_of}
+use Rattle.s4_session.specs.Arrivals.{stream_of, occurs, moment_after, asked_in, Asked, Sweeps, step_of, requests_of, versions_of}
 use Rattle.s4_stream.specs.Stream.{hear, events_of}
 use Rattle.s4_stream.specs.Feeding.{left_by}
 use Rattle.s4_stream.specs.Talk.{sent_for}
 use Rattle.s4_session.specs.Sent.{AreRising, lists_of, bytes_for, sent_by, replies_on, AreReplies, IsSent}
 use Rattle.s4_session.specs.Halls.{Hall, IsFresh, session_of, session_after, Takes, StandsAfter, Adds, Leaves}
-use Rattle.s4_session.proofs.Answering.{steps_on-append, request_count-append, carried_out-append}
+use Rattle.s4_session.proofs.Answering.{steps_on-append, request_count-append, carried_out-append, versions_of-append}
 use Rattle.s4_session.proofs.Arriving.{stream_more, occurs_more, moment_swept, asked_more, adds, no_stream, replies_more}
 use Rattle.s4_session.proofs.Isolating.{isolates}
 
@@ -66,7 +68,8 @@ module _ (window : ℕ) (logins : Logins) (arrivals : List HallStep) (told : Lis
         sessions = λ c. st.sessions c ∙ ap (λ (b : Bool). cond b (Some (session_after c logins arrivals)) None) (sym (swept_occurs c))
             ∙ ap (λ (w : List ℕ). cond (occurs c (arrivals ++ Sweep n ∷ [])) (Some (left_by (hear logins Greeting w))) None) (sym (swept_stream c));
         each = rw swept_requests (omega (arith, st.each, request_count-append reqs (steps.Sweep n ∷ [])));
-        bodies = st.bodies;
+        bodies = ap (λ (w : List Step). fit (versions_of w) told) swept_requests
+            ∙ ap (λ (w : List WireVersion). fit w told) (versions_of-append reqs (steps.Sweep n ∷ []) ∙ append-nil (versions_of reqs)) ∙ st.bodies;
         log = ap (swept n) st.log ∙ sym (steps_on-append (fresh_log window) (carried_out reqs told) (steps.Sweep n ∷ []))
             ∙ ap (steps_on (fresh_log window)) (sym (carried_out-append reqs (steps.Sweep n ∷ []) told [] st.each))
             ∙ ap (λ (w : List Reply). steps_on (fresh_log window) (carried_out (reqs ++ steps.Sweep n ∷ []) w)) (append-nil told)
