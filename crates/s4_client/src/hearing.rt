@@ -11,16 +11,17 @@ ghost use Rattle.s4_client.specs.declared.fault.CallFault.TheVariants as fault;
 
 use crate::fault::CallFault;
 use s4_codec::{ReadError, frame_limit, read_reply};
-use s4_stream::{FAULT, SessionFault, VERSION, WELCOME};
+use s4_stream::{FAULT, SessionFault, WELCOME};
 use s4_types::{Reply, WireVersion};
 use std::alloc::Global;
 use std::io::{ErrorKind, Read, Write};
 
-/// Sends a message, as `message` makes it, and hears what is answered: the Welcome, and then the
-/// reply. `Session` where a fault is told in place of one of them; `ConnectionLost` where the
+/// Sends a message, as `message` makes it of a Hello of that version, and hears what is answered:
+/// the Welcome, and then the reply. `Session` where a fault is told in place of one of them; `ConnectionLost` where the
 /// reader or the writer fails or ends before, or where something else is told.
 #[tactic(auto, using(crate::proofs::Chains::consumes_both))]
 pub fn call<R: Read, W: Write>(
+    version: WireVersion,
     alloc: Global,
     reader: &mut R,
     writer: &mut W,
@@ -32,13 +33,15 @@ pub fn call<R: Read, W: Write>(
         (Appends (W.contents writer.old) (W.contents writer.new) message.now) }
     // What was heard is the Welcome and the frame of the reply, or ends by the frame of the fault.
     ensures reply { IfOk result (λ reply. Consumes
-        (R.remaining reader.old) (R.remaining reader.new) (welcome ++ reply_frame reply)) }
-    ensures fault { IfFault result (HearsFault (R.remaining reader.old) (R.remaining reader.new)) }
+        (R.remaining reader.old) (R.remaining reader.new)
+        (welcome version ++ reply_frame version reply)) }
+    ensures fault { IfFault result
+        (HearsFault version (R.remaining reader.old) (R.remaining reader.new)) }
     ensures met { IfErr result IsMet }
 {
     send(writer, message)?;
-    hear_welcome(alloc, reader)?;
-    hear_reply(alloc, reader)
+    hear_welcome(version, alloc, reader)?;
+    hear_reply(version, alloc, reader)
 }
 
 /// Writes all of the bytes.
@@ -78,50 +81,58 @@ fn send_some<W: Write>(writer: &mut W, bytes: &[u8]) -> Result<usize, CallFault>
     }
 }
 
-/// Hears the Welcome.
-fn hear_welcome<R: Read>(alloc: Global, reader: &mut R) -> Result<(), CallFault>
+/// Hears the Welcome of the version.
+fn hear_welcome<R: Read>(
+    version: WireVersion,
+    alloc: Global,
+    reader: &mut R,
+) -> Result<(), CallFault>
     ensures welcome { OnOk result
-        (Consumes (R.remaining reader.old) (R.remaining reader.new) welcome) }
+        (Consumes (R.remaining reader.old) (R.remaining reader.new) (welcome version)) }
     ensures fault { IfFault result
         (λ f. Consumes (R.remaining reader.old) (R.remaining reader.new) (fault_frame f)) }
     ensures met { IfErr result IsMet }
 {
-    let body = hear_body(alloc, reader)?;
+    let body = hear_body(frame_limit(WireVersion::One), alloc, reader)?;
     match body.as_slice() {
-        [WELCOME, VERSION] => Ok(()),
+        [WELCOME, number] if *number == version.number() => Ok(()),
         said => Err(fault_in(said)),
     }
 }
 
 /// Hears the reply.
-fn hear_reply<R: Read>(alloc: Global, reader: &mut R) -> Result<Reply, CallFault>
-    ensures reply { IfOk result
-        (λ reply. Consumes (R.remaining reader.old) (R.remaining reader.new) (reply_frame reply)) }
+fn hear_reply<R: Read>(
+    version: WireVersion,
+    alloc: Global,
+    reader: &mut R,
+) -> Result<Reply, CallFault>
+    ensures reply { IfOk result (λ reply. Consumes
+        (R.remaining reader.old) (R.remaining reader.new) (reply_frame version reply)) }
     ensures fault { IfFault result
         (λ f. Consumes (R.remaining reader.old) (R.remaining reader.new) (fault_frame f)) }
     ensures met { IfErr result IsMet }
 {
-    let body = hear_body(alloc, reader)?;
-    match read_reply(WireVersion::One, alloc, body.as_slice()) {
+    let body = hear_body(frame_limit(version), alloc, reader)?;
+    match read_reply(version, alloc, body.as_slice()) {
         Ok(reply) => Ok(reply),
         Err(ReadError::Malformed) => Err(fault_in(body.as_slice())),
         Err(ReadError::NoMemory) => Err(CallFault::NoMemory),
     }
 }
 
-/// Hears a frame, and gives its body.
+/// Hears a frame whose body has at most `limit` bytes, and gives that.
 #[tactic(auto, using(crate::proofs::Chains::consumes_both))]
-fn hear_body<R: Read>(alloc: Global, reader: &mut R) -> Result<Vec<u8>, CallFault>
+fn hear_body<R: Read>(limit: usize, alloc: Global, reader: &mut R) -> Result<Vec<u8>, CallFault>
     ensures body { IfOk result
         (λ body. Consumes (R.remaining reader.old) (R.remaining reader.new) (framed body.items)) }
     ensures lost { IfErr result IsLoss }
 {
-    let length = hear_length(reader)?;
+    let length = hear_length(limit, reader)?;
     hear_bytes(alloc, reader, length as usize)
 }
 
-/// Hears the length of a body, in four bytes.
-fn hear_length<R: Read>(reader: &mut R) -> Result<u32, CallFault>
+/// Hears the length of a body, in four bytes: at most that.
+fn hear_length<R: Read>(limit: usize, reader: &mut R) -> Result<u32, CallFault>
     ensures length { IfOk result
         (λ length. Consumes
         (R.remaining reader.old) (R.remaining reader.new) (big_bytes 4 length)) }
@@ -130,7 +141,7 @@ fn hear_length<R: Read>(reader: &mut R) -> Result<u32, CallFault>
     let mut head = [0; 4];
     fill(reader, &mut head)?;
     let length = length_in(head);
-    if length == 0 || length as usize > frame_limit(WireVersion::One) {
+    if length == 0 || length as usize > limit {
         return Err(CallFault::ConnectionLost);
     }
     Ok(length)

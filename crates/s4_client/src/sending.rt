@@ -1,8 +1,7 @@
 //! What a call sends.
 
-ghost use Rattle.std.specs.Prelude.{◌≡◌, ◌<◌, ◌≤◌, ◌++◌, ◌⊎◌, ℕ, List, IfErr, IfOk, IsErrOf, OnOk, length};
+ghost use Rattle.std.specs.Prelude.{◌≡◌, ◌<◌, ◌≤◌, ◌^◌, ◌++◌, ◌⊎◌, ℕ, List, IfErr, IfOk, IsErrOf, OnOk, length};
 ghost use Rattle.byteorder.specs.Endian.{big_bytes};
-ghost use Rattle.s4_types.specs.declared.principal.WireVersion.TheVariants.{One};
 ghost use Rattle.s4_codec.specs.Frames.{framed};
 ghost use Rattle.s4_codec.specs.Requests.{IsRequestBody};
 ghost use Rattle.s4_codec.specs.Versions.{frame_limit};
@@ -14,22 +13,22 @@ use crate::fault::CallFault;
 use byteorder::{BigEndian, ByteOrder};
 use bytes::BytesMut;
 use s4_codec::{WriteError, write_request};
-use s4_stream::{Hello, add_frame};
-use s4_types::{NoMemory, Request, WireVersion};
+use s4_stream::Hello;
+use s4_types::{NoMemory, Request};
 use std::alloc::Global;
 
 /// The code of a Hello.
 const HELLO: u8 = 0;
 
-/// The bytes of a call: the frame of its Hello, and then that of its request. `BadRequest` where
-/// the request has no spelling within a frame.
+/// The bytes of a call: the frame of its Hello, and then that of its request, in the Hello's
+/// version. `BadRequest` where the request has no spelling within a frame of that.
 pub fn message(alloc: Global, hello: &Hello, request: &Request) -> Result<Vec<u8>, CallFault>
     ensures message { IfOk result (λ message. message.items ≡ message_of hello.now request.now) }
     ensures bad { IsErrOf result fault.BadRequest
-        → (body : List ℕ) → IsRequestBody One body request.now → ⊥ }
+        → (body : List ℕ) → IsRequestBody hello.now.caller.version body request.now → ⊥ }
     ensures why { IfErr result (λ why. (why ≡ fault.BadRequest) ⊎ (why ≡ fault.NoMemory)) }
 {
-    let body = match write_request(WireVersion::One, alloc, request) {
+    let body = match write_request(hello.caller.version, alloc, request) {
         Ok(body) => body,
         Err(WriteError::TooBig) => return Err(CallFault::BadRequest),
         Err(WriteError::NoMemory) => return Err(CallFault::NoMemory),
@@ -38,9 +37,9 @@ pub fn message(alloc: Global, hello: &Hello, request: &Request) -> Result<Vec<u8
 }
 
 /// The frame of a Hello, and then that of a body.
+#[tactic(auto, using(crate::proofs::Limits::in_four_bytes))]
 fn framed(alloc: Global, hello: &Hello, body: &[u8]) -> Result<Vec<u8>, NoMemory>
-    requires some { 0 < length body.now }
-    requires limit { length body.now ≤ frame_limit One }
+    requires { length body.now ≤ frame_limit hello.now.caller.version }
     ensures { IfOk result
         (λ message. message.items ≡ framed (format.hello.spell hello.now) ++ framed body.now) }
 {
@@ -48,6 +47,17 @@ fn framed(alloc: Global, hello: &Hello, body: &[u8]) -> Result<Vec<u8>, NoMemory
     add_frame(&mut message, write_hello(alloc, hello)?.as_slice())?;
     add_frame(&mut message, body)?;
     Ok(message.into_vec()?)
+}
+
+/// Adds the frame of a body.
+fn add_frame(out: &mut BytesMut, body: &[u8]) -> Result<(), NoMemory>
+    requires { length body.now < 2 ^ 32 }
+    ensures { OnOk result (out.new.items ≡ out.old.items ++ framed body.now) }
+{
+    let mut length = [0; 4];
+    BigEndian::write_u32(&mut length, body.len() as u32);
+    out.extend_from_slice(&length)?;
+    out.extend_from_slice(body)
 }
 
 /// The body that spells a Hello, 26 bytes.
