@@ -2,7 +2,8 @@
 use Rattle.std.specs.Prelude.{◌≡◌, ◌≢◌, ◌==◌, ℕ, Bool, false, ◌∷◌, Option, Some, List, [], codes, string_bytes, unwrap_or, bytes_eq, if◌then◌else◌}
 use Rattle.clap.specs.Matches.{first_value}
 use Rattle.clap.specs.declared.parser.matches.Found.{Found}
-use Rattle.s4_types.specs.declared.principal.WireVersion.TheVariants.{One}
+use Rattle.s4_types.specs.declared.principal.WireVersion.{WireVersion}
+use Rattle.s4_types.specs.declared.principal.WireVersion.TheVariants.{One, Two}
 use Rattle.s4_command.specs.declared.command.Command.{Command}
 use Rattle.s4_command.specs.declared.command.Command.TheVariants as command
 use Rattle.s4_stream.specs.LoginText.{principal_in, secret_in}
@@ -21,11 +22,16 @@ abbrev pub names_file : List ℕ → Bool
 names_file [] = false
 names_file (first ∷ rest) = first == 64
 
--- it is the Hello, by version 1 of the wire, that the words of the command line spell; of the secret in a file nothing is said
+-- the word of a version of the wire
+abbrev pub version_word : WireVersion → List ℕ
+version_word One = codes "1"
+version_word Two = codes "2"
+
+-- it is the Hello that the words of the command line spell; of the secret in a file nothing is said
 pub record IsHelloOf (found : Found) (hello : Hello) : Type 0 where
   pub who : principal_in (word_of found (codes "WHO")) ≡ Some hello.caller.who
   pub client : client_in (word_of found (codes "CLIENT")) ≡ Some hello.caller.client
-  pub version : hello.caller.version ≡ One
+  pub version : word_of found (codes "wire") ≡ version_word hello.caller.version
   pub secret : names_file (word_of found (codes "SECRET")) ≡ false → secret_in (word_of found (codes "SECRET")) ≡ Some hello.secret
 
 -- a script is to be struck for a principal other than the administrator

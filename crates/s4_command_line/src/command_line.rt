@@ -8,13 +8,13 @@ ghost use Rattle.clap.specs.Values.{kind_of};
 ghost use Rattle.s4_stream.specs.LoginText.{principal_in};
 ghost use Rattle.s4_command.specs.Faults.{IsFaultOf};
 ghost use Rattle.s4_command.specs.declared.fault.WordsFault.TheVariants as fault;
-ghost use Rattle.s4_command_line.specs.Words.{IsCallOf, IsForTenant, IsHelloOf, client_in, word_of};
+ghost use Rattle.s4_command_line.specs.Words.{IsCallOf, IsForTenant, IsHelloOf, client_in, version_word, word_of};
 
 use crate::history::history;
 use crate::meaning::{all_meant, secret_of};
 use crate::parser::{
     ADDRESS, CELLS, CLIENT, CONNECTIONS, CUT, FIRST, HELLO, IDLE, JOURNAL, LOGINS, OPEN, RELOAD,
-    SECRET, SETUP, STATUS, SYNC, UNTIL, WAIT, WHO, WINDOW, WORD, WORKERS, parser,
+    SECRET, SETUP, STATUS, SYNC, UNTIL, WAIT, WHO, WINDOW, WIRE, WORD, WORKERS, parser,
 };
 use clap::error::ErrorKind;
 use clap::{ArgMatches, Error};
@@ -223,12 +223,31 @@ fn hello<R: Files + AllocGlobal>(rt: &R, words: &ArgMatches) -> Result<Hello, Wo
     let Some(secret) = secret_of(rt, word(words, SECRET))? else {
         return Err(misfit(alloc, SECRET, "32 hexadecimal digits"));
     };
+    let version = version(alloc, words)?;
     let caller = Caller {
         who,
         client,
-        version: WireVersion::One,
+        version,
     };
     Ok(Hello { caller, secret })
+}
+
+/// The version of the wire that a call speaks.
+fn version(alloc: Global, words: &ArgMatches) -> Result<WireVersion, WordsFault>
+    ensures { IfOk result
+        (λ version. word_of (found_of words.now) (codes "wire") ≡ version_word version) }
+{
+    match word(words, WIRE) {
+        "1" => Ok(WireVersion::One),
+        "2" => Ok(WireVersion::Two),
+        word => {
+            let text = format!(in alloc;
+                "error: invalid value '{word}' for '--{WIRE} <VERSION>': it isn't 1 or 2\n\n\
+                 For more information, try '--help'."
+            )?;
+            Err(WordsFault::Wrong(text))
+        }
+    }
 }
 
 /// The word of that name, or an empty one where there is none.

@@ -70,8 +70,10 @@ pub const SECRET: &str = "SECRET";
 
 pub const WORD: &str = "WORD";
 
-/// The flag of a call.
+/// The flags of a call.
 pub const WAIT: &str = "wait";
+
+pub const WIRE: &str = "wire";
 
 /// The arguments of a history: what is told, and of which folder.
 pub const TELLING: &str = "TELLING";
@@ -321,7 +323,12 @@ fn call_parser<'a>(alloc: Global) -> Result<Parser<'a>, AllocError> {
         "How many milliseconds it is tried to connect again",
         "0",
     );
-    parser.arg(word.num_args(1..))?.arg(wait)
+    let wire = Arg::new(alloc, WIRE)
+        .long(WIRE)
+        .value_name("VERSION")
+        .help("The version of the wire that it speaks, 1 or 2")
+        .default_value("1");
+    parser.arg(word.num_args(1..))?.arg(wire)?.arg(wait)
 }
 
 /// Adds the arguments that say who calls.

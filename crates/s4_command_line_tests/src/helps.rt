@@ -112,8 +112,9 @@ Arguments:
   <WORD>...  The request, as in a line of a script from its verb on; @ and a file for what it has
 
 Options:
-      --wait <N>  How many milliseconds it is tried to connect again [default: 0]
-  -h, --help      Print help
+      --wire <VERSION>  The version of the wire that it speaks, 1 or 2 [default: 1]
+      --wait <N>        How many milliseconds it is tried to connect again [default: 0]
+  -h, --help            Print help
 
 Example: s4d call 127.0.0.1:4710 7 1 000102030405060708090a0b0c0d0e0f read 7.0.1 0 100 at 9
 docs/SCRIPTS.md has the words and the replies; \"Calls\" there says what else is told.

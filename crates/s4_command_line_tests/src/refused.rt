@@ -233,7 +233,7 @@ pub const FLAGS: &[Row] = &[
     ),
 ];
 
-/// Flags without a value, and a call's wait that is out of its bounds or no number.
+/// Flags without a value, and a call's wait or version that is out of its bounds or no number.
 pub const VALUES: &[Row] = &[
     Row(
         b"s4d|serve|nowhere|first.logins|--cells",
@@ -266,6 +266,18 @@ pub const VALUES: &[Row] = &[
     Row(
         b"s4d|call|--wait|1s|nowhere|7|1|000102030405060708090a0b0c0d0e0f|create|0",
         Refused("invalid value for '--wait <N>': it isn't a number from 0 to 18446744073709551615"),
+    ),
+    Row(
+        b"s4d|call|nowhere|7|1|000102030405060708090a0b0c0d0e0f|create|0|--wire",
+        Refused("a value is required for '--wire <VERSION>' but none was supplied"),
+    ),
+    Row(
+        b"s4d|call|--wire|3|nowhere|7|1|000102030405060708090a0b0c0d0e0f|create|0",
+        Refused("invalid value '3' for '--wire <VERSION>': it isn't 1 or 2"),
+    ),
+    Row(
+        b"s4d|call|--wire|01|nowhere|7|1|000102030405060708090a0b0c0d0e0f|create|0",
+        Refused("invalid value '01' for '--wire <VERSION>': it isn't 1 or 2"),
     ),
 ];
 

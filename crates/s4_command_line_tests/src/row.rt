@@ -78,6 +78,8 @@ pub enum Wanted {
     Call(u32, u32, Asked),
     /// The same, where it is tried to connect for so many milliseconds.
     PatientCall(u32, u32, Asked, u64),
+    /// They ask for a call by version 2 of the wire.
+    CallInTwo(u32, u32, Asked),
     /// They ask for a list of the start of this number in `a folder/kept`, between these moments.
     Listed(Option<u64>, u64, u64),
     /// They ask for a list of the newest start in `a folder/kept`, as lines of JSON.
@@ -199,10 +201,14 @@ fn is_command(alloc: Global, command: &Command, wanted: &Wanted) -> Result<bool,
             Ok(keeps && is_service(service, &settings, 0, &[None; 3]))
         },
         (Command::Call(call), Wanted::Call(who, client, asked)) => {
-            Ok(*call == call_of(alloc, *who, *client, asked)?)
+            Ok(*call == call_of(alloc, WireVersion::One, *who, *client, asked)?)
         }
         (Command::Call(call), Wanted::PatientCall(who, client, asked, wait)) => {
-            Ok(*call == call_of(alloc, *who, *client, asked)?.waiting(*wait))
+            let patient = call_of(alloc, WireVersion::One, *who, *client, asked)?;
+            Ok(*call == patient.waiting(*wait))
+        }
+        (Command::Call(call), Wanted::CallInTwo(who, client, asked)) => {
+            Ok(*call == call_of(alloc, WireVersion::Two, *who, *client, asked)?)
         }
         (Command::History(history), Wanted::Listed(start, from, to)) => {
             Ok(*history == history_of(alloc, Telling::List, *start, *from, *to)?)
@@ -275,12 +281,18 @@ fn is_fault(alloc: Global, fault: &WordsFault, wanted: &Wanted) -> Result<bool, 
 }
 
 /// The call of that principal and client for what is asked.
-fn call_of(alloc: Global, who: u32, client: u32, asked: &Asked) -> Result<Call, Fail> {
+fn call_of(
+    alloc: Global,
+    version: WireVersion,
+    who: u32,
+    client: u32,
+    asked: &Asked,
+) -> Result<Call, Fail> {
     let who = Principal::new(who).ok_or("a principal")?;
     let caller = Caller {
         who,
         client,
-        version: WireVersion::One,
+        version,
     };
     let secret = [0, 1, 2, 3, 4, 5, 6, 7, 8, 9, 10, 11, 12, 13, 14, 15];
     let request = request_of(alloc, asked)?;

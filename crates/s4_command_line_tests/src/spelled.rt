@@ -113,4 +113,12 @@ pub const CALLS: &[Row] = &[
             |--wait|18446744073709551615",
         PatientCall(7, 1, Read, u64::MAX),
     ),
+    Row(
+        b"s4d|call|--wire|1|nowhere|7|1|000102030405060708090a0b0c0d0e0f|create|0",
+        Call(7, 1, Create(0)),
+    ),
+    Row(
+        b"s4d|call|--wire|2|nowhere|7|1|000102030405060708090a0b0c0d0e0f|create|0",
+        CallInTwo(7, 1, Create(0)),
+    ),
 ];

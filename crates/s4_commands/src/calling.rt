@@ -78,15 +78,18 @@ pub fn call_over<R: Read, W: Write, O: Write>(
         (message_of call.now.hello call.now.request) }
     ensures all_sent { OnOk result (Appends (W.contents writer.old) (W.contents writer.new)
         (message_of call.now.hello call.now.request)) }
-    ensures told { OnOk result (TellsReply (R.remaining reader.old) (R.remaining reader.new)
+    ensures told { OnOk result (TellsReply call.now.hello.caller.version
+        (R.remaining reader.old) (R.remaining reader.new)
         (O.contents output.old) (O.contents output.new)) }
     // A fault of the session is told where the peer told it, and then no reply is.
     ensures fault { (f : faults.SessionFault) → IsErrOf result (fault.Call (call_fault.Session f))
-        → HearsFault (R.remaining reader.old) (R.remaining reader.new) f }
+        → HearsFault call.now.hello.caller.version
+        (R.remaining reader.old) (R.remaining reader.new) f }
     ensures silent { (why : call_faults.CallFault) → IsErrOf result (fault.Call why)
         → Keeps (O.contents output.old) (O.contents output.new) }
 {
-    let reply = s4_client::call(alloc, reader, writer, call.message())?;
+    let version = call.hello.caller.version;
+    let reply = s4_client::call(version, alloc, reader, writer, call.message())?;
     tell(output, &reply)?;
     Ok(())
 }

@@ -2,7 +2,7 @@
 
 ghost use Rattle.std.specs.Prelude.{◌≡◌, false, IsTrue};
 ghost use Rattle.std_alloc.specs.Arc.{arc_value};
-ghost use Rattle.s4_talk.specs.Turning.{Turns, TurnsSo, is_whole, fresh_talk, scene};
+ghost use Rattle.s4_talk.specs.Turning.{Turns, TurnsSo, fresh_talk, scene};
 ghost use Rattle.s4_server.specs.Desks.{calls_told};
 
 use crate::clock::Ticks;
@@ -47,13 +47,14 @@ impl Conversation {
         reader: &mut I,
         writer: &mut O,
     ) -> TurnEnd
-        // The pass gains the calls that the bytes which were read ask for, each once and in order.
-        ensures turns { Turns (is_whole result) (arc_value self.old.logins)
+        // The pass gains the calls that the frames which were served ask for, each once and in order.
+        ensures turns { Turns (arc_value self.old.logins)
             (scene (I.remaining reader.old) (O.contents writer.old)
             (calls_told desk.old.pass.calls) self.old.talking)
             (scene (I.remaining reader.new) (O.contents writer.new)
             (calls_told desk.new.pass.calls) self.new.talking) }
-        ensures so { TurnsSo result (I.remaining reader.new) self.new.talking }
+        ensures so { TurnsSo result (arc_value self.old.logins) (I.remaining reader.new)
+            self.new.talking }
         ensures table { self.new.logins ≡ self.old.logins }
     {
         let Conversation {

@@ -46,11 +46,16 @@ impl Opening {
 
     /// The caller whom a good Hello names.
     pub fn caller(&self) -> Option<Caller> {
-        let [.., a, b, c, d] = self.bytes;
+        let [_, _, _, _, _, number, _, _, _, _, a, b, c, d] = self.bytes;
+        let version = match number {
+            1 => WireVersion::One,
+            2 => WireVersion::Two,
+            _ => return None,
+        };
         Some(Caller {
             who: Principal::new(self.who())?,
             client: u32::from_be_bytes([a, b, c, d]),
-            version: WireVersion::One,
+            version,
         })
     }
 }

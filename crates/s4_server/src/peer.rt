@@ -131,7 +131,7 @@ impl Peer {
         desk.connection = self.entrant.connection;
         for _ in 0..TURNS {
             match self.talk(shared, desk, now) {
-                Some(TurnEnd::More) => {}
+                Some(TurnEnd::More) | Some(TurnEnd::Enough) => {}
                 Some(TurnEnd::Waits) | Some(TurnEnd::Stuck) => return Next::Waits,
                 Some(TurnEnd::Ended(TalkEnd::Faulted(_))) => return self.leave(now),
                 Some(TurnEnd::Ended(end)) => return Next::Over(parting_of(end)),
