@@ -171,15 +171,20 @@ page_short most n f F xs more e =
     let sum = length-append (flat_map f.spell xs) (flag.spell more) in
     omega (arith, all, last, sum)
 
-read_short : (version : WireVersion) (g : Grant) (bytes : List ℕ) → (grant & byte_string version).fits (g, bytes) ≡ true → length ((grant & byte_string version).spell (g, bytes)) ≤ 10 + (length_width version + length bytes)
+width_small : (version : WireVersion) → length_width version ≤ 4
+width_small One = omega arith
+width_small Two = omega arith
+
+read_short : (version : WireVersion) (g : Grant) (bytes : List ℕ) → (grant & byte_string version).fits (g, bytes) ≡ true → length ((grant & byte_string version).spell (g, bytes)) ≤ 14 + length bytes
 read_short version g bytes e =
     let own = grant_short.most g (both_true (grant.fits g) ((byte_string version).fits bytes) e).0 in
     let size = (width_is version).len (length bytes) in
     let sum = length-append (grant.spell g) ((byte_string version).spell bytes) in
     let parts = length-append (big_bytes (length_width version) (length bytes)) bytes in
-    omega (arith, own, size, sum, parts)
+    let width = width_small version in
+    omega (arith, own, size, sum, parts, width)
 
-pub body_short : (version : WireVersion) (r : Reply) → (reply version).fits r ≡ true → length ((reply version).spell r) ≤ body_room version r
+pub body_short : (version : WireVersion) (r : Reply) → (reply version).fits r ≡ true → length ((reply version).spell r) ≤ body_room r
 body_short version Done e = omega arith
 body_short version (Made o) e = let own = object_short.most o e in omega (arith, own)
 body_short version (Data g bytes) e = let own = read_short version g bytes e in omega (arith, own)
@@ -191,10 +196,6 @@ body_short version (Audit lines more) e = let own = page_short 32 19 audit_line 
 body_short version (Refused r) e = let own = refusal_short r e in omega (arith, own)
 
 -- ---- frames of each version
-
-width_small : (version : WireVersion) → length_width version ≤ 4
-width_small One = omega arith
-width_small Two = omega arith
 
 data_fits : (version : WireVersion) → data_limit version < 256 ^ length_width version
 data_fits One = omega arith
@@ -230,12 +231,9 @@ within_spellable version (Attr g bytes) w = shown_data version g bytes 256 (some
 within_spellable version r w = w
 
 -- and room for it is room for its frame
-pub within_room : (version : WireVersion) (r : Reply) → is_within_limits version r ≡ true → 4 + body_room version r ≤ reply_room version (data_in r)
+pub within_room : (version : WireVersion) (r : Reply) → is_within_limits version r ≡ true → 4 + body_room r ≤ reply_room version (data_in r)
 within_room version (Data g bytes) w = let few = few_bytes (is_shown_grant g) (length bytes) (data_limit version) w in omega (arith, few)
-within_room version (Attr g bytes) w =
-    let few = few_bytes (is_shown_grant g) (length bytes) 256 w in
-    let width = width_small version in
-    omega (arith, few, width)
+within_room version (Attr g bytes) w = let few = few_bytes (is_shown_grant g) (length bytes) 256 w in omega (arith, few)
 within_room version (Names lines more) w = let few = few_lines (length lines) 64 (list_all is_page_line lines) w in omega (arith, few)
 within_room version (Audit lines more) w = let few = few_lines (length lines) 32 (list_all is_audit_line lines) w in omega (arith, few)
 within_room version r w = omega arith

@@ -1,15 +1,13 @@
 //! Frames.
 
-ghost use Rattle.std.specs.Prelude.{◌≡◌};
+ghost use Rattle.std.specs.Prelude.{◌≡◌, ◌^◌, nat_lt};
 ghost use Rattle.s4_codec.specs.Frames.{front_of};
 ghost use Rattle.s4_codec.specs.Versions as versions;
+ghost use Rattle.s4_codec.specs.Versions.{length_width};
 ghost use Rattle.s4_codec.specs.Fronts.{lists_of};
 
 use byteorder::{BigEndian, ByteOrder};
 use s4_types::WireVersion;
-
-/// How many bytes most bodies without data have at most.
-pub const USUAL_LENGTH: usize = 64;
 
 /// The most bytes that the body of a request or a reply has: 8192 by version 1, and 131072 by
 /// version 2.
@@ -19,6 +17,16 @@ pub fn frame_limit(version: WireVersion) -> usize
     match version {
         WireVersion::One => 8192,
         WireVersion::Two => 131072,
+    }
+}
+
+/// Whether so many bytes of data have a length that can be spelled.
+pub fn has_length(version: WireVersion, count: usize) -> bool
+    ensures { result ≡ nat_lt count (256 ^ length_width version) }
+{
+    match version {
+        WireVersion::One => count < 1 << 16,
+        WireVersion::Two => count < 1 << 32,
     }
 }
 

@@ -8,13 +8,12 @@ mod laws;
 mod put_lines;
 mod put_parts;
 mod put_replies;
+mod put_requests;
 mod read_lines;
 mod read_parts;
 mod read_replies;
 mod read_requests;
 mod room;
-mod write_lines;
-mod write_parts;
 mod write_replies;
 mod write_requests;
 

@@ -1,4 +1,4 @@
-//! Putting the parts of replies into room that is there.
+//! Putting the parts of requests and replies into room that is there.
 
 ghost use Rattle.std.specs.Prelude.{◌+◌, ◌<◌, ◌^◌, ◌≤◌, length, IsTrue};
 ghost use Rattle.s4_types.specs.Limits.{is_shown_grant};
@@ -10,8 +10,8 @@ ghost use Rattle.s4_codec.specs.Writings.{Adds};
 use crate::room::Room;
 use byteorder::{BigEndian, ByteOrder};
 use s4_types::{
-    Bytes, Grant, Moment, Name, ObjectId, Principal, PurseNo, Right, Rights, Serial, User,
-    WireVersion,
+    After, Bytes, Grant, Moment, Name, ObjectId, Principal, Purse, PurseNo, Right, Rights, Serial,
+    User, WireVersion,
 };
 
 pub fn put_byte<R: Room>(out: &mut R, value: u8)
@@ -76,7 +76,7 @@ pub fn put_user<R: Room>(out: &mut R, user: &User)
     put_u32(out, user.number());
 }
 
-fn put_purse_number<R: Room>(out: &mut R, number: &PurseNo)
+pub fn put_purse_number<R: Room>(out: &mut R, number: &PurseNo)
     requires room { 1 ≤ R.spare out.old }
     ensures added { Adds parts.purse_number number.now (R.items out.old) (R.items out.new) }
     ensures left { R.spare out.old ≤ R.spare out.new + 1 }
@@ -98,6 +98,15 @@ fn put_pad<R: Room>(out: &mut R)
     ensures left { R.spare out.old ≤ R.spare out.new + 1 }
 {
     put_byte(out, 0);
+}
+
+pub fn put_purse<R: Room>(out: &mut R, purse: &Purse)
+    requires room { 5 ≤ R.spare out.old }
+    ensures added { Adds parts.purse purse.now (R.items out.old) (R.items out.new) }
+    ensures left { R.spare out.old ≤ R.spare out.new + 5 }
+{
+    put_principal(out, &purse.creator);
+    put_purse_number(out, &purse.number);
 }
 
 pub fn put_object<R: Room>(out: &mut R, object: &ObjectId)
@@ -124,10 +133,10 @@ pub fn put_name<R: Room>(out: &mut R, name: &Name)
 /// How many bytes of data follow.
 fn put_length<R: Room>(version: WireVersion, out: &mut R, count: usize)
     requires fits { count < 256 ^ length_width version }
-    requires room { length_width version ≤ R.spare out.old }
+    requires room { 4 ≤ R.spare out.old }
     ensures added { Adds (number (length_width version)) count
         (R.items out.old) (R.items out.new) }
-    ensures left { R.spare out.old ≤ R.spare out.new + length_width version }
+    ensures left { R.spare out.old ≤ R.spare out.new + 4 }
 {
     match version {
         WireVersion::One => put_u16(out, count as u16),
@@ -137,14 +146,58 @@ fn put_length<R: Room>(version: WireVersion, out: &mut R, count: usize)
 
 pub fn put_bytes<R: Room>(version: WireVersion, out: &mut R, bytes: &Bytes)
     requires fits { length bytes.now < 256 ^ length_width version }
-    requires room { length_width version + length bytes.now ≤ R.spare out.old }
+    requires room { 4 + length bytes.now ≤ R.spare out.old }
     ensures added { Adds (parts.byte_string version) bytes.now
         (R.items out.old) (R.items out.new) }
-    ensures left { R.spare out.old
-        ≤ R.spare out.new + (length_width version + length bytes.now) }
+    ensures left { R.spare out.old ≤ R.spare out.new + (4 + length bytes.now) }
 {
     put_length(version, out, bytes.len());
     out.put(bytes.as_slice());
+}
+
+pub fn put_rights<R: Room>(out: &mut R, rights: &Rights)
+    requires room { 1 ≤ R.spare out.old }
+    ensures added { Adds parts.rights rights.now (R.items out.old) (R.items out.new) }
+    ensures left { R.spare out.old ≤ R.spare out.new + 1 }
+{
+    put_byte(out, rights.number());
+}
+
+pub fn put_optional_moment<R: Room>(out: &mut R, at: &Option<Moment>)
+    requires room { 9 ≤ R.spare out.old }
+    ensures added { Adds parts.optional_moment at.now (R.items out.old) (R.items out.new) }
+    ensures left { R.spare out.old ≤ R.spare out.new + 9 }
+{
+    match at {
+        None => put_byte(out, 0),
+        Some(moment) => {
+            put_byte(out, 1);
+            put_moment(out, moment);
+        }
+    }
+}
+
+fn put_after<R: Room>(out: &mut R, after: &After)
+    requires room { 34 ≤ R.spare out.old }
+    ensures added { Adds parts.after after.now (R.items out.old) (R.items out.new) }
+    ensures left { R.spare out.old ≤ R.spare out.new + 34 }
+{
+    put_purse_number(out, &after.number);
+    put_name(out, &after.name);
+}
+
+pub fn put_optional_after<R: Room>(out: &mut R, after: &Option<After>)
+    requires room { 35 ≤ R.spare out.old }
+    ensures added { Adds parts.optional_after after.now (R.items out.old) (R.items out.new) }
+    ensures left { R.spare out.old ≤ R.spare out.new + 35 }
+{
+    match after {
+        None => put_byte(out, 0),
+        Some(place) => {
+            put_byte(out, 1);
+            put_after(out, place);
+        }
+    }
 }
 
 pub fn put_rights_given<R: Room>(out: &mut R, rights: &Rights)

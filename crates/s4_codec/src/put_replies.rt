@@ -12,7 +12,6 @@ ghost use Rattle.s4_codec.specs.Replies as format;
 ghost use Rattle.s4_codec.specs.Replies.{bodies, has_body, kind_of, refusals};
 ghost use Rattle.s4_codec.specs.Rooms as rooms;
 ghost use Rattle.s4_codec.specs.Rooms.{body_room, is_spellable};
-ghost use Rattle.s4_codec.specs.Versions.{length_width};
 ghost use Rattle.s4_codec.specs.Writings.{Adds};
 
 use crate::put_lines::{put_audit_lines, put_name_lines};
@@ -32,11 +31,8 @@ use s4_types::{
 pub fn reply_room(version: WireVersion, count: u32) -> usize
     ensures { result ≡ rooms.reply_room version count }
 {
-    let head = match version {
-        WireVersion::One => 13,
-        WireVersion::Two => 15,
-    };
-    4 + (head + count.min(version.data_limit()) as usize).max(3267)
+    let data = 15 + count.min(version.data_limit()) as usize;
+    4 + data.max(3267)
 }
 
 /// Adds the reply's frame: the length of its spelling in four bytes, and that spelling
@@ -69,11 +65,11 @@ fn set_length(out: &mut BytesMut, start: usize)
 }
 
 /// Adds the reply's spelling.
-fn put_body<R: Room>(version: WireVersion, out: &mut R, reply: &Reply)
+pub fn put_body<R: Room>(version: WireVersion, out: &mut R, reply: &Reply)
     requires spellable { IsTrue (is_spellable version reply.now) }
-    requires room { body_room version reply.now ≤ R.spare out.old }
+    requires room { body_room reply.now ≤ R.spare out.old }
     ensures added { Adds (format.reply version) reply.now (R.items out.old) (R.items out.new) }
-    ensures left { R.spare out.old ≤ R.spare out.new + body_room version reply.now }
+    ensures left { R.spare out.old ≤ R.spare out.new + body_room reply.now }
 {
     put_byte(out, kind(reply));
     put_fields(version, out, reply);
@@ -99,10 +95,10 @@ fn kind(reply: &Reply) -> u8
 /// Adds what follows the number of the reply's kind.
 fn put_fields<R: Room>(version: WireVersion, out: &mut R, reply: &Reply)
     requires spellable { IsTrue (is_spellable version reply.now) }
-    requires room { body_room version reply.now ≤ R.spare out.old + 1 }
+    requires room { body_room reply.now ≤ R.spare out.old + 1 }
     ensures added { Adds (in_place (bodies version) (kind_of reply.now)) reply.now
         (R.items out.old) (R.items out.new) }
-    ensures left { R.spare out.old + 1 ≤ R.spare out.new + body_room version reply.now }
+    ensures left { R.spare out.old + 1 ≤ R.spare out.new + body_room reply.now }
 {
     match reply {
         Reply::Done => {}
@@ -133,11 +129,10 @@ fn put_made<R: Room>(out: &mut R, object: &ObjectId)
 
 fn put_data<R: Room>(version: WireVersion, out: &mut R, grant: &Grant, bytes: &Bytes)
     requires spellable { IsTrue (is_spellable version (replies.Data grant.now bytes.now)) }
-    requires room { 10 + (length_width version + length bytes.now) ≤ R.spare out.old }
+    requires room { 14 + length bytes.now ≤ R.spare out.old }
     ensures added { Adds (format.data_read version) (replies.Data grant.now bytes.now)
         (R.items out.old) (R.items out.new) }
-    ensures left { R.spare out.old
-        ≤ R.spare out.new + (10 + (length_width version + length bytes.now)) }
+    ensures left { R.spare out.old ≤ R.spare out.new + (14 + length bytes.now) }
 {
     put_grant(out, grant);
     put_bytes(version, out, bytes);
@@ -145,11 +140,10 @@ fn put_data<R: Room>(version: WireVersion, out: &mut R, grant: &Grant, bytes: &B
 
 fn put_attr<R: Room>(version: WireVersion, out: &mut R, grant: &Grant, bytes: &Bytes)
     requires spellable { IsTrue (is_spellable version (replies.Attr grant.now bytes.now)) }
-    requires room { 10 + (length_width version + length bytes.now) ≤ R.spare out.old }
+    requires room { 14 + length bytes.now ≤ R.spare out.old }
     ensures added { Adds (format.attr_read version) (replies.Attr grant.now bytes.now)
         (R.items out.old) (R.items out.new) }
-    ensures left { R.spare out.old
-        ≤ R.spare out.new + (10 + (length_width version + length bytes.now)) }
+    ensures left { R.spare out.old ≤ R.spare out.new + (14 + length bytes.now) }
 {
     put_grant(out, grant);
     put_bytes(version, out, bytes);

@@ -19,6 +19,20 @@ pub trait Room {
         ensures left { spare self.old ≤ spare self.new + length bytes.now };
 }
 
+impl Room for Vec<u8> {
+    ghost use Rattle.std.specs.Prelude.{◌-◌, vec_capacity, vec_len};
+
+    ghost items = { λ bytes. bytes.items };
+
+    ghost spare = { λ bytes. vec_capacity bytes - vec_len bytes };
+
+    fn put(&mut self, bytes: &[u8]) {
+        if self.extend_from_slice(bytes).is_err() {
+            unreachable!();
+        }
+    }
+}
+
 impl Room for BytesMut {
     ghost items = { λ bytes. bytes.items };
 
