@@ -2,7 +2,7 @@
 
 use s4_pool::Asked;
 use s4_script::{Line, ParseError, ReplyText, parse_line};
-use s4_types::{Reply, Step};
+use s4_types::{Reply, Step, WireVersion};
 use std::alloc::{AllocError, Global};
 use std::io;
 use std::io::ErrorKind;
@@ -21,7 +21,7 @@ pub fn error_of(error: ParseError) -> io::Error {
 
 /// Who asks in a line, at which moment, and for what.
 pub fn asked(alloc: Global, line: &str) -> io::Result<Asked> {
-    let line = parse_line(alloc, line.as_bytes()).map_err(error_of)?;
+    let line = parse_line(WireVersion::One, alloc, line.as_bytes()).map_err(error_of)?;
     match &line {
         Line::Step(
             Step::Request {

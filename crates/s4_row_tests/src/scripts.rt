@@ -6,9 +6,9 @@ use crate::telling::is_run_same;
 use crate::texts::{Shelf, Texts, utf8};
 use s4_drive::{Drive, never_down};
 use s4_run::{RunFault, run_script};
-use s4_script::{CutText, Line, ReplyText, UsedText, parse_line, parse_window};
+use s4_script::{CutText, Line, Opening, ReplyText, UsedText, parse_line, parse_opening};
 use s4_store::PlainStore;
-use s4_types::{Moment, Step, Version};
+use s4_types::{Moment, Step, Version, WireVersion};
 use std::alloc::Global;
 use std::io;
 use std::io::ErrorKind;
@@ -27,11 +27,10 @@ pub fn is_expected(shelf: &Shelf, waits: &impl Wait, name: &str) -> io::Result<b
 
 fn check_cut(rt: &HostRuntime, waits: &impl Wait, name: &str, texts: &Texts) -> io::Result<bool> {
     let script = utf8(&texts.input)?;
-    let window = window_of(rt.alloc(), script).map_err(|_| io::Error::from(
+    let (opening, lines) = script_of(rt.alloc(), script).map_err(|_| io::Error::from(
         ErrorKind::InvalidData,
     ))?;
-    let lines = lines_of(rt.alloc(), script).map_err(|_| io::Error::from(ErrorKind::InvalidData))?;
-    cuts::check(rt, waits, name, texts, window, &lines)
+    cuts::check(rt, waits, name, texts, opening, &lines)
 }
 
 /// Whether all is as expected for a script, in both ways where it has no fault.
@@ -55,30 +54,33 @@ fn check_at_once(rt: &HostRuntime, name: &str, texts: &Texts) -> io::Result<bool
 
 /// Tells what a fresh drive over the plain store tells of a script.
 fn tell_at_once(alloc: Global, script: &str, told: &mut String) -> Result<(), RunFault> {
-    let window = window_of(alloc, script)?;
-    let lines = lines_of(alloc, script)?;
-    let mut drive = Drive::new(alloc, PlainStore::new(alloc), window);
+    let (opening, lines) = script_of(alloc, script)?;
+    let mut drive = Drive::new(alloc, PlainStore::new(alloc), opening.window);
     tell_lines(alloc, &mut drive, lines, told)
 }
 
-/// The window that the first line of a script names; 0 where there is none.
-fn window_of(alloc: Global, script: &str) -> Result<u64, RunFault> {
-    match script.lines().next() {
-        Some(first) => {
-            parse_window(alloc, first.as_bytes()).map_err(|why| RunFault::parsing(why, 1))
-        }
-        None => Ok(0),
-    }
-}
-
-/// What the lines of a script after its first ask for.
-fn lines_of(alloc: Global, script: &str) -> Result<Vec<Line>, RunFault> {
+/// What the first line of a script opens, and what the other lines ask for.
+fn script_of(alloc: Global, script: &str) -> Result<(Opening, Vec<Line>), RunFault> {
+    let opening = opening_of(alloc, script)?;
     let mut lines = Vec::new(alloc);
     for (index, text) in script.lines().enumerate().skip(1) {
-        let line = parse_line(alloc, text.as_bytes());
+        let line = parse_line(opening.version, alloc, text.as_bytes());
         lines.push(line.map_err(|why| RunFault::parsing(why, index.saturating_add(1)))?)?;
     }
-    Ok(lines)
+    Ok((opening, lines))
+}
+
+/// What the first line of a script opens; a window of 0 where there is none.
+fn opening_of(alloc: Global, script: &str) -> Result<Opening, RunFault> {
+    match script.lines().next() {
+        Some(first) => {
+            parse_opening(alloc, first.as_bytes()).map_err(|why| RunFault::parsing(why, 1))
+        }
+        None => Ok(Opening {
+            window: 0,
+            version: WireVersion::One,
+        }),
+    }
 }
 
 /// Gives a drive the steps up to each `used` and each cut, and those up to the end, each time all at

@@ -3,3 +3,4 @@ pub mod Faults
 pub mod Arrivals
 pub mod Logins
 pub mod Struck
+pub mod Opened

@@ -6,13 +6,18 @@ ghost use Rattle.s4_types.specs.Play.{last_of};
 ghost use Rattle.s4_cuts.specs.Cut.{before};
 ghost use Rattle.s4_state.specs.CutLog.{IsCut};
 ghost use Rattle.s4_drive.specs.Step.{Steps};
+ghost use Rattle.s4_script.specs.Readings.{line_in_text, opening_in_text, Gives};
+ghost use Rattle.s4_run.specs.Opened.{Opens};
 
 use crate::fault::RunFault;
 use crate::text;
 use s4_arena::Arena;
 use s4_drive::Drive;
-use s4_script::{CutText, Line, NumberedLines, ReplyText, UsedText, parse_line, parse_window};
-use s4_types::{Caller, Moment, NoMemory, Refusal, Reply, Request, Step, Version};
+use s4_script::{
+    CutText, Line, NumberedLines, Opening, ParseError, ReplyText, UsedText, parse_line,
+    parse_opening,
+};
+use s4_types::{Caller, Moment, NoMemory, Refusal, Reply, Request, Step, Version, WireVersion};
 use std::alloc::Global;
 use std::io::{Read, Write};
 
@@ -43,9 +48,13 @@ fn run_lines<W: Write>(alloc: Global, text: &[u8], writer: &mut W) -> Result<(),
 }
 
 /// The run that the first line opens.
-fn open_run(alloc: Global, line: &[u8], number: usize) -> Result<ScriptRun, RunFault> {
-    let window = parse_window(alloc, line).map_err(|why| RunFault::parsing(why, number))?;
-    Ok(ScriptRun::open(alloc, window))
+fn open_run(alloc: Global, line: &[u8], number: usize) -> Result<ScriptRun, RunFault>
+    ensures { IfOk result (λ run. Opens (opening_in_text line.now) run.drive run.version) }
+{
+    match parse_opening(alloc, line) {
+        Ok(opening) => Ok(ScriptRun::open(alloc, &opening)),
+        Err(why) => Err(RunFault::parsing(why, number)),
+    }
 }
 
 /// Reads a further line, and does what it says.
@@ -56,7 +65,9 @@ fn take_line<W: Write>(
     number: usize,
     writer: &mut W,
 ) -> Result<(), RunFault> {
-    let line = parse_line(alloc, line).map_err(|why| RunFault::parsing(why, number))?;
+    let line = run
+        .read(alloc, line)
+        .map_err(|why| RunFault::parsing(why, number))?;
     execute_line(run, &line, number, writer)
 }
 
@@ -105,20 +116,31 @@ fn write_cut<W: Write>(writer: &mut W, went: Result<u64, NoMemory>) -> Result<()
 #[derive(Drop)]
 struct ScriptRun {
     drive: Drive<Arena<Version>>,
+    /// The version of the wire that the callers of all lines speak.
+    version: WireVersion,
     /// The moment of the newest line, 0 before the first.
     moment: Moment,
     ghost in_order: { last_of drive.history ≤ moment },
 }
 
 impl ScriptRun {
-    fn open(alloc: Global, window: u64) -> ScriptRun
-        ensures drive { result.drive ≡ fresh_log window }
+    fn open(alloc: Global, opening: &Opening) -> ScriptRun
+        ensures drive { result.drive ≡ fresh_log opening.now.window }
+        ensures version { result.version ≡ opening.now.version }
         ensures moment { result.moment ≡ 0 }
     {
         ScriptRun {
-            drive: Drive::new(alloc, Arena::new(alloc), window),
+            drive: Drive::new(alloc, Arena::new(alloc), opening.window),
+            version: opening.version,
             moment: Moment::new(0),
         }
+    }
+
+    /// What a further line asks for.
+    fn read(&self, alloc: Global, line: &[u8]) -> Result<Line, ParseError>
+        ensures { Gives result (line_in_text self.now.version line.now) }
+    {
+        parse_line(self.version, alloc, line)
     }
 
     /// The reply to a request of a line, or none where its moment goes back.
@@ -128,6 +150,7 @@ impl ScriptRun {
         ensures reply { IfSome result
             (Steps self.old.drive self.new.drive moment caller request.now) }
         ensures moment { IfSome result (λ reply. self.new.moment ≡ moment) }
+        ensures version { self.new.version ≡ self.old.version }
     {
         if moment < self.moment {
             return None;
@@ -146,6 +169,7 @@ impl ScriptRun {
             (λ count. count ≡ length (before moment self.old.drive.history))) }
         ensures err { IfSome result (λ went. OnErr went (self.new.drive ≡ self.old.drive)) }
         ensures moment { self.new.moment ≡ self.old.moment }
+        ensures version { self.new.version ≡ self.old.version }
     {
         if moment > self.drive.horizon() {
             return None;

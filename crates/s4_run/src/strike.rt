@@ -9,8 +9,8 @@ ghost use Rattle.s4_run.specs.declared.fault.RunFault.TheVariants as fault;
 use crate::fault::RunFault;
 use crate::text;
 use s4_drive::Near;
-use s4_script::{Line, NumberedLines, parse_line, parse_window};
-use s4_types::{Moment, NoMemory, Principal, Step};
+use s4_script::{Line, NumberedLines, parse_line, parse_opening};
+use s4_types::{Moment, NoMemory, Principal, Step, WireVersion};
 use std::alloc::Global;
 use std::io::{Read, Write};
 
@@ -43,6 +43,8 @@ struct AskingLine<'a> {
 #[derive(Drop)]
 struct Script<'a> {
     who: Principal,
+    /// The version of the wire that the callers of all lines speak.
+    version: WireVersion,
     window: &'a [u8],
     requests: Vec<AskingLine<'a>>,
     near: Near,
@@ -61,11 +63,11 @@ impl<'a> Script<'a> {
             let refuse = |why| RunFault::parsing(why, number);
             match &mut script {
                 None => {
-                    parse_window(alloc, line).map_err(refuse)?;
-                    script = Some(Script::open(alloc, who, line));
+                    let opening = parse_opening(alloc, line).map_err(refuse)?;
+                    script = Some(Script::open(alloc, who, opening.version, line));
                 }
                 Some(script) => {
-                    let told = parse_line(alloc, line).map_err(refuse)?;
+                    let told = parse_line(script.version, alloc, line).map_err(refuse)?;
                     script.add(told, line, number)?;
                 }
             }
@@ -74,14 +76,16 @@ impl<'a> Script<'a> {
     }
 
     /// A script with that line of a window, and no requests yet. Takes no memory.
-    fn open(alloc: Global, who: Principal, window: &'a [u8]) -> Script<'a>
+    fn open(alloc: Global, who: Principal, version: WireVersion, window: &'a [u8]) -> Script<'a>
         ensures who { result.who ≡ who }
+        ensures version { result.version ≡ version }
         ensures window { result.window.now ≡ window.now }
         ensures requests { result.requests.items ≡ [] }
         ensures newest { result.newest ≡ 0 }
     {
         Script {
             who,
+            version,
             window,
             requests: Vec::new(alloc),
             near: Near::new(alloc, who),

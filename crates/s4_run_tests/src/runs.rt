@@ -200,3 +200,61 @@ fn fault_before_an_output_that_fails(rt: HostRuntime) -> Result<(), Fail> {
     let wanted = ("", Err(RunFault::BadLine(3)));
     check(&rt, alloc, row, row.1.as_bytes(), &mut writer, wanted)
 }
+
+/// First lines with and without a version: of scripts, of a strike, which keeps it as it stood, and of
+/// arrivals, which have none.
+const VERSIONS: [(Row, Result<(), RunFault>); 6] = [
+    (
+        Row(
+            Kind::Script,
+            "window 100 wire 2\n1 7 create 0\n2 7 truncate 7.0.1 65536\n3 7 truncate 7.0.1 65537\n",
+            "made 7.0.1\ndone\ntoo-long\n",
+        ),
+        Ok(()),
+    ),
+    (
+        Row(
+            Kind::Script,
+            "window 100\n1 7 create 0\n2 7 truncate 7.0.1 4096\n3 7 truncate 7.0.1 4097\n",
+            "made 7.0.1\ndone\ntoo-long\n",
+        ),
+        Ok(()),
+    ),
+    (
+        Row(Kind::Script, "window 100 wire 1\n1 7 create 0\n", ""),
+        Err(RunFault::BadLine(1)),
+    ),
+    (
+        Row(
+            Kind::Strike,
+            "window 5 wire 2\n1 9 create 0\n2 7 create 0\n",
+            "window 5 wire 2\n1 9 create 0\n",
+        ),
+        Ok(()),
+    ),
+    (
+        Row(Kind::Strike, "window 5 wire 1\n1 9 create 0\n", ""),
+        Err(RunFault::BadLine(1)),
+    ),
+    (
+        Row(Kind::Hall(SEVEN), "window 100 wire 2\n", ""),
+        Err(RunFault::BadLine(1)),
+    ),
+];
+
+#[test]
+fn first_lines_say_the_version(rt: HostRuntime) -> Result<(), Fail> {
+    let alloc = rt.alloc();
+    for (row, told) in VERSIONS {
+        let mut writer = Narrow::new(alloc, 4096, 4096);
+        check(
+            &rt,
+            alloc,
+            &row,
+            row.1.as_bytes(),
+            &mut writer,
+            (row.2, told),
+        )?;
+    }
+    Ok(())
+}

@@ -3,8 +3,9 @@ use Rattle.std.proofs.Common.{◌≡◌, ℕ, ◌^◌, Bool, true, false, List, 
 use Rattle.std.specs.Prelude.{codes, if◌then◌else◌}
 use Rattle.std.specs.Result.{IsErrAnd}
 use Rattle.std.specs.Str.{bytes_eq, is_utf8}
+use Rattle.s4_types.specs.declared.principal.WireVersion.{WireVersion}
 use Rattle.s4_types.specs.declared.request.Request.{Request}
-use Rattle.s4_script.specs.Readings.{◌>>=◌, arrival_in, window_in, after_in, at_in, in_text, line_in, name_in, number_below, number_in, object_in, place_in, principal_in, purse_in, request_in, user_in, words_in, Gives}
+use Rattle.s4_script.specs.Readings.{◌>>=◌, arrival_in, opening_in, window_in, after_in, at_in, in_text, line_in, name_in, number_below, number_in, object_in, place_in, principal_in, purse_in, request_in, user_in, words_in, Gives}
 use Rattle.s4_script.specs.declared.error.ParseError.{ParseError}
 use Rattle.s4_script.specs.declared.error.ParseError.TheVariants as parse_error
 
@@ -60,19 +61,23 @@ request_of_many verb a b c d e f g words =
     (neither (bytes_eq verb (codes "setbudget")) _ _ refl
     (neither (bytes_eq verb (codes "audit")) _ _ refl refl)))))))))))))))))))
 
-step_of_many : (moment who verb a b c d e f g : List ℕ) (words : List (List ℕ)) → line_in (moment ∷ who ∷ verb ∷ a ∷ b ∷ c ∷ d ∷ e ∷ f ∷ g ∷ words) ≡ None
-step_of_many moment who verb a b c d e f g words =
+step_of_many : (version : WireVersion) (moment who verb a b c d e f g : List ℕ) (words : List (List ℕ)) → line_in version (moment ∷ who ∷ verb ∷ a ∷ b ∷ c ∷ d ∷ e ∷ f ∷ g ∷ words) ≡ None
+step_of_many version moment who verb a b c d e f g words =
     rw (request_of_many verb a b c d e f g words) (none_of_two (number_in moment) (principal_in who))
 
 -- the first ten words tell what all of them ask for
-pub first_ten_tell : (words : List (List ℕ)) → line_in (take 10 words) ≡ line_in words
-first_ten_tell (moment ∷ who ∷ verb ∷ a ∷ b ∷ c ∷ d ∷ e ∷ f ∷ g ∷ words) =
-    step_of_many moment who verb a b c d e f g [] ∙ sym (step_of_many moment who verb a b c d e f g words)
-first_ten_tell words = refl
+pub first_ten_tell : (version : WireVersion) (words : List (List ℕ)) → line_in version (take 10 words) ≡ line_in version words
+first_ten_tell version (moment ∷ who ∷ verb ∷ a ∷ b ∷ c ∷ d ∷ e ∷ f ∷ g ∷ words) =
+    step_of_many version moment who verb a b c d e f g [] ∙ sym (step_of_many version moment who verb a b c d e f g words)
+first_ten_tell version words = refl
 
-pub first_ten_open : (words : List (List ℕ)) → window_in (take 10 words) ≡ window_in words
-first_ten_open (word ∷ ticks ∷ more ∷ words) = refl
+pub first_ten_open : (words : List (List ℕ)) → opening_in (take 10 words) ≡ opening_in words
+first_ten_open (word ∷ ticks ∷ wire ∷ number ∷ more ∷ words) = refl
 first_ten_open words = refl
+
+pub first_ten_window : (words : List (List ℕ)) → window_in (take 10 words) ≡ window_in words
+first_ten_window (word ∷ ticks ∷ more ∷ words) = refl
+first_ten_window words = refl
 
 pub first_ten_arrive : (words : List (List ℕ)) → arrival_in (take 10 words) ≡ arrival_in words
 first_ten_arrive (moment ∷ connection ∷ piece ∷ more ∷ words) = refl

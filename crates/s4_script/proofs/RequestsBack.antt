@@ -1,14 +1,19 @@
 -- The line of a request is read back as that request.
 use Rattle.std.proofs.Common.{◌≡◌, ℕ, ◌<◌, ◌^◌, List, [], ◌∷◌, ◌++◌, Option, Some, None, refl, ap, ◌∙◌, arith}
+use Rattle.std.specs.Prelude.{codes}
 use Rattle.std.specs.Fmt.{decimal}
+use Rattle.std.proofs.lemmas.List.{append-nil}
 use Rattle.std.specs.List.{join_with_byte}
 use Rattle.std.specs.Option.{IfSome}
 use Rattle.s4_types.specs.declared.request.After.{After}
 use Rattle.s4_types.specs.declared.request.Request.{Request}
 use Rattle.s4_types.specs.declared.request.Request.TheVariants as request
-use Rattle.s4_script.specs.Readings.{in_text, line_in_text, number_below, place_in, request_in, request_in_words, step_of}
-use Rattle.s4_script.specs.Requests.{after_words, at_words, request_line_text, request_text, words_of}
+use Rattle.s4_types.specs.declared.principal.WireVersion.{WireVersion}
+use Rattle.s4_types.specs.declared.principal.WireVersion.TheVariants.{One, Two}
+use Rattle.s4_script.specs.Readings.{in_text, line_in_text, number_below, opening_in_text, place_in, request_in, request_in_words, step_of}
+use Rattle.s4_script.specs.Requests.{after_words, at_words, opening_text, request_line_text, request_text, words_of}
 use Rattle.s4_script.specs.Scripted.{IsMoment, IsMomentIfAny, IsPlace, IsPrincipal, IsScriptable}
+use Rattle.s4_script.specs.declared.opening.Opening.{Opening}
 use Rattle.s4_script.proofs.Numbers.{number_back, number_below_back}
 use Rattle.s4_script.proofs.Spaces.{AreWords, IsWord, decimal_word, joined_is_text, name_word, one_more, split_joined}
 use Rattle.s4_script.proofs.WordsBack.{after_back, at_are_words, at_back, bytes_back, bytes_word, name_back, object_back, object_word, parted, principal_back, purse_back, purse_number_back, purse_word, user_back, user_word}
@@ -91,12 +96,12 @@ words_are (request.ReadAudit range skip) is = rw (number_word range (omega (arit
 
 -- LINES
 
-line_back : (moment who : ℕ) (words : List (List ℕ)) (asked : Request) → IsMoment moment → IsPrincipal who → AreWords words
+line_back : (version : WireVersion) (moment who : ℕ) (words : List (List ℕ)) (asked : Request) → IsMoment moment → IsPrincipal who → AreWords words
     → request_in_words words ≡ Some asked
-    → line_in_text (decimal moment ++ 32 ∷ (decimal who ++ 32 ∷ join_with_byte 32 words)) ≡ Some (step_of moment who asked)
+    → line_in_text version (decimal moment ++ 32 ∷ (decimal who ++ 32 ∷ join_with_byte 32 words)) ≡ Some (step_of version moment who asked)
 unfolding in_text
-line_back moment who [] asked when by are spelled = absurd cc
-line_back moment who (verb ∷ words) asked when by are spelled =
+line_back version moment who [] asked when by are spelled = absurd cc
+line_back version moment who (verb ∷ words) asked when by are spelled =
     let all : List (List ℕ) = decimal who ∷ verb ∷ words in
     let behind : AreWords all = one_more (decimal who) (verb ∷ words) (number_word who (omega (arith, by))) are in
     let every : AreWords (decimal moment ∷ all) = one_more (decimal moment) all (decimal_word moment when) behind in
@@ -109,8 +114,41 @@ line_back moment who (verb ∷ words) asked when by are spelled =
     ) refl
 
 -- the line of a request is read back
-pub request_line_back : (moment who : ℕ) (asked : Request) → IsMoment moment → IsPrincipal who → IsScriptable asked
-    → line_in_text (request_line_text moment who asked) ≡ Some (step_of moment who asked)
-request_line_back moment who asked when by is =
-    ap line_in_text (parted 32 (decimal moment) (decimal who) (request_text asked))
-    ∙ line_back moment who (words_of asked) asked when by (words_are asked is) (words_back asked is)
+pub request_line_back : (version : WireVersion) (moment who : ℕ) (asked : Request) → IsMoment moment → IsPrincipal who → IsScriptable asked
+    → line_in_text version (request_line_text moment who asked) ≡ Some (step_of version moment who asked)
+request_line_back version moment who asked when by is =
+    ap (line_in_text version) (parted 32 (decimal moment) (decimal who) (request_text asked))
+    ∙ line_back version moment who (words_of asked) asked when by (words_are asked is) (words_back asked is)
+
+-- the words of a first line
+abbrev opening_words : WireVersion → ℕ → List (List ℕ)
+opening_words One window = codes "window" ∷ decimal window ∷ []
+opening_words Two window = codes "window" ∷ decimal window ∷ codes "wire" ∷ codes "2" ∷ []
+
+opening_joined : (version : WireVersion) (window : ℕ) → opening_text (record { window = window; version = version }) ≡ join_with_byte 32 (opening_words version window)
+opening_joined One window = ap (λ text. codes "window " ++ text) (append-nil (decimal window))
+opening_joined Two window = refl
+
+opening_are_words : (version : WireVersion) (window : ℕ) → IsMoment window → AreWords (opening_words version window)
+opening_are_words One window is = rw (decimal_word window is) refl
+opening_are_words Two window is = rw (decimal_word window is) refl
+
+opening_read : (version : WireVersion) (window : ℕ) → IsMoment window
+    → opening_in_text (join_with_byte 32 (opening_words version window)) ≡ Some (record { window = window; version = version })
+unfolding in_text
+opening_read One window is =
+    rw (
+      joined_is_text (opening_words One window) (opening_are_words One window is),
+      split_joined (codes "window") (decimal window ∷ []) (opening_are_words One window is),
+      number_back window is,
+    ) refl
+opening_read Two window is =
+    rw (
+      joined_is_text (opening_words Two window) (opening_are_words Two window is),
+      split_joined (codes "window") (decimal window ∷ codes "wire" ∷ codes "2" ∷ []) (opening_are_words Two window is),
+      number_back window is,
+    ) refl
+
+-- the first line of a script is read back
+pub opening_back : (opening : Opening) → IsMoment opening.window → opening_in_text (opening_text opening) ≡ Some opening
+opening_back opening is = ap opening_in_text (opening_joined opening.version opening.window) ∙ opening_read opening.version opening.window is

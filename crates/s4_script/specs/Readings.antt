@@ -13,7 +13,8 @@ use Rattle.s4_types.specs.declared.object.Purse.{Purse}
 use Rattle.s4_types.specs.declared.request.After.{After}
 use Rattle.s4_types.specs.declared.request.Request.{Request}
 use Rattle.s4_types.specs.declared.request.Request.TheVariants as request
-use Rattle.s4_types.specs.declared.principal.WireVersion.TheVariants as version
+use Rattle.s4_types.specs.declared.principal.WireVersion.{WireVersion}
+use Rattle.s4_types.specs.declared.principal.WireVersion.TheVariants as wire
 use Rattle.s4_types.specs.declared.record.Step.TheVariants as step
 use Rattle.s4_types.specs.Judgement.{everyone}
 use Rattle.s4_types.specs.Name.{is_name}
@@ -21,6 +22,7 @@ use Rattle.s4_script.specs.declared.arrivals.ArrivalLine.{ArrivalLine}
 use Rattle.s4_script.specs.declared.arrivals.ArrivalLine.TheVariants as arrival
 use Rattle.s4_script.specs.declared.line.Line.{Line}
 use Rattle.s4_script.specs.declared.line.Line.TheVariants as line
+use Rattle.s4_script.specs.declared.opening.Opening.{Opening}
 use Rattle.s4_script.specs.declared.error.ParseError.{ParseError}
 use Rattle.s4_script.specs.declared.error.ParseError.TheVariants as parse_error
 
@@ -306,9 +308,10 @@ request_in_words (verb ∷ words) = request_in verb words
 
 -- LINES
 
--- a request of client 0 over version 1 of the wire
-abbrev pub step_of : ℕ → ℕ → Request → Line
-step_of moment who asked = line.Step (step.Request moment (record { who = who; client = 0; version = version.One }) asked)
+-- a request of client 0, who speaks that version of the wire
+abbrev pub step_of : WireVersion → ℕ → ℕ → Request → Line
+step_of version moment who asked =
+    line.Step (step.Request moment (record { who = who; client = 0; version = version }) asked)
 
 abbrev pub used_in : List ℕ → Option Line
 used_in word = if bytes_eq word (codes "used") then Some line.Used else None
@@ -320,19 +323,19 @@ counted_in word number =
     else if bytes_eq word (codes "sweep") then option_map (λ n. line.Step (step.Sweep n)) (number_in number)
     else None
 
-abbrev pub asked_in : List ℕ → List ℕ → List ℕ → List (List ℕ) → Option Line
-asked_in moment who verb words = do
+abbrev pub asked_in : WireVersion → List ℕ → List ℕ → List ℕ → List (List ℕ) → Option Line
+asked_in version moment who verb words = do
   at ← number_in moment
   by ← principal_in who
   asked ← request_in verb words
-  Some (step_of at by asked)
+  Some (step_of version at by asked)
 
--- what the words of a line after the first ask for
-abbrev pub line_in : List (List ℕ) → Option Line
-line_in [] = None
-line_in (word ∷ []) = used_in word
-line_in (word ∷ number ∷ []) = counted_in word number
-line_in (moment ∷ who ∷ verb ∷ words) = asked_in moment who verb words
+-- what the words of a line after the first ask for, where the callers speak that version
+abbrev pub line_in : WireVersion → List (List ℕ) → Option Line
+line_in version [] = None
+line_in version (word ∷ []) = used_in word
+line_in version (word ∷ number ∷ []) = counted_in word number
+line_in version (moment ∷ who ∷ verb ∷ words) = asked_in version moment who verb words
 
 -- the words of a text, with one space between each two
 abbrev pub words_in : List ℕ → List (List ℕ)
@@ -342,11 +345,31 @@ words_in text = slice_split (λ byte. byte == 32) text
 unfoldable pub in_text : {X : Type 0} → (List (List ℕ) → Option X) → List ℕ → Option X
 in_text reading text = if is_utf8 text then reading (words_in text) else None
 
--- what a line after the first asks for
-abbrev pub line_in_text : List ℕ → Option Line
-line_in_text text = in_text line_in text
+-- what a line after the first asks for, where the callers speak that version
+abbrev pub line_in_text : WireVersion → List ℕ → Option Line
+line_in_text version text = in_text (line_in version) text
 
--- the window that a first line opens the drive with
+-- a window, for callers of that version
+abbrev pub opened_in : WireVersion → List ℕ → List ℕ → Option Opening
+opened_in version word ticks = if bytes_eq word (codes "window")
+    then option_map (λ window. record { window = window; version = version }) (number_in ticks)
+    else None
+
+-- what the words of a script's first line open: the callers speak version 1 where no version stands
+-- behind the window, and no other may stand there than 2
+abbrev pub opening_in : List (List ℕ) → Option Opening
+opening_in (word ∷ ticks ∷ []) = opened_in wire.One word ticks
+opening_in (word ∷ ticks ∷ mark ∷ number ∷ []) =
+    if bytes_eq mark (codes "wire") && bytes_eq number (codes "2")
+    then opened_in wire.Two word ticks
+    else None
+opening_in _ = None
+
+-- what a script's first line opens
+abbrev pub opening_in_text : List ℕ → Option Opening
+opening_in_text text = in_text opening_in text
+
+-- the window that the first line of arrivals opens a hall with
 abbrev pub window_in : List (List ℕ) → Option ℕ
 window_in (word ∷ ticks ∷ []) = if bytes_eq word (codes "window") then number_in ticks else None
 window_in _ = None

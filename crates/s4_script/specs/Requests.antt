@@ -5,6 +5,9 @@ use Rattle.s4_types.specs.declared.object.Purse.{Purse}
 use Rattle.s4_types.specs.declared.request.After.{After}
 use Rattle.s4_types.specs.declared.request.Request.{Request}
 use Rattle.s4_types.specs.declared.request.Request.TheVariants as request
+use Rattle.s4_types.specs.declared.principal.WireVersion.{WireVersion}
+use Rattle.s4_types.specs.declared.principal.WireVersion.TheVariants as wire
+use Rattle.s4_script.specs.declared.opening.Opening.{Opening}
 use Rattle.s4_script.specs.Texts.{bytes_text, object_text, user_text}
 
 -- a purse by its creator and its number, as `7.0`
@@ -61,3 +64,12 @@ request_text asked = join_with_byte 32 (words_of asked)
 -- the line of a request, without the end of the line: when it is made, by whom, and then its verb and its words
 abbrev pub request_line_text : ℕ → ℕ → Request → List ℕ
 request_line_text moment who asked = decimal moment ++ codes " " ++ decimal who ++ codes " " ++ request_text asked
+
+-- what stands behind the window, as ` wire 2`, or nothing where the callers speak version 1
+abbrev pub version_text : WireVersion → List ℕ
+version_text wire.One = []
+version_text wire.Two = codes " wire 2"
+
+-- the first line of a script, without the end of the line
+abbrev pub opening_text : Opening → List ℕ
+opening_text opening = codes "window " ++ decimal opening.window ++ version_text opening.version

@@ -8,6 +8,7 @@ mod error;
 mod laws;
 mod line;
 mod lines;
+mod opening;
 mod ranges;
 mod records;
 mod replies;
@@ -19,9 +20,12 @@ mod words;
 pub use arrivals::{ArrivalLine, parse_arrival};
 pub use asked::{RequestLine, RequestText};
 pub use error::ParseError;
-pub use laws::{requests_are_scriptable, written_requests_are_read_back};
-pub use line::{Line, parse_line, parse_number, parse_principal, parse_window};
+pub use laws::{
+    requests_are_scriptable, written_openings_are_read_back, written_requests_are_read_back,
+};
+pub use line::{Line, parse_line, parse_number, parse_principal};
 pub use lines::NumberedLines;
+pub use opening::{Opening, parse_opening, parse_window};
 pub use replies::{CutText, ReplyText, UsedText};
 pub use requests::parse_request;
 pub use sent::SentText;

@@ -1,6 +1,6 @@
 //! The lines of a script.
 
-ghost use Rattle.s4_script.specs.Readings.{asked_in, counted_in, line_in, line_in_text, texts, used_in, window_in, window_in_text, Gives};
+ghost use Rattle.s4_script.specs.Readings.{asked_in, counted_in, line_in, line_in_text, texts, used_in, Gives};
 
 use crate::error::ParseError;
 use crate::{requests, words};
@@ -18,28 +18,6 @@ pub enum Line {
     Cut(Moment),
 }
 
-/// The window that the first line opens the drive with (docs/SCRIPTS.md, "The first line").
-///
-/// `Bad` where it opens none: it is no text, or its words spell no window; `NoMemory` where its
-/// words don't fit in memory.
-pub fn parse_window(alloc: Global, line: &[u8]) -> Result<u64, ParseError>
-    ensures { Gives result (window_in_text line.now) }
-{
-    window(words::of_line(alloc, line)?.as_slice())
-}
-
-fn window(words: &[&str]) -> Result<u64, ParseError>
-    ensures { Gives result (window_in (texts words.now)) }
-{
-    let [word, ticks] = words else {
-        return Err(ParseError::Bad);
-    };
-    if *word != "window" {
-        return Err(ParseError::Bad);
-    }
-    words::number_u64(ticks)
-}
-
 /// The number that a word spells in decimal digits, without leading zeros and in the range of its
 /// type.
 pub fn parse_number<T: TryFrom<u64>>(word: &str) -> Result<T, ParseError>
@@ -54,23 +32,24 @@ pub fn parse_principal(word: &str) -> Result<Principal, ParseError> {
     words::principal(word)
 }
 
-/// What a line after the first asks for (docs/SCRIPTS.md, "Requests").
+/// What a line after the first asks for, where the callers speak that version of the wire
+/// (docs/SCRIPTS.md, "Requests").
 ///
 /// `Bad` where it asks for nothing: it is no text, or its words spell nothing; `NoMemory` where its
 /// words or its bytes don't fit in memory.
-pub fn parse_line(alloc: Global, line: &[u8]) -> Result<Line, ParseError>
-    ensures { Gives result (line_in_text line.now) }
+pub fn parse_line(version: WireVersion, alloc: Global, line: &[u8]) -> Result<Line, ParseError>
+    ensures { Gives result (line_in_text version line.now) }
 {
-    of_words(alloc, words::of_line(alloc, line)?.as_slice())
+    of_words(version, alloc, words::of_line(alloc, line)?.as_slice())
 }
 
-fn of_words(alloc: Global, words: &[&str]) -> Result<Line, ParseError>
-    ensures { Gives result (line_in (texts words.now)) }
+fn of_words(version: WireVersion, alloc: Global, words: &[&str]) -> Result<Line, ParseError>
+    ensures { Gives result (line_in version (texts words.now)) }
 {
     match words {
         [word] => used(word),
         [word, number] => counted(word, number),
-        [moment, who, verb, words @ ..] => request(alloc, moment, who, verb, words),
+        [moment, who, verb, words @ ..] => request(version, alloc, moment, who, verb, words),
         [] => Err(ParseError::Bad),
     }
 }
@@ -98,20 +77,21 @@ fn counted(word: &str, number: &str) -> Result<Line, ParseError>
 }
 
 fn request(
+    version: WireVersion,
     alloc: Global,
     moment: &str,
     who: &str,
     verb: &str,
     words: &[&str],
 ) -> Result<Line, ParseError>
-    ensures { Gives result (asked_in moment.now who.now verb.now (texts words.now)) }
+    ensures { Gives result (asked_in version moment.now who.now verb.now (texts words.now)) }
 {
     Ok(Line::Step(Step::Request {
         moment: words::moment(moment)?,
         caller: Caller {
             who: words::principal(who)?,
             client: 0,
-            version: WireVersion::One,
+            version,
         },
         request: requests::parse_request(alloc, verb, words)?,
     }))

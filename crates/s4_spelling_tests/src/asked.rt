@@ -87,8 +87,8 @@ fn is_line(alloc: Global, request: &Request, line: &str) -> Result<bool, Fail> {
     Ok(text.as_str() == line)
 }
 
-/// That the line asks for that request, of that principal at that moment.
-fn asks_for(line: &Line, request: &Request) -> bool {
+/// That the line asks for that request, of that principal at that moment, who speaks that version.
+fn asks_for(version: WireVersion, line: &Line, request: &Request) -> bool {
     match line {
         Line::Step(
             Step::Request {
@@ -100,16 +100,18 @@ fn asks_for(line: &Line, request: &Request) -> bool {
             moment.tick() == 18446744073709551615
                 && caller.who.number() == 4294967294
                 && caller.client == 0
+                && caller.version == version
                 && read == request
         }
         _ => false,
     }
 }
 
-/// That the line is read as one that asks for it.
+/// That the line is read as one that asks for it, by each version.
 fn is_read_back(alloc: Global, request: &Request, line: &str) -> Result<bool, Fail> {
-    let line = parse_line(alloc, line.as_bytes())?;
-    Ok(asks_for(&line, request))
+    let one = parse_line(WireVersion::One, alloc, line.as_bytes())?;
+    let two = parse_line(WireVersion::Two, alloc, line.as_bytes())?;
+    Ok(asks_for(WireVersion::One, &one, request) && asks_for(WireVersion::Two, &two, request))
 }
 
 fn check_words(rt: &impl Abort, alloc: Global, body: &str, words: &str) -> Result<(), Fail> {

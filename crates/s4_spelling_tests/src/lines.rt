@@ -1,14 +1,46 @@
 //! What the lines of scripts and arrivals ask for, told with the names of all fields, and lines
 //! that ask for nothing.
 
-use s4_script::{ArrivalLine, ParseError, parse_arrival, parse_line, parse_window};
+use s4_script::{
+    ArrivalLine, Opening, ParseError, parse_arrival, parse_line, parse_opening, parse_window,
+};
+use s4_types::WireVersion;
 use std::alloc::Global;
 use std::test::Fail;
 
-/// First lines of scripts, and the windows that they open the drive with.
-const FIRST_LINES: [(&str, u64); 2] = [
-    ("window 0", 0),
-    ("window 18446744073709551615", 18446744073709551615),
+/// First lines of scripts, the windows that they open the drive with, and the version that the
+/// callers of the other lines speak.
+const FIRST_LINES: [(&str, u64, WireVersion); 4] = [
+    ("window 0", 0, WireVersion::One),
+    (
+        "window 18446744073709551615",
+        18446744073709551615,
+        WireVersion::One,
+    ),
+    ("window 5 wire 2", 5, WireVersion::Two),
+    (
+        "window 18446744073709551615 wire 2",
+        18446744073709551615,
+        WireVersion::Two,
+    ),
+];
+
+/// First lines that open nothing.
+const BAD_FIRST_LINES: [&str; 14] = [
+    "",
+    "window",
+    "window -1",
+    "window 18446744073709551616",
+    "windows 5",
+    "window 5 ",
+    "window 5 wire",
+    "window 5 wire 0",
+    "window 5 wire 1",
+    "window 5 wire 3",
+    "window 5 wire 02",
+    "window 5 wires 2",
+    "window 5  wire 2",
+    "window 5 wire 2 2",
 ];
 
 /// Lines after the first.
@@ -265,7 +297,7 @@ const BAD_ARRIVALS: [&str; 22] = [
 
 /// The fields of what a line asks for.
 fn fields_of_line(alloc: Global, line: &str) -> Result<String, Fail> {
-    let line = parse_line(alloc, line.as_bytes())?;
+    let line = parse_line(WireVersion::One, alloc, line.as_bytes())?;
     Ok(format!(in alloc; "{line:?}")?)
 }
 
@@ -287,15 +319,56 @@ fn is_piece(
     }
 }
 
+/// That the first line of a script opens that, and is written so.
+fn is_opening(alloc: Global, line: &str, opening: Opening) -> Result<bool, Fail> {
+    let text = opening.to_string(alloc)?;
+    Ok(parse_opening(alloc, line.as_bytes()) == Ok(opening) && text.as_str() == line)
+}
+
+#[test]
+fn first_lines_open_these_windows(rt: HostRuntime) -> Result<(), Fail> {
+    let alloc = rt.alloc();
+    for (line, window, version) in &FIRST_LINES {
+        let opening = Opening {
+            window: *window,
+            version: *version,
+        };
+        assert!(rt; is_opening(alloc, line, opening)?, "at {line}");
+    }
+    for line in &BAD_FIRST_LINES {
+        let parsed = parse_opening(alloc, line.as_bytes());
+        assert!(rt; parsed == Err(ParseError::Bad), "at {line}");
+    }
+    Ok(())
+}
+
+/// The callers of arrivals say by themselves which version they speak.
+#[test]
+fn first_lines_of_arrivals_have_no_version(rt: HostRuntime) {
+    let alloc = rt.alloc();
+    let parsed = parse_window(alloc, b"window 5");
+    assert!(rt; parsed == Ok(5));
+    let parsed = parse_window(alloc, b"window 5 wire 2");
+    assert!(rt; parsed == Err(ParseError::Bad));
+}
+
+#[test]
+fn callers_speak_the_version_of_the_first_line(rt: HostRuntime) -> Result<(), Fail> {
+    let alloc = rt.alloc();
+    let line = parse_line(WireVersion::Two, alloc, b"5 7 create 15")?;
+    let fields = format!(in alloc; "{line:?}")?;
+    assert_eq!(rt;
+        fields.as_str(),
+        "Step(Request { moment: Moment { tick: 5 }, \
+         caller: Caller { who: Principal { number: 7 }, client: 0, version: Two }, \
+         request: Create { number: PurseNo { number: 15 } } })"
+    );
+    Ok(())
+}
+
 #[test]
 fn lines_ask_for_these_fields(rt: HostRuntime) -> Result<(), Fail> {
     let alloc = rt.alloc();
-    for (line, ticks) in &FIRST_LINES {
-        assert!(rt;
-            parse_window(alloc, line.as_bytes()) == Ok(*ticks),
-            "at {line}"
-        );
-    }
     for (line, fields) in &LINES {
         assert!(rt;
             fields_of_line(alloc, line)?.as_str() == *fields,
@@ -323,7 +396,7 @@ fn arrivals_tell_of_these_bytes(rt: HostRuntime) -> Result<(), Fail> {
 fn bad_lines_ask_for_nothing(rt: HostRuntime) {
     let alloc = rt.alloc();
     for line in &BAD_LINES {
-        let parsed = parse_line(alloc, line.as_bytes());
+        let parsed = parse_line(WireVersion::One, alloc, line.as_bytes());
         assert!(rt; parsed == Err(ParseError::Bad), "at {line}");
     }
     for line in &BAD_ARRIVALS {

@@ -80,7 +80,7 @@ const BAD_BODIES: [&str; 18] = [
 
 /// The request of a line of a script.
 fn request_of(alloc: Global, line: &str) -> Result<Request, Fail> {
-    match parse_line(alloc, line.as_bytes())? {
+    match parse_line(WireVersion::One, alloc, line.as_bytes())? {
         Line::Step(Step::Request { request, .. }) => Ok(request),
         _ => Err("no request".into()),
     }

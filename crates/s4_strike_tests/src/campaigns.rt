@@ -2,7 +2,7 @@
 //! lines stay, are written by hand from docs/MODEL.md.
 
 use s4_script::{Line, parse_line, parse_window};
-use s4_types::{Principal, Step};
+use s4_types::{Principal, Step, WireVersion};
 use std::alloc::Global;
 use std::test::Fail;
 
@@ -224,7 +224,7 @@ pub fn principal(number: u32) -> Result<Principal, Fail> {
 
 /// What a line has a drive do.
 fn step_of(alloc: Global, text: &str) -> Result<Step, Fail> {
-    match parse_line(alloc, text.as_bytes())? {
+    match parse_line(WireVersion::One, alloc, text.as_bytes())? {
         Line::Step(step) => Ok(step),
         Line::Used | Line::Cut(_) => Err(Fail::from("a step")),
     }
