@@ -4,8 +4,8 @@ use crate::helps::{CALL_HELP, HALL_HELP, HELP, HISTORY_HELP, RUN_HELP, SERVE_HEL
 use crate::row::Asked::{Create, Read, Write};
 use crate::row::Row;
 use crate::row::Wanted::{
-    Call, Checked, GreatestServer, Hall, JsonListed, KeepingServer, Listed, PatientCall, Run, Show,
-    StandardServer, Strike,
+    Call, CallInTwo, Checked, GreatestServer, Hall, JsonListed, KeepingServer, Listed, PatientCall,
+    Run, Show, StandardServer, Strike,
 };
 
 /// The flags of the greatest server.

@@ -33,15 +33,13 @@ fn count_frames(written: &[u8]) -> (usize, usize) {
 }
 
 /// That all requests were answered, but behind want of memory that ended the talk; and that what
-/// was carried out is what was answered, but for the last request there.
+/// was carried out is what was answered.
 fn is_as_answered(outcome: &Outcome) -> bool {
     let (frames, wanting) = count_frames(&outcome.written);
     let told = frames.saturating_sub(1).saturating_sub(wanting);
     match outcome.end {
         TalkEnd::PeerClosed => frames == 4 && outcome.carried_out == told,
-        TalkEnd::NoMemory => {
-            told <= outcome.carried_out && outcome.carried_out <= told.saturating_add(1)
-        }
+        TalkEnd::NoMemory => outcome.carried_out == told,
         TalkEnd::WriteFailed => true,
         _ => false,
     }

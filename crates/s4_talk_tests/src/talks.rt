@@ -3,8 +3,8 @@
 use crate::desk::Desk;
 use crate::peers::{Peer, Sink, Source, WIDE};
 use crate::stream::{
-    BAD_HELLO, BAD_LENGTH, BAD_LOGIN, CREATE, DATA, DONE, HELLO, MADE, MALFORMED, READ, TOO_LONG,
-    WELCOME, WRITE, joined, logins,
+    BAD_HELLO, BAD_LENGTH, BAD_LOGIN, CREATE, DATA, DATA_TWO, DONE, HELLO, HELLO_THREE, HELLO_TWO,
+    MADE, MALFORMED, READ, TOO_LONG, WELCOME, WELCOME_TWO, WRITE, WRITE_TWO, joined, logins,
 };
 use s4_session::SessionFault;
 use s4_talk::{TalkEnd, talk};
@@ -75,7 +75,12 @@ const MISPLACED: TalkEnd = TalkEnd::Faulted(SessionFault::Malformed);
 const GREATEST_WRITE: &[u8] =
     b"\x00\x00\x20\x00\x04\x00\x00\x00\x07\x00\x00\x00\x01\x00\x00\x00\x00";
 
-const ROWS: [Row; 14] = [
+/// The greatest frame of version 2: a Write to 7.0.1 whose data is as long as the four bytes behind
+/// this say.
+const GREATEST_WRITE_TWO: &[u8] =
+    b"\x00\x02\x00\x00\x04\x00\x00\x00\x07\x00\x00\x00\x01\x00\x00\x00\x00";
+
+const ROWS: [Row; 20] = [
     Row {
         said: &[HELLO, CREATE, WRITE, READ],
         letters: 0,
@@ -96,6 +101,50 @@ const ROWS: [Row; 14] = [
         letters: 8177,
         end: MISPLACED,
         written: &[WELCOME, MALFORMED],
+        carried_out: 0,
+    },
+    // By version 2 lengths have four bytes, and frames more: so has one of 131072, and none more.
+    Row {
+        said: &[HELLO_TWO, CREATE, WRITE_TWO, READ],
+        letters: 0,
+        end: TalkEnd::PeerClosed,
+        written: &[WELCOME_TWO, MADE, DONE, DATA_TWO],
+        carried_out: 3,
+    },
+    Row {
+        said: &[HELLO_TWO, GREATEST_WRITE_TWO, b"\x00\x01\xff\xef"],
+        letters: 131055,
+        end: TalkEnd::PeerClosed,
+        written: &[WELCOME_TWO, TOO_LONG],
+        carried_out: 1,
+    },
+    Row {
+        said: &[HELLO_TWO, b"\x00\x02\x00\x01"],
+        letters: 0,
+        end: FRAME_LENGTH,
+        written: &[WELCOME_TWO, BAD_LENGTH],
+        carried_out: 0,
+    },
+    // Before a Hello it is held to version 1, and so is one of version 1.
+    Row {
+        said: &[b"\x00\x00\x20\x01", HELLO_TWO],
+        letters: 0,
+        end: FRAME_LENGTH,
+        written: &[BAD_LENGTH],
+        carried_out: 0,
+    },
+    Row {
+        said: &[HELLO, CREATE, WRITE_TWO],
+        letters: 0,
+        end: MISPLACED,
+        written: &[WELCOME, MADE, MALFORMED],
+        carried_out: 1,
+    },
+    Row {
+        said: &[HELLO_THREE, CREATE],
+        letters: 0,
+        end: MISPLACED,
+        written: &[MALFORMED],
         carried_out: 0,
     },
     // A wrong length is told at once, behind a Hello and before it.

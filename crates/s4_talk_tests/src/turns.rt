@@ -3,7 +3,8 @@
 use crate::desk::Desk;
 use crate::peers::{Mishap, Sink, Source, WIDE};
 use crate::stream::{
-    CREATE, DATA, DONE, HELLO, MADE, READ, WELCOME, WRITE, joined, logins, stream,
+    CREATE, DATA, DONE, HELLO, HELLO_TWO, MADE, READ, READ_WHOLE, TRUNCATE_WHOLE, WELCOME, WRITE,
+    joined, logins, stream,
 };
 use s4_session::Logins;
 use s4_talk::{TalkEnd, Talking, TurnEnd};
@@ -47,6 +48,15 @@ impl Table {
     }
 }
 
+/// A Hello, some frames, and so many times another one.
+fn many(alloc: Global, first: &[&[u8]], frame: &[u8], count: usize) -> Result<Vec<u8>, Fail> {
+    let mut said = joined(alloc, first)?;
+    for _ in 0..count {
+        said.extend_from_slice(frame)?;
+    }
+    Ok(said)
+}
+
 /// The call of a reader or a writer that tells that it would wait.
 fn waits(call: u64) -> Option<Mishap> {
     Some(Mishap::at(call, ErrorKind::WouldBlock))
@@ -83,5 +93,39 @@ fn replies_to_one_read_are_one_write(rt: HostRuntime) -> Result<(), Fail> {
     assert!(rt; table.turn(&logins, &mut source) == TurnEnd::More);
     assert!(rt; source.calls == 1 && table.sink.calls == 1);
     assert!(rt; table.sink.taken.len() == 46);
+    Ok(())
+}
+
+#[test]
+fn a_turn_serves_64_frames_and_the_next_one_goes_on(rt: HostRuntime) -> Result<(), Fail> {
+    let alloc = rt.alloc();
+    let logins = logins(alloc)?;
+    let said = many(alloc, &[HELLO], CREATE, 100)?;
+    let mut table = Table::open(alloc, Sink::new(alloc, WIDE, None));
+    let mut source = Source::new(&said, WIDE, None);
+    assert!(rt; table.turn(&logins, &mut source) == TurnEnd::Enough);
+    assert!(rt; table.desk.carried_out() == 63);
+    assert!(rt; table.turn(&logins, &mut source) == TurnEnd::More);
+    assert!(rt; table.desk.carried_out() == 100);
+    assert!(rt; source.calls == 1 && table.sink.calls == 2);
+    let end = table.turn(&logins, &mut source);
+    assert!(rt; end == TurnEnd::Ended(TalkEnd::PeerClosed));
+    Ok(())
+}
+
+#[test]
+fn who_reads_nothing_is_served_until_enough_waits(rt: HostRuntime) -> Result<(), Fail> {
+    let alloc = rt.alloc();
+    let logins = logins(alloc)?;
+    let said = many(alloc, &[HELLO_TWO, CREATE, TRUNCATE_WHOLE], READ_WHOLE, 100)?;
+    let mut table = Table::open(alloc, Sink::new(alloc, WIDE, waits(0)));
+    let mut source = Source::new(&said, WIDE, None);
+    assert!(rt; table.turn(&logins, &mut source) == TurnEnd::Stuck);
+    assert!(rt; table.desk.carried_out() == 3);
+    assert!(rt; table.talking.waiting() == 6 + 13 + 5 + 65555);
+    // The next turn writes that, and serves one read more.
+    assert!(rt; table.turn(&logins, &mut source) == TurnEnd::Enough);
+    assert!(rt; table.desk.carried_out() == 4);
+    assert!(rt; table.talking.waiting() == 0);
     Ok(())
 }
