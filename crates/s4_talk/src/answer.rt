@@ -1,7 +1,7 @@
 //! Who answers requests.
 
-ghost use Rattle.std.specs.Prelude.{◌≡◌, ◌++◌, List, IsTrue};
-ghost use Rattle.s4_types.specs.Limits.{is_within_limits};
+ghost use Rattle.std.specs.Prelude.{◌≡◌, ◌≤◌, ◌++◌, List, IsTrue};
+ghost use Rattle.s4_types.specs.Limits.{data_asked, data_in, is_within_limits};
 ghost use Rattle.s4_talk.specs.Calls.{Call, call_made};
 
 use s4_types::{Caller, Reply, Request};
@@ -13,9 +13,10 @@ pub trait Answer {
     ghost calls: { Self → List Call };
 
     /// Answers a request, and adds its own call, or none where the reply is `NoMemory`: the request
-    /// was then not carried out. The reply is within the limits of the caller's version
-    /// (docs/MODEL.md, "Limits").
+    /// was then not carried out. The reply is within the limits of the caller's version, and gives
+    /// no more data than was asked for (docs/MODEL.md, "Limits").
     fn answer(&mut self, caller: Caller, request: Request) -> Reply
         ensures called { calls self.new ≡ calls self.old ++ call_made caller request result }
-        ensures limits { IsTrue (is_within_limits caller.version result) };
+        ensures limits { IsTrue (is_within_limits caller.version result) }
+        ensures asked { data_in result ≤ data_asked request };
 }
