@@ -13,7 +13,7 @@ PAGE = "docs/TRUST.md"
 BEGIN, END = "<!-- definitions -->", "<!-- end of definitions -->"
 # What is proved above all: a name, the crate and file of a function, the function, and its clauses; none: all of them.
 THEOREMS = [
-    ("answers are the definitions'", "s4_drive", "drive.rt", "Drive::step", ("steps", "limits")),
+    ("answers are the definitions'", "s4_drive", "drive.rt", "Drive::step", ("steps", "limits", "asked")),
     ("isolation of tenants, in the definitions", "s4_laws", "principals.rt", "strangers_change_nothing", ("replies",)),
     ("isolation in a drive", "s4_drive", "drive.rt", "Drive::run", ("isolation", "isolated")),
     ("isolation of what is sent, the headline", "s4_session", "hall.rt", "Hall::run", ("fresh", "moments", "sent")),

@@ -2,7 +2,7 @@
 
 ghost use Rattle.std.specs.Prelude.{◌≡◌, ◌<◌, ◌≤◌, true, false, IsTrue, IfOk, OnOk, OnErr, length};
 ghost use Rattle.s4_types.specs.Kinds.{is_wide};
-ghost use Rattle.s4_types.specs.Limits.{is_within_limits};
+ghost use Rattle.s4_types.specs.Limits.{data_asked, data_in, is_within_limits};
 ghost use Rattle.s4_types.specs.Play.{is_no_memory, last_of};
 ghost use Rattle.s4_cells.specs.Many.{Each, AllStay};
 ghost use Rattle.s4_pool.specs.Serving.{Serves, IsIdle, Adds, AddsToAll};
@@ -26,6 +26,7 @@ pub fn serve_one(
     requires ordinary { is_wide caller request.now ≡ false }
     ensures told { IfOk result (λ reply. is_no_memory reply ≡ false) }
     ensures limits { IfOk result (λ reply. IsTrue (is_within_limits caller.version reply)) }
+    ensures asked { IfOk result (λ reply. data_in reply ≤ data_asked request.now) }
     ensures pass { IfOk result (λ reply. Serves pass.old pass.new caller clock request.now reply) }
     ensures cell { IfOk result (λ reply. Adds number cell.old cell.new pass.old pass.new) }
     ensures idle { OnErr result (IsIdle pass.old pass.new) }
@@ -65,6 +66,7 @@ pub fn serve_all(
     requires wide { is_wide caller request.now ≡ true }
     ensures told { IfOk result (λ reply. is_no_memory reply ≡ false) }
     ensures limits { IfOk result (λ reply. IsTrue (is_within_limits caller.version reply)) }
+    ensures asked { IfOk result (λ reply. data_in reply ≤ data_asked request.now) }
     ensures pass { IfOk result (λ reply. Serves pass.old pass.new caller clock request.now reply) }
     ensures idle { OnErr result (IsIdle pass.old pass.new) }
     ensures cells { OnOk result (AddsToAll cells.old cells.new pass.old pass.new) }
