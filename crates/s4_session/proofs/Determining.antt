@@ -1,11 +1,9 @@
 -- The bytes that are sent determine the replies.
-use Rattle.std.proofs.Common.{◌≡◌, ℕ, ◌+◌, Bool, true, false, ◌&&◌, cond, eqb, Option, Some, None, List, [], ◌∷◌, ◌++◌, length, map, refl, sym, ap, ◌∙◌, append_assoc, arith}
+use Rattle.std.proofs.Common.{◌≡◌, ℕ, Bool, true, false, cond, eqb, Option, Some, None, List, [], ◌∷◌, length, map, refl, sym, ap, ◌∙◌, arith}
 use Rattle.std.proofs.lemmas.Bool.{eq-eqb}
 use Rattle.std.proofs.lemmas.List.{append_cancel_left}
 use Rattle.s4_types.specs.declared.reply.Reply.{Reply}
-use Rattle.s4_types.specs.declared.record.Step.{Step}
 use Rattle.s4_types.specs.Play.{request_count}
-use Rattle.s4_types.proofs.Booleans.{by_test}
 use Rattle.s4_types.specs.declared.principal.WireVersion.{WireVersion}
 use Rattle.s4_codec.specs.Replies.{has_body}
 use Rattle.s4_codec.specs.Fits.{fit}
@@ -19,7 +17,7 @@ use Rattle.s4_stream.specs.Stream.{events_of}
 use Rattle.s4_session.specs.Arrivals.{stream_of, occurs, Asked, Asks, Sweeps, step_of, asked_in, requests_of, versions_of}
 use Rattle.s4_stream.specs.Talk.{welcome, fault_frame, sent_for, requests_in, versions_in}
 use Rattle.s4_session.specs.Sent.{replies_on, sent_by, bytes_for}
-use Rattle.s4_session.specs.Determined.{EachRequestHasOneReply, CanBeSent, SentBytesDetermineReplies, RunsHaveOneListOfReplies}
+use Rattle.s4_session.specs.Determined.{EachRequestHasOneReply, SentBytesDetermineReplies, RunsHaveOneListOfReplies}
 use Rattle.s4_session.proofs.Arriving.{replies_length, count_in, versions_on, versions_told}
 use Rattle.s4_session.proofs.Sending.{sent_none}
 

@@ -18,7 +18,7 @@ use Rattle.s4_session.specs.declared.hall_step.HallStep.{HallStep}
 use Rattle.s4_session.specs.declared.hall_step.HallStep.TheVariants.{Arrive, Sweep}
 use Rattle.s4_stream.specs.declared.event.SessionState.TheVariants.{Greeting}
 use Rattle.s4_stream.specs.Logins.{Logins}
-use Rattle.s4_session.specs.Arrivals.{stream_of, occurs, moment_after, asked_in, Asked, Sweeps, step_of, requests_of, versions_of}
+use Rattle.s4_session.specs.Arrivals.{stream_of, occurs, asked_in, Asked, Sweeps, step_of, requests_of, versions_of}
 use Rattle.s4_stream.specs.Stream.{hear, events_of}
 use Rattle.s4_stream.specs.Feeding.{left_by}
 use Rattle.s4_stream.specs.Talk.{sent_for}

@@ -1,5 +1,5 @@
 -- Turns one after another.
-use Rattle.std.proofs.Common.{◌≡◌, ◌∙◌, ℕ, ◌+◌, Bool, true, false, Option, Some, None, List, [], ◌∷◌, ◌++◌, take, drop, length, take-append-drop, refl, sym, ap, subst, arith, append_assoc}
+use Rattle.std.proofs.Common.{◌≡◌, ◌∙◌, ℕ, true, Option, Some, None, List, [], ◌∷◌, ◌++◌, take, drop, length, take-append-drop, refl, sym, ap, subst, arith, append_assoc}
 use Rattle.std.specs.Prelude.{IsTrue}
 use Rattle.std.proofs.lemmas.List.{append-nil, length-append}
 use Rattle.std.specs.Io.KnownBytes.{Consumes, Appends, Keeps}
@@ -13,7 +13,7 @@ use Rattle.s4_stream.specs.declared.event.SessionFault as faults
 use Rattle.s4_stream.specs.declared.event.SessionState.TheVariants.{Greeting, Closed}
 use Rattle.s4_stream.specs.Logins.{Logins}
 use Rattle.s4_stream.specs.Stream.{Heard, hear, events_of, state_after}
-use Rattle.s4_stream.specs.Feeding.{Listening, Fills, TakesNext, after_events, heard_so_far, hear_piece}
+use Rattle.s4_stream.specs.Feeding.{Listening, Fills, TakesNext, after_events, heard_so_far}
 use Rattle.s4_stream.specs.Talk.{sent_for, welcome, reply_frame, fault_frame, requests_in}
 use Rattle.s4_stream.proofs.Cuts.{hear_cut}
 use Rattle.s4_stream.proofs.Hearing.{closed_frames}

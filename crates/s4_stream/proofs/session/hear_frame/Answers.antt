@@ -1,10 +1,9 @@
-use Rattle.std.proofs.Common.{rules, ◌≡◌, ◌+◌, ◌-◌, ◌++◌, ℕ, Some, List, [], ◌∷◌, length, drop, take, false, true, sym, ap, subst, ◌∙◌, arith}
+use Rattle.std.proofs.Common.{rules, ◌≡◌, ◌+◌, ◌-◌, ◌++◌, ℕ, Some, List, [], ◌∷◌, length, drop, take, sym, ap, subst, ◌∙◌, arith}
 use Rattle.std.proofs.Math.ListN.{drop_of_length-le}
 use Rattle.std.proofs.lemmas.List.{take_all, length-drop, drop-drop}
-use Rattle.s4_stream.specs.declared.event.Event.{Event}
 use Rattle.s4_stream.specs.declared.event.SessionState.TheVariants as states
 use Rattle.s4_stream.specs.Stream.{state_after}
-use Rattle.s4_stream.specs.Feeding.{heard_so_far, HearsOne, StandsFirst}
+use Rattle.s4_stream.specs.Feeding.{StandsFirst}
 use Rattle.s4_stream.proofs.Hearing.{next_ends, next_goes_on}
 use Rattle.s4_stream.proofs.session.hear_frame.Goals as goal
 use Rattle.s4_stream.proofs.session.hear_frame.Goals.{in-Closed, in_default-matches}

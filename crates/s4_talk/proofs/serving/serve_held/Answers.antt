@@ -1,6 +1,6 @@
-use Rattle.std.proofs.Common.{rules, ◌≡◌, ◌∙◌, [], Some, arith}
+use Rattle.std.proofs.Common.{rules, [], Some, arith}
 use Rattle.s4_stream.specs.Feeding.{TakesNext}
-use Rattle.s4_talk.specs.Turning.{FaultIsMet, Takes, told}
+use Rattle.s4_talk.specs.Turning.{told}
 use Rattle.s4_talk.proofs.Laws.{Takes-then, Takes-next, met_next}
 use Rattle.s4_talk.proofs.serving.serve_held.Goals as goal
 

@@ -1,10 +1,10 @@
-use Rattle.std.proofs.Common.{rules, true, ◌≡◌, ◌<◌, ◌≤◌, ◌+◌, ◌++◌, ◌∷◌, [], ℕ, List, length, take, drop, sym, subst, arith}
+use Rattle.std.proofs.Common.{◌≡◌, ◌<◌, ◌≤◌, ◌+◌, ◌++◌, ◌∷◌, [], ℕ, List, length, take, drop, sym, subst, arith}
 use Rattle.std.proofs.lemmas.List.{take_all}
 use Rattle.s4_session.specs.declared.hall_step.HallStep.{HallStep}
 use Rattle.s4_session.specs.declared.hall_step.HallStep.TheVariants.{Arrive, Sweep}
 use Rattle.s4_session.specs.Arrivals.{NeverDown}
 use Rattle.s4_session.specs.Halls.{Hall, Takes}
-use Rattle.s4_session.proofs.Sending.{Sends, sends_more, sends_swept, swept_hall, item_at, front_more, on_left, on_sent}
+use Rattle.s4_session.proofs.Sending.{Sends, sends_more, sends_swept, item_at, front_more, on_left, on_sent}
 use Rattle.s4_session.proofs.hall.Hall.try_run.Goals as goal
 use Rattle.s4_session.proofs.hall.Hall.try_run.Goals.{in-Arrive+in_ok-sent-in-Arrive+in_ok-add-in-Arrive, in-Sweep}
 

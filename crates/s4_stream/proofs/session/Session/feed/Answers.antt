@@ -1,4 +1,4 @@
-use Rattle.std.proofs.Common.{rules, ◌≡◌, ◌∙◌, sym, ap, drop}
+use Rattle.std.proofs.Common.{◌≡◌, ◌∙◌, sym, ap, drop}
 use Rattle.s4_stream.specs.Feeding.{heard_so_far}
 use Rattle.s4_stream.proofs.Closing.{closed_left}
 use Rattle.s4_stream.proofs.session.Session.feed.Goals as goal

@@ -1,5 +1,5 @@
-use Rattle.std.proofs.Common.{rules, ◌≡◌, ℕ, Some, List, [], ◌∷◌, drop, sym, ap, subst, ◌∙◌}
-use Rattle.s4_stream.specs.Stream.{Heard, hear, state_after}
+use Rattle.std.proofs.Common.{rules, ◌≡◌, ℕ, Some, List, [], ◌∷◌, drop, sym, ap, ◌∙◌}
+use Rattle.s4_stream.specs.Stream.{hear, state_after}
 use Rattle.s4_stream.specs.Feeding.{StandsFirst, after_events}
 use Rattle.s4_stream.proofs.Cuts.{next_then}
 use Rattle.s4_stream.proofs.session.Session.next.Goals as goal
