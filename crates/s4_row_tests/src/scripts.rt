@@ -3,7 +3,7 @@
 
 use crate::cuts;
 use crate::telling::is_run_same;
-use crate::texts::{Shelf, Texts, utf8};
+use crate::texts::{Shelf, Texts, invalid, utf8};
 use s4_drive::{Drive, never_down};
 use s4_run::{RunFault, run_script};
 use s4_script::{CutText, Line, Opening, ReplyText, UsedText, parse_line, parse_opening};
@@ -11,7 +11,6 @@ use s4_store::PlainStore;
 use s4_types::{Moment, Step, Version, WireVersion};
 use std::alloc::Global;
 use std::io;
-use std::io::ErrorKind;
 use std::sync::Wait;
 
 /// Whether all is as expected for a script, also where it is cut behind each line.
@@ -26,11 +25,13 @@ pub fn is_expected(shelf: &Shelf, waits: &impl Wait, name: &str) -> io::Result<b
 }
 
 fn check_cut(rt: &HostRuntime, waits: &impl Wait, name: &str, texts: &Texts) -> io::Result<bool> {
-    let script = utf8(&texts.input)?;
-    let (opening, lines) = script_of(rt.alloc(), script).map_err(|_| io::Error::from(
-        ErrorKind::InvalidData,
-    ))?;
+    let (opening, lines) = read(rt.alloc(), texts)?;
     cuts::check(rt, waits, name, texts, opening, &lines)
+}
+
+/// What the first line of a script without a fault opens, and what the other lines ask for.
+pub fn read(alloc: Global, texts: &Texts) -> io::Result<(Opening, Vec<Line>)> {
+    script_of(alloc, utf8(&texts.input)?).map_err(|_| invalid())
 }
 
 /// Whether all is as expected for a script, in both ways where it has no fault.
