@@ -124,6 +124,7 @@ fn heard<R: Wait>(
     talk(desk.rt, alloc, &mut said, &mut written, logins, desk);
     let mut heard = written.as_slice();
     let mut sent = Vec::new(alloc);
-    let reply = call(alloc, &mut heard, &mut sent, message.as_slice());
+    let version = hello.caller.version;
+    let reply = call(version, alloc, &mut heard, &mut sent, message.as_slice());
     reply.map_err(|_| RunFault::CannotRead)
 }

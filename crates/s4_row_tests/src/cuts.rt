@@ -6,9 +6,9 @@ use crate::texts::{Texts, utf8};
 use s4_arena::Arena;
 use s4_drive::Drive;
 use s4_run::RunFault;
-use s4_script::{Line, Opening, ReplyText, UsedText};
+use s4_script::{Line, ReplyText, UsedText};
 use s4_store::{PlainStore, Store};
-use s4_types::{Step, Version, WireVersion};
+use s4_types::{Step, Version};
 use std::io;
 use std::sync::Wait;
 
@@ -17,16 +17,15 @@ const SWEPT: u64 = 2;
 
 /// Whether the same is told of a script of these lines by a drive over the plain store, by one over
 /// the arena, and by conversations with a front of one and of two cells; and the same with a sweep
-/// behind each line, where the script doesn't ask how much is held. Conversations speak version 1.
+/// behind each line, where the script doesn't ask how much is held.
 pub fn check(
     rt: &HostRuntime,
     waits: &impl Wait,
     name: &str,
     texts: &Texts,
-    opening: Opening,
+    window: u64,
     lines: &[Line],
 ) -> io::Result<bool> {
-    let window = opening.window;
     if lines.iter().any(|line| matches!(line, Line::Cut(_))) {
         return Ok(true);
     }
@@ -35,9 +34,6 @@ pub fn check(
         return Ok(is_same);
     }
     let is_same = check_drives(rt, name, texts, window, lines, SWEPT)? && is_same;
-    if opening.version == WireVersion::Two {
-        return Ok(is_same);
-    }
     let is_same = check_front(rt, waits, name, texts, window, lines, 1)? && is_same;
     Ok(check_front(rt, waits, name, texts, window, lines, 2)? && is_same)
 }

@@ -26,7 +26,7 @@ pub fn is_expected(shelf: &Shelf, waits: &impl Wait, name: &str) -> io::Result<b
 
 fn check_cut(rt: &HostRuntime, waits: &impl Wait, name: &str, texts: &Texts) -> io::Result<bool> {
     let (opening, lines) = read(rt.alloc(), texts)?;
-    cuts::check(rt, waits, name, texts, opening, &lines)
+    cuts::check(rt, waits, name, texts, opening.window, &lines)
 }
 
 /// What the first line of a script without a fault opens, and what the other lines ask for.

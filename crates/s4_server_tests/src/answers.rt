@@ -8,7 +8,7 @@ use s4_client::{CallFault, call};
 use s4_command::Call;
 use s4_commands::{Fault, call_over};
 use s4_stream::SessionFault;
-use s4_types::{ObjectId, Purse, Refusal, Reply, Right};
+use s4_types::{ObjectId, Purse, Refusal, Reply, Right, WireVersion};
 use std::alloc::Global;
 use std::process::Abort;
 use std::test::Fail;
@@ -94,7 +94,13 @@ fn is_told(outcome: &Result<(), Fault>, text: &[u8], wanted: &Answer) -> bool {
 
 /// That a call is answered so by what the peer says.
 fn check_answer<R: Abort>(rt: &R, alloc: Global, said: &[u8], wanted: &Answer) -> Result<(), Fail> {
-    let answer = call(alloc, &mut &said[..], &mut Vec::new(alloc), CREATE);
+    let answer = call(
+        WireVersion::One,
+        alloc,
+        &mut &said[..],
+        &mut Vec::new(alloc),
+        CREATE,
+    );
     assert!(rt; is_answer(&answer, wanted), "{said:?}: {answer:?}");
     Ok(())
 }

@@ -4,6 +4,7 @@ use crate::answers::{Answer, LOST, is_answer};
 use crate::client_peers::{Failure, Sink, Source};
 use crate::frames::{ANSWER, CALL, joined};
 use s4_client::{CallFault, call};
+use s4_types::WireVersion;
 use std::alloc::Global;
 use std::io::ErrorKind;
 use std::process::Abort;
@@ -38,7 +39,7 @@ fn check<R: Abort>(
         calls: 0,
         fails: peer.writing,
     };
-    let answer = call(alloc, &mut reader, &mut writer, CALL);
+    let answer = call(WireVersion::One, alloc, &mut reader, &mut writer, CALL);
     let is_as_wanted = is_answer(&answer, wanted) && writer.taken.as_slice() == taken;
     assert!(rt; is_as_wanted, "{peer:?}: {answer:?}");
     Ok(())
@@ -61,7 +62,7 @@ fn a_call_is_answered(rt: HostRuntime) -> Result<(), Fail> {
         calls: 0,
         fails: None,
     };
-    let answer = call(alloc, &mut reader, &mut writer, CALL);
+    let answer = call(WireVersion::One, alloc, &mut reader, &mut writer, CALL);
     assert!(rt; is_answer(&answer, &Answer::Made), "{answer:?}");
     assert!(rt; reader.bytes == b"\x00".as_slice());
     assert!(rt; writer.taken.as_slice() == CALL);
@@ -111,7 +112,13 @@ fn narrow_peers_change_nothing_and_broken_ones_are_lost(rt: HostRuntime) -> Resu
 fn a_call_that_has_no_room_is_lost(rt: HostRuntime) -> Result<(), Fail> {
     let mut room = [0; 8];
     let mut answer = ANSWER;
-    let told = call(rt.alloc(), &mut answer, &mut room.as_mut_slice(), CALL);
+    let told = call(
+        WireVersion::One,
+        rt.alloc(),
+        &mut answer,
+        &mut room.as_mut_slice(),
+        CALL,
+    );
     assert!(rt; told == Err(CallFault::ConnectionLost));
     Ok(())
 }
