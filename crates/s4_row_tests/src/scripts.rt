@@ -13,15 +13,52 @@ use std::alloc::Global;
 use std::io;
 use std::sync::Wait;
 
-/// Whether all is as expected for a script, also where it is cut behind each line.
+/// Whether all is as expected for a script, also where it is cut behind each line, and where its
+/// callers speak version 2.
 pub fn is_expected(shelf: &Shelf, waits: &impl Wait, name: &str) -> io::Result<bool> {
     let texts = shelf.texts(name, "script")?;
     let is_same = check(shelf.rt, name, &texts)?;
+    let is_same = is_second_expected(shelf, name, &texts)? && is_same;
     if texts.fault.is_empty() {
         Ok(check_cut(shelf.rt, waits, name, &texts)? && is_same)
     } else {
         Ok(is_same)
     }
+}
+
+/// Whether a script whose callers speak version 2 writes the text of kind `second`, or what it writes
+/// by version 1 where there is none.
+fn is_second_expected(shelf: &Shelf, name: &str, texts: &Texts) -> io::Result<bool> {
+    let alloc = shelf.rt.alloc();
+    let Some(input) = second(alloc, &texts.input)? else {
+        return Ok(true);
+    };
+    let mut output = shelf.text_if_any(name, "second")?;
+    if output.is_empty() {
+        output.extend_from_slice(&texts.output)?;
+    }
+    let fault = Vec::from_slice(alloc, &texts.fault)?;
+    let name = format!(in alloc; "{name} by version 2")?;
+    let texts = Texts {
+        input,
+        output,
+        fault,
+    };
+    check(shelf.rt, name.as_str(), &texts)
+}
+
+/// The script whose first line says besides that its callers speak version 2; none where that says so
+/// already, or is empty.
+fn second(alloc: Global, script: &[u8]) -> io::Result<Option<Vec<u8>>> {
+    let end = script.iter().position(|byte| *byte == b'\n');
+    let (first, rest) = script.split_at(end.unwrap_or(script.len()));
+    if first.is_empty() || first.ends_with(b" wire 2") {
+        return Ok(None);
+    }
+    let mut said = Vec::from_slice(alloc, first)?;
+    said.extend_from_slice(b" wire 2")?;
+    said.extend_from_slice(rest)?;
+    Ok(Some(said))
 }
 
 fn check_cut(rt: &HostRuntime, waits: &impl Wait, name: &str, texts: &Texts) -> io::Result<bool> {
