@@ -1,4 +1,4 @@
-"""Each allocation of the library's calls refused in turn, on the worked cases of the program s4_refusal_tests."""
+"""Each allocation of the library's calls refused in turn, on the worked cases of the program s4_row_tests."""
 import os
 import re
 from concurrent.futures import ThreadPoolExecutor
@@ -8,6 +8,8 @@ from tools.growth import faults_of_growth
 from tools.holding import READS as KINDS_OF_READS, faults_of_holding
 from tools.refusing import NONE, Program, Refusal
 
+# The word that has the program make these calls, and nothing else; one case's, where its name comes next.
+PART = "calls"
 # What the program says of a case, and of all that it carried out.
 CASE = re.compile(rb"(\w+): as expected, without memory: (\d+) replies, (\d+) errors\n")
 END = b"%d cases, 0 not as expected\n"
@@ -31,11 +33,11 @@ class Calling(Program):
         return super().environment(tells, words | {"REFUSE_MARKS": "1"})
 
     def call(self, name, refusal=NONE, measures=False):
-        return self.run([name], os.devnull, refusal, measures)
+        return self.run([PART, name], os.devnull, refusal, measures)
 
     def names(self):
         """The names of all cases; none where the program says something else with ample memory."""
-        ran = self.run([], os.devnull)
+        ran = self.run([PART], os.devnull)
         names = [it[1].decode() for it in CASE.finditer(ran.output)]
         wanted = b"".join(b"%s: as expected, without memory: 0 replies, 0 errors\n" % it.encode() for it in names)
         return names if ran.status == 0 and ran.output == wanted + END % len(names) else []

@@ -1,4 +1,4 @@
-// A small program in the place of s4_refusal_tests, in which mistakes are planted that show only where an allocation is refused. It is
+// A small program in the place of s4_row_tests, in which mistakes are planted that show only where an allocation is refused. It is
 // compiled for each mistake by -DMISTAKE=K. Each of its first five cases makes three calls, each of which takes a block of its own. In the two
 // others a value is read often.
 #include <stdio.h>
@@ -85,9 +85,11 @@ int main(int count, char **words)
 {
     static char output[1 << 12];
     int carried_out = 0, wrong = 0;
+    if (count < 2 || strcmp(words[1], "calls"))
+        return 2;
     setvbuf(stdout, output, _IOFBF, sizeof output);
     for (int it = 0; it < CASES; it++)
-        if (count < 2 || !strcmp(words[1], cases[it])) {
+        if (count < 3 || !strcmp(words[2], cases[it])) {
             carried_out++;
             wrong += carry_out(cases[it]);
         }

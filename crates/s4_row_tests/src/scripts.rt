@@ -3,7 +3,7 @@
 
 use crate::cuts;
 use crate::telling::is_run_same;
-use crate::texts::{Shelf, Texts, utf8};
+use crate::texts::{Shelf, Texts, invalid, utf8};
 use s4_drive::{Drive, never_down};
 use s4_run::{RunFault, run_script};
 use s4_script::{CutText, Line, ReplyText, UsedText, parse_line, parse_window};
@@ -11,7 +11,6 @@ use s4_store::PlainStore;
 use s4_types::{Moment, Step, Version};
 use std::alloc::Global;
 use std::io;
-use std::io::ErrorKind;
 use std::sync::Wait;
 
 /// Whether all is as expected for a script, also where it is cut behind each line.
@@ -26,12 +25,16 @@ pub fn is_expected(shelf: &Shelf, waits: &impl Wait, name: &str) -> io::Result<b
 }
 
 fn check_cut(rt: &HostRuntime, waits: &impl Wait, name: &str, texts: &Texts) -> io::Result<bool> {
-    let script = utf8(&texts.input)?;
-    let window = window_of(rt.alloc(), script).map_err(|_| io::Error::from(
-        ErrorKind::InvalidData,
-    ))?;
-    let lines = lines_of(rt.alloc(), script).map_err(|_| io::Error::from(ErrorKind::InvalidData))?;
+    let (window, lines) = read(rt.alloc(), texts)?;
     cuts::check(rt, waits, name, texts, window, &lines)
+}
+
+/// The window of a script without a fault, and what its lines ask for.
+pub fn read(alloc: Global, texts: &Texts) -> io::Result<(u64, Vec<Line>)> {
+    let script = utf8(&texts.input)?;
+    let window = window_of(alloc, script).map_err(|_| invalid())?;
+    let lines = lines_of(alloc, script).map_err(|_| invalid())?;
+    Ok((window, lines))
 }
 
 /// Whether all is as expected for a script, in both ways where it has no fault.

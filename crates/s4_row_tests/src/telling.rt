@@ -1,4 +1,4 @@
-//! What is told of a row where it isn't as expected.
+//! What is told of rows and cases: whether they are as expected, what isn't, and how many there were.
 
 use crate::texts::Texts;
 use s4_run::RunFault;
@@ -63,5 +63,38 @@ fn is_fault_same(
             let told = format!(in rt.alloc(); "s4d: {fault}\n")?;
             is_same(rt, name, expected, told.as_bytes())
         }
+    }
+}
+
+/// Whether all was as expected, in words.
+pub fn word_of(is_same: bool) -> &'static str {
+    if is_same {
+        "as expected"
+    } else {
+        "NOT as expected"
+    }
+}
+
+/// How many there were, and how many of them weren't as expected.
+#[derive(Drop)]
+pub struct Tally {
+    count: usize,
+    wrong: usize,
+}
+
+impl Tally {
+    pub fn new() -> Tally {
+        Tally { count: 0, wrong: 0 }
+    }
+
+    /// Counts one more.
+    pub fn add(&mut self, is_same: bool) {
+        self.count = self.count.saturating_add(1);
+        self.wrong = self.wrong.saturating_add(usize::from(!is_same));
+    }
+
+    /// Tells how many of what there were.
+    pub fn tell(&self, rt: &HostRuntime, what: &str) -> io::Result<()> {
+        println!(rt; "{} {what}, {} not as expected", self.count, self.wrong)
     }
 }

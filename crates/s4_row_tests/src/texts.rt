@@ -66,5 +66,10 @@ fn section(alloc: Global, lines: &str) -> io::Result<Vec<u8>> {
 
 /// The text that these bytes are.
 pub fn utf8(bytes: &[u8]) -> io::Result<&str> {
-    std::str::from_utf8(bytes).map_err(|_| io::Error::from(ErrorKind::InvalidData))
+    std::str::from_utf8(bytes).map_err(|_| invalid())
+}
+
+/// That a text isn't written as it has to be.
+pub fn invalid() -> io::Error {
+    io::Error::from(ErrorKind::InvalidData)
 }

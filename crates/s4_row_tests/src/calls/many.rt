@@ -1,10 +1,9 @@
 //! Many requests by one pass. One that met want of memory leaves no receipt, and is made again. What
 //! is asked for in all is measured (`tools/calls.py`).
 
-use crate::asked::asked;
-use crate::calls::ask;
-use crate::case::Case;
-use crate::steps::is_no_memory;
+use crate::calls::asked::{asked, is_no_memory};
+use crate::calls::case::Case;
+use crate::calls::serving::ask;
 use s4_pool::{Asked, Front, OpenGate, Pass};
 use s4_types::{Moment, Refusal, Reply};
 use std::io;

@@ -1,69 +1,48 @@
 //! The requests of a row, given to a drive one by one. Where one is answered that there was no
 //! memory, the drive is as before, and the same request then gets the row's reply.
 
-use crate::asked::{asked, error_of, invalid};
-use crate::case::Case;
+use crate::calls::asked::{asked_in, is_no_memory, text_of};
+use crate::calls::case::Case;
+use crate::scripts;
+use crate::texts::invalid;
 use s4_arena::Arena;
 use s4_drive::Drive;
 use s4_pool::Asked;
-use s4_script::{ReplyText, parse_window};
+use s4_script::Line;
 use s4_store::{PlainStore, Store};
-use s4_types::{Moment, Principal, Purse, PurseNo, Refusal, Reply, Version};
-use std::{fs, io};
+use s4_types::{Moment, Principal, Purse, PurseNo, Reply, Version};
+use std::io;
 
 pub fn over_plain_store(case: &mut Case, row: &str) -> io::Result<()> {
-    let (script, replies) = (text(case, row, "script")?, text(case, row, "expected")?);
-    let window = window_of(case, script.as_str())?;
+    let texts = case.shelf.texts(row, "script")?;
+    let (window, lines) = scripts::read(case.alloc(), &texts)?;
     let store = PlainStore::new(case.alloc());
     let mut drive = Drive::new(case.alloc(), store, window);
-    give_all(case, &mut drive, script.as_str(), replies.as_str())
+    give_all(case, &mut drive, &lines, &texts.output)
 }
 
 pub fn over_arena(case: &mut Case, row: &str) -> io::Result<()> {
-    let (script, replies) = (text(case, row, "script")?, text(case, row, "expected")?);
-    let window = window_of(case, script.as_str())?;
+    let texts = case.shelf.texts(row, "script")?;
+    let (window, lines) = scripts::read(case.alloc(), &texts)?;
     let store = Arena::new(case.alloc());
     let mut drive = Drive::new(case.alloc(), store, window);
-    give_all(case, &mut drive, script.as_str(), replies.as_str())
+    give_all(case, &mut drive, &lines, &texts.output)
 }
 
-fn text(case: &Case, row: &str, kind: &str) -> io::Result<String> {
-    let path = format!(in case.alloc(); "{row}.{kind}")?;
-    fs::read_to_string(case.rt, path.as_str())
-}
-
-/// The window that a script's first line names.
-fn window_of(case: &Case, script: &str) -> io::Result<u64> {
-    let first = script.lines().next().unwrap_or("");
-    parse_window(case.alloc(), first.as_bytes()).map_err(error_of)
-}
-
-/// Gives a drive the requests of a script, and compares its replies.
+/// Gives a drive the requests of lines, and compares its replies.
 fn give_all<S: Store<Version>>(
     case: &mut Case,
     drive: &mut Drive<S>,
-    script: &str,
-    replies: &str,
+    lines: &[Line],
+    replies: &[u8],
 ) -> io::Result<()> {
     let mut told = String::new(case.alloc());
-    for line in script.lines().skip(1) {
-        give(case, drive, line, &mut told)?;
+    for line in lines {
+        let reply = replied(case, drive, &asked_in(line)?)?;
+        told.push_str(text_of(case.alloc(), &reply)?.as_str())?;
+        told.push('\n')?;
     }
-    case.check(told.as_str() == replies, "other replies");
-    Ok(())
-}
-
-/// Gives a drive the request of a line, and puts the text of its reply behind those of before.
-fn give<S: Store<Version>>(
-    case: &mut Case,
-    drive: &mut Drive<S>,
-    line: &str,
-    told: &mut String,
-) -> io::Result<()> {
-    let asked = asked(case.alloc(), line)?;
-    let reply = replied(case, drive, &asked)?;
-    let text = format!(in case.alloc(); "{}\n", ReplyText(&reply))?;
-    told.push_str(text.as_str())?;
+    case.check(told.as_bytes() == replies, "other replies");
     Ok(())
 }
 
@@ -89,10 +68,6 @@ fn replied<S: Store<Version>>(
     let reply = step(case, drive, asked);
     case.is_marking = true;
     reply
-}
-
-pub fn is_no_memory(reply: &Reply) -> bool {
-    matches!(reply, Reply::Refused(Refusal::NoMemory))
 }
 
 /// The call that the case is about.

@@ -1,5 +1,5 @@
 use Rattle.s4_store.specs.Chains.{IsOpen}
-use Rattle.s4_refusal_tests.proofs.rooms.add_items.Given as goal
+use Rattle.s4_row_tests.proofs.calls.rooms.add_items.Given as goal
 
 abbrev pub invariant-loop-item : goal.invariant-loop-item
 invariant-loop-item l = IsOpen l.arena.chains l.chain

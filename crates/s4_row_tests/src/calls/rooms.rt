@@ -2,7 +2,7 @@
 
 ghost use Rattle.s4_store.specs.Chains.{IsOpen};
 
-use crate::case::Case;
+use crate::calls::case::Case;
 use s4_arena::Arena;
 use s4_store::{Chain, NoMemory, Store};
 use std::io;

@@ -1,11 +1,8 @@
-//! Nothing but a test: calls of the library that can want memory, each on a worked case. It is run
-//! with plenty of memory, and by `./refusals calls` with each allocation of these calls refused in
-//! turn. For each case it writes whether all was as expected, and how many calls told that there was
-//! no memory. The first argument names the one case that is carried out; without it all are.
-#![tactic(auto)]
+//! Calls of the library that can want memory, each on a worked case. They are made with plenty of
+//! memory, and by `./refusals calls` with each allocation of them refused in turn. For each case it is
+//! told whether all was as expected, and how many calls told that there was no memory.
 
 mod asked;
-mod calls;
 mod case;
 mod fronts;
 mod lent;
@@ -13,14 +10,17 @@ mod many;
 mod pieces;
 mod reads;
 mod rooms;
+mod serving;
 mod steps;
 mod windows;
 
-use crate::case::Case;
-use crate::fronts::Marked;
-use crate::lent::Served;
+use crate::calls::case::Case;
+use crate::calls::fronts::Marked;
+use crate::calls::lent::Served;
+use crate::telling::Tally;
+use crate::texts::Shelf;
+use std::io;
 use std::sync::Wait;
-use std::{env, io};
 
 /// What is called.
 #[derive(Clone, Copy)]
@@ -101,20 +101,17 @@ const CASES: [(&str, Called); 26] = [
     ),
 ];
 
-fn main(rt: HostRuntime) -> io::Result<()> {
-    let words: Vec<String> = env::args(&rt)?.collect(rt.alloc())?;
-    let chosen = words.get(1);
-    let (mut count, mut wrong) = (0usize, 0usize);
+/// Makes the calls of all cases, or of the one of that name, and tells what came of each.
+pub fn make_all<R: Wait>(shelf: Shelf, waits: &R, chosen: Option<&String>) -> io::Result<()> {
+    let mut tally = Tally::new();
     for (name, called) in CASES {
         if chosen.is_none_or(|chosen| chosen.as_str() == name) {
-            count = count.saturating_add(1);
-            let mut case = Case::new(&rt, name);
-            carry_out(&mut case, &rt, called)?;
-            case.tell()?;
-            wrong = wrong.saturating_add(case.faults.min(1));
+            let mut case = Case::new(shelf, name);
+            carry_out(&mut case, waits, called)?;
+            tally.add(case.tell()?);
         }
     }
-    println!(rt; "{count} cases, {wrong} not as expected")
+    tally.tell(shelf.rt, "cases")
 }
 
 /// Carries out a case.

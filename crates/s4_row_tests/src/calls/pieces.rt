@@ -1,14 +1,13 @@
 //! The bytes of principal 7, who makes an object, writes to it and reads it: heard by a session in
 //! pieces, and by a hall a frame at a time.
 
-use crate::asked::{asked, invalid};
-use crate::case::Case;
-use s4_session::{Event, FeedError, Hall, LoginFault, Logins, Session};
+use crate::calls::asked::asked;
+use crate::calls::case::Case;
+use crate::texts::invalid;
+use s4_session::{Event, FeedError, Hall, Logins, Session};
 use s4_types::{Caller, Moment, WireVersion};
-use std::alloc::{AllocError, Global};
+use std::alloc::Global;
 use std::io;
-
-const LOGINS: &[u8] = b"7 000102030405060708090a0b0c0d0e0f\n";
 
 /// A frame that comes at a moment, the line that says what it asks (or none for the Hello), and what is
 /// sent for it.
@@ -45,18 +44,15 @@ const ROWS: [Row; 4] = [
 /// What is sent for a request that met want of memory.
 const NO_MEMORY: &[u8] = b"\x00\x00\x00\x02\x08\x10";
 
-fn logins(alloc: Global) -> io::Result<Logins> {
-    match Logins::read(alloc, LOGINS) {
-        Ok(logins) => Ok(logins),
-        Err(LoginFault::NoMemory) => Err(io::Error::from(AllocError)),
-        Err(_) => Err(invalid()),
-    }
+fn logins(case: &Case) -> io::Result<Logins> {
+    let text = case.shelf.text("seven", "logins")?;
+    Logins::read(case.alloc(), &text).map_err(|_| invalid())
 }
 
 /// Feeds a session with the stream. Where there is no memory for a piece, the same piece gives the
 /// same events then.
 pub fn feed(case: &mut Case, size: usize) -> io::Result<()> {
-    let logins = logins(case.alloc())?;
+    let logins = logins(case)?;
     let stream = stream(case.alloc())?;
     let mut session = Session::open(case.alloc());
     hear_all(case, &mut session, &logins, (&stream, size))
@@ -152,7 +148,7 @@ fn hear(
 /// Gives a hall the stream, a frame at a time.
 pub fn arrive(case: &mut Case) -> io::Result<()> {
     let alloc = case.alloc();
-    let mut hall = Hall::open(alloc, 100, logins(alloc)?);
+    let mut hall = Hall::open(alloc, 100, logins(case)?);
     for (index, row) in ROWS.iter().enumerate() {
         if !is_sent(case, &mut hall, row)? {
             return check_after(case, &mut hall, index);

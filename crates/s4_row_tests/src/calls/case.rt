@@ -1,49 +1,51 @@
 //! A case, and where the calls that it is about begin and end.
 
+use crate::telling::word_of;
+use crate::texts::Shelf;
 use std::alloc::Global;
 use std::io;
 
 /// A case that is carried out, and what came of it so far.
 #[derive(Drop)]
 pub struct Case<'a> {
-    pub rt: &'a HostRuntime,
-    pub name: &'a str,
+    pub shelf: Shelf<'a>,
+    name: &'a str,
     /// Whether it is about the calls that come now.
     pub is_marking: bool,
     /// How many of its calls told by a reply that there was no memory, and how many by an error.
     replies: usize,
     errors: usize,
-    /// How much wasn't as it has to be.
-    pub faults: usize,
+    /// Whether all was as it has to be.
+    is_same: bool,
 }
 
 impl<'a> Case<'a> {
-    pub fn new(rt: &'a HostRuntime, name: &'a str) -> Case<'a> {
+    pub fn new(shelf: Shelf<'a>, name: &'a str) -> Case<'a> {
         Case {
-            rt,
+            shelf,
             name,
             is_marking: true,
             replies: 0,
             errors: 0,
-            faults: 0,
+            is_same: true,
         }
     }
 
     pub fn alloc(&self) -> Global {
-        self.rt.alloc()
+        self.shelf.rt.alloc()
     }
 
     /// Marks on standard error that the call begins: `tools/refuse.c` counts and refuses what comes
     /// up to its end, and nothing else.
     pub fn begins(&self) {
         if self.is_marking {
-            let _ = eprintln!(self.rt; "the call begins");
+            let _ = eprintln!(self.shelf.rt; "the call begins");
         }
     }
 
     pub fn ends(&self) {
         if self.is_marking {
-            let _ = eprintln!(self.rt; "the call ends");
+            let _ = eprintln!(self.shelf.rt; "the call ends");
         }
     }
 
@@ -60,21 +62,20 @@ impl<'a> Case<'a> {
     /// That something holds; else it is told what doesn't.
     pub fn check(&mut self, holds: bool, what: &str) {
         if !holds {
-            self.faults = self.faults.saturating_add(1);
-            let _ = println!(self.rt; "{}: {what}", self.name);
+            self.is_same = false;
+            let _ = println!(self.shelf.rt; "{}: {what}", self.name);
         }
     }
 
-    /// Tells what came of it.
-    pub fn tell(&self) -> io::Result<()> {
-        let word = if self.faults == 0 {
-            "as expected"
-        } else {
-            "NOT as expected"
-        };
-        println!(self.rt;
-            "{}: {word}, without memory: {} replies, {} errors",
-            self.name, self.replies, self.errors
-        )
+    /// Tells what came of it, and returns whether all was as expected.
+    pub fn tell(&self) -> io::Result<bool> {
+        println!(self.shelf.rt;
+            "{}: {}, without memory: {} replies, {} errors",
+            self.name,
+            word_of(self.is_same),
+            self.replies,
+            self.errors
+        )?;
+        Ok(self.is_same)
     }
 }

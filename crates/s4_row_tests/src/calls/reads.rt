@@ -1,9 +1,9 @@
 //! Many reads of one value by one pass. What they hold in the end is measured (`tools/calls.py`): a
 //! read leaves its record and its receipt, and no copy of the value.
 
-use crate::asked::asked;
-use crate::calls::ask;
-use crate::case::Case;
+use crate::calls::asked::asked;
+use crate::calls::case::Case;
+use crate::calls::serving::ask;
 use s4_pool::{Asked, Front, OpenGate, Pass};
 use s4_types::{Moment, Reply};
 use std::io;

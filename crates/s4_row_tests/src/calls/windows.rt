@@ -1,9 +1,9 @@
 //! A SetWindow on two cells, behind as many records of each. Where the cells hold values it asks for no
 //! more memory than where they hold none (`tools/calls.py`).
 
-use crate::asked::asked;
-use crate::calls::{Call, ask, serve_one};
-use crate::case::Case;
+use crate::calls::asked::asked;
+use crate::calls::case::Case;
+use crate::calls::serving::{Call, ask, serve_one};
 use s4_pool::{Front, OpenGate, Pass};
 use s4_types::{Reply, Request};
 use std::io;

@@ -1,9 +1,9 @@
 //! The worked case of five cells and two passes. A request that met want of memory leaves no record
 //! and no receipt, and a front that met it at its closing has all its cells, and is closed then.
 
-use crate::asked::invalid;
-use crate::calls::{Call, serve_all};
-use crate::case::Case;
+use crate::calls::case::Case;
+use crate::calls::serving::{Call, serve_all};
+use crate::texts::invalid;
 use s4_pool::{Cell, CloseFault, Closed, Front, Left, OpenGate, Pass, Why};
 use s4_types::Record;
 use std::alloc::Global;

@@ -1,8 +1,8 @@
 //! Calls of a front. A request that met want of memory leaves no record and no receipt.
 
-use crate::asked::{asked, invalid, is_told};
-use crate::case::Case;
-use crate::steps::is_no_memory;
+use crate::calls::asked::{asked, is_no_memory, is_told};
+use crate::calls::case::Case;
+use crate::texts::invalid;
 use s4_pool::{Asked, Front, OpenGate, Pass, Receipt};
 use s4_types::Reply;
 use std::io;

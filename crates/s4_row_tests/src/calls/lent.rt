@@ -1,0 +1,30 @@
+//! Cases of one front with two cells and one pass, which it lends to them.
+
+use crate::calls::case::Case;
+use crate::calls::{many, reads, windows};
+use s4_pool::{Front, OpenGate};
+use std::io;
+use std::sync::Wait;
+
+/// What the front serves.
+#[derive(Clone, Copy)]
+pub enum Served {
+    /// Four thousand requests.
+    Many,
+    /// Two thousand reads of so many bytes of one value.
+    Reads(u32),
+    /// A SetWindow, behind requests of these lines.
+    SetWindow(&'static str, &'static str),
+}
+
+pub fn serve<R: Wait>(case: &mut Case, rt: &R, served: Served) -> io::Result<()> {
+    let (front, mut passes) = Front::open(case.alloc(), 100, 2, 1, OpenGate)?;
+    let mut pass = passes.remove(0);
+    match served {
+        Served::Many => many::serve(case, rt, &front, &mut pass),
+        Served::Reads(length) => reads::read(case, rt, &front, &mut pass, length),
+        Served::SetWindow(first, second) => {
+            windows::set(case, rt, &front, &mut pass, (first, second))
+        }
+    }
+}
