@@ -1,8 +1,8 @@
 //! The server.
 
-ghost use Rattle.std.specs.Prelude.{◌≡◌, ◌==◌, ℕ, false, true, IfOk, IsTrue};
+ghost use Rattle.std.specs.Prelude.{◌≡◌, ◌≤◌, ◌==◌, ℕ, false, true, IfOk, IsTrue};
 ghost use Rattle.s4_types.specs.Base.{opened};
-ghost use Rattle.s4_types.specs.Limits.{is_within_limits};
+ghost use Rattle.s4_types.specs.Limits.{data_asked, data_in, is_within_limits};
 ghost use Rattle.s4_types.specs.Play.{replies};
 ghost use Rattle.s4_types.specs.Strike.{records_of};
 ghost use Rattle.s4_drive.specs.Step.{replies_without_strangers};
@@ -117,6 +117,7 @@ impl Server {
     ) -> Reply
         ensures settings { self.new ≡ self.old }
         ensures limits { IsTrue (is_within_limits caller.version result) }
+        ensures asked { data_in result ≤ data_asked request.now }
     {
         match self.passes.get_mut(0) {
             Some(pass) => self.front.serve(rt, pass, caller, clock.moment(), request),
