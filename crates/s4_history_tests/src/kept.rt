@@ -1,6 +1,6 @@
 //! Journals in folders.
 
-use crate::scripted::{SCRIPT, journal};
+use crate::scripted::{SCRIPT, journal, journal_of_both, journal_of_second};
 use s4_history::{HistoryFault, Span};
 use s4_journal::{Call, Calls, Sum, Writer, line_behind};
 use s4_starts::{StartFault, check, write_json, write_list, write_merged};
@@ -152,6 +152,51 @@ fn starts_are_told(rt: HostRuntime) -> Result<(), Fail> {
     assert_eq!(rt; lines.as_slice(), LINES.as_bytes());
     let none = write_list(&rt, "kept", Some(1), &Span::whole(), &mut lines);
     assert_eq!(rt; none, Err(StartFault::NoStart(1)));
+    Ok(())
+}
+
+/// A folder with these records, and with no calls and no lines.
+fn keep_records(rt: &HostRuntime, folder: &str, records: &[u8]) -> Result<(), Fail> {
+    keep(rt, folder, records, &[], "")
+}
+
+/// A start whose callers speak version 2 has a script of version 2, and is checked.
+#[test]
+fn starts_of_version_2_are_told(rt: HostRuntime) -> Result<(), Fail> {
+    let alloc = rt.alloc();
+    keep_records(&rt, "second", &journal_of_second(alloc)?)?;
+    let mut script = Vec::new(alloc);
+    write_merged(&rt, "second", None, &Span::whole(), &mut script)?;
+    assert!(rt; script.starts_with(b"window 10 wire 2\n5 2 create 0\n"));
+    let mut lines = Vec::new(alloc);
+    write_list(&rt, "second", None, &Span::whole(), &mut lines)?;
+    assert!(rt; lines.starts_with(b"0 0 5 2 0 create 0 -> made 2.0.1\n0 1 6 2 0 write "));
+    let (told, outcome) = checked(&rt, "second");
+    assert_eq!(rt; outcome, Ok(()));
+    let told = str::from_utf8(&told).unwrap_or_default();
+    assert!(rt; told.contains("\nstart 2 cell 0 records 4\n") && told.ends_with("start 2 sound\n"));
+    Ok(())
+}
+
+/// One whose callers speak both has none, and nothing is written of one. It is listed and checked.
+#[test]
+fn starts_of_both_versions_have_no_script(rt: HostRuntime) -> Result<(), Fail> {
+    let alloc = rt.alloc();
+    keep_records(&rt, "both", &journal_of_both(alloc)?)?;
+    let mut script = Vec::new(alloc);
+    let told = write_merged(&rt, "both", None, &Span::whole(), &mut script);
+    assert_eq!(rt;
+        told,
+        Err(StartFault::Journal(2, HistoryFault::BothVersions))
+    );
+    assert!(rt; script.is_empty());
+    let mut lines = Vec::new(alloc);
+    write_list(&rt, "both", None, &Span::whole(), &mut lines)?;
+    assert_eq!(rt;
+        str::from_utf8(&lines),
+        Ok("0 0 5 2 0 create 0 -> made 2.0.1\n0 1 6 2 0 write 2.0.1 0 61 -> done\n")
+    );
+    assert_eq!(rt; checked(&rt, "both").1, Ok(()));
     Ok(())
 }
 

@@ -1,9 +1,9 @@
 //! Journals that are written into files.
 
-use crate::example::{FIRST, FRONT, JOURNAL, LINES, TEXTS, creation, denial, header};
-use s4_journal::begin;
+use crate::example::{FIRST, FRONT, JOURNAL, LINES, TEXTS, creation, denial, header, object};
+use s4_journal::{Batch, Ending, begin, open, read_blocks};
 use s4_scribe::{Lines, Scribe, ScribeFault, file_path};
-use s4_types::Record;
+use s4_types::{Bytes, Record, Request, WireVersion};
 use std::alloc::Global;
 use std::fs::{File, Metadata, OpenFile, OpenOptions};
 use std::io::{Error, ErrorKind, Write};
@@ -106,6 +106,46 @@ fn records_are_written_in_turn(rt: HostRuntime) -> Result<(), Fail> {
         fs::read(&rt, path.as_str())?.as_slice(),
         JOURNAL.as_slice()
     );
+    Ok(fs::remove_file(&rt, path.as_str())?)
+}
+
+/// A write of 131050 bytes by version 2.
+fn large(alloc: Global) -> Result<Record, Fail> {
+    let mut large = creation()?;
+    large.caller.version = WireVersion::Two;
+    large.request = Request::Write {
+        object: object()?,
+        offset: 0,
+        bytes: Bytes::from_vec(vec![in alloc; 97; 131050]?)?,
+    };
+    Ok(large)
+}
+
+/// Records that one block doesn't hold stand each in one of its own.
+#[test]
+fn large_records_stand_alone(rt: HostRuntime) -> Result<(), Fail> {
+    let alloc = rt.alloc();
+    let id = process::id(rt.process());
+    let path = format!(in alloc; "/tmp/s4d_large_{id}")?;
+    let file = on_disk(&rt, path.as_str(), 100 * AMPLE * AMPLE)?;
+    let mut scribe = Scribe::begin(alloc, file, &header(), true)?;
+    let mut records = Vec::new(alloc);
+    for _ in 0..8 {
+        records.push(large(alloc)?)?;
+    }
+    scribe.write(alloc, 3, 0, records)?;
+    assert_eq!(rt; scribe.place(3), Some(8));
+    let written = fs::read(&rt, path.as_str())?;
+    let Ok((_, mut reader)) = open(&written) else {
+        return Err(Fail::from("a header"));
+    };
+    let read = read_blocks::<Batch>(alloc, &mut reader)?;
+    assert_eq!(rt; read.ending, Ending::Whole);
+    assert_eq!(rt; read.blocks.len(), 8);
+    assert!(rt; reader.sum == scribe.roll.sum().0);
+    for one in &read.blocks {
+        assert!(rt; one.cell() == 3 && one.records() == [large(alloc)?].as_slice());
+    }
     Ok(fs::remove_file(&rt, path.as_str())?)
 }
 
