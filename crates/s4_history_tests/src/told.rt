@@ -4,7 +4,7 @@ use s4_history::HistoryFault;
 use std::process::Abort;
 use std::test::Fail;
 
-const TEXTS: [(HistoryFault, &str); 14] = [
+const TEXTS: [(HistoryFault, &str); 15] = [
     (HistoryFault::NoJournal, "no journal"),
     (HistoryFault::NoBlock(76), "byte 76: no block"),
     (HistoryFault::NoLine(114), "byte 114: no line"),
@@ -25,6 +25,10 @@ const TEXTS: [(HistoryFault, &str); 14] = [
     (
         HistoryFault::MergeGoesBack(3),
         "merged record 3: moment goes back",
+    ),
+    (
+        HistoryFault::BothVersions,
+        "callers of both versions, and a script has one",
     ),
     (HistoryFault::Stray(1), "cell 1: a record of another cell"),
     (HistoryFault::Torn(1), "cell 1: another record of all cells"),
