@@ -106,12 +106,16 @@ pub fn make_all<R: Wait>(shelf: Shelf, waits: &R, chosen: Option<&String>) -> io
     let mut tally = Tally::new();
     for (name, called) in CASES {
         if chosen.is_none_or(|chosen| chosen.as_str() == name) {
-            let mut case = Case::new(shelf, name);
-            carry_out(&mut case, waits, called)?;
-            tally.add(case.tell()?);
+            tally.add(is_expected(Case::new(shelf, name), waits, called)?);
         }
     }
     tally.tell(shelf.rt, "cases")
+}
+
+/// Carries out a case, tells what came of it, and returns whether all was as expected.
+fn is_expected<R: Wait>(mut case: Case, waits: &R, called: Called) -> io::Result<bool> {
+    carry_out(&mut case, waits, called)?;
+    case.tell()
 }
 
 /// Carries out a case.

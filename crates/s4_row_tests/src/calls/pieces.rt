@@ -145,13 +145,17 @@ fn hear(
     heard.map_err(|_| invalid())
 }
 
-/// Gives a hall the stream, a frame at a time.
+/// Gives a fresh hall the stream, a frame at a time.
 pub fn arrive(case: &mut Case) -> io::Result<()> {
-    let alloc = case.alloc();
-    let mut hall = Hall::open(alloc, 100, logins(case)?);
+    let logins = logins(case)?;
+    arrive_at(case, &mut Hall::open(case.alloc(), 100, logins))
+}
+
+/// Gives a hall the frames in turn, up to one for which it had no memory.
+fn arrive_at(case: &mut Case, hall: &mut Hall) -> io::Result<()> {
     for (index, row) in ROWS.iter().enumerate() {
-        if !is_sent(case, &mut hall, row)? {
-            return check_after(case, &mut hall, index);
+        if !is_sent(case, hall, row)? {
+            return check_after(case, hall, index);
         }
     }
     Ok(())

@@ -47,8 +47,18 @@ pub fn serve_one<R: Wait>(
     let reply = replied(case, rt, front, pass, &asked);
     let is_same = is_told(case.alloc(), &reply, call.2)?;
     case.check(is_same, "another reply");
-    let is_one = pass.receipts().len() == before.saturating_add(1);
-    let is_kept = is_kept(case, pass.receipts().get(before), call)?;
+    check_receipts(case, pass.receipts(), before, call)
+}
+
+/// That the receipt of a call stands behind so many others, and none behind it.
+fn check_receipts(
+    case: &mut Case,
+    receipts: &[Receipt],
+    before: usize,
+    call: &Call,
+) -> io::Result<()> {
+    let is_one = receipts.len() == before.saturating_add(1);
+    let is_kept = is_kept(case, receipts.get(before), call)?;
     case.check(is_one && is_kept, "another receipt");
     Ok(())
 }

@@ -4,7 +4,7 @@
 use crate::calls::asked::{asked_in, is_no_memory, text_of};
 use crate::calls::case::Case;
 use crate::scripts;
-use crate::texts::invalid;
+use crate::texts::{Shelf, Texts, invalid};
 use s4_arena::Arena;
 use s4_drive::Drive;
 use s4_pool::Asked;
@@ -13,37 +13,62 @@ use s4_store::{PlainStore, Store};
 use s4_types::{Moment, Principal, Purse, PurseNo, Reply, Version};
 use std::io;
 
-pub fn over_plain_store(case: &mut Case, row: &str) -> io::Result<()> {
-    let texts = case.shelf.texts(row, "script")?;
-    let (opening, lines) = scripts::read(case.alloc(), &texts)?;
+/// The script of a row, what its lines ask for, and what is replied.
+#[derive(Drop)]
+struct Row {
+    window: u64,
+    lines: Vec<Line>,
+    texts: Texts,
+}
+
+impl Row {
+    fn read(shelf: &Shelf, name: &str) -> io::Result<Row> {
+        let texts = shelf.texts(name, "script")?;
+        let (opening, lines) = scripts::read(shelf.rt.alloc(), &texts)?;
+        Ok(Row {
+            window: opening.window,
+            lines,
+            texts,
+        })
+    }
+}
+
+pub fn over_plain_store(case: &mut Case, name: &str) -> io::Result<()> {
+    let row = Row::read(&case.shelf, name)?;
     let store = PlainStore::new(case.alloc());
-    let mut drive = Drive::new(case.alloc(), store, opening.window);
-    give_all(case, &mut drive, &lines, &texts.output)
+    give_all(case, &mut Drive::new(case.alloc(), store, row.window), &row)
 }
 
-pub fn over_arena(case: &mut Case, row: &str) -> io::Result<()> {
-    let texts = case.shelf.texts(row, "script")?;
-    let (opening, lines) = scripts::read(case.alloc(), &texts)?;
+pub fn over_arena(case: &mut Case, name: &str) -> io::Result<()> {
+    let row = Row::read(&case.shelf, name)?;
     let store = Arena::new(case.alloc());
-    let mut drive = Drive::new(case.alloc(), store, opening.window);
-    give_all(case, &mut drive, &lines, &texts.output)
+    give_all(case, &mut Drive::new(case.alloc(), store, row.window), &row)
 }
 
-/// Gives a drive the requests of lines, and compares its replies.
-fn give_all<S: Store<Version>>(
+/// Gives a drive the requests of a row, and compares its replies.
+fn give_all<S: Store<Version>>(case: &mut Case, drive: &mut Drive<S>, row: &Row) -> io::Result<()> {
+    let mut told = String::new(case.alloc());
+    for line in &row.lines {
+        give(case, drive, line, &mut told)?;
+    }
+    case.check(
+        told.as_bytes() == row.texts.output.as_slice(),
+        "other replies",
+    );
+    Ok(())
+}
+
+/// Gives a drive the request of a line, and puts the line of its reply behind those of before.
+fn give<S: Store<Version>>(
     case: &mut Case,
     drive: &mut Drive<S>,
-    lines: &[Line],
-    replies: &[u8],
+    line: &Line,
+    told: &mut String,
 ) -> io::Result<()> {
-    let mut told = String::new(case.alloc());
-    for line in lines {
-        let reply = replied(case, drive, &asked_in(line)?)?;
-        told.push_str(text_of(case.alloc(), &reply)?.as_str())?;
-        told.push('\n')?;
-    }
-    case.check(told.as_bytes() == replies, "other replies");
-    Ok(())
+    let asked = asked_in(line)?;
+    let reply = replied(case, drive, &asked)?;
+    told.push_str(text_of(case.alloc(), &reply)?.as_str())?;
+    Ok(told.push('\n')?)
 }
 
 /// The reply to a request, which is given again where there was no memory.
