@@ -408,8 +408,9 @@ def example(drive, who, client):
     show(drive, Write(made, 4, b"66"))
     show(drive, Read(made, 0, 100))
     show(drive, Read(made, 0, 100, at=before))
-    print(f"{len(drive.audit(who))} lines of an audit, the last of them")
-    for line in drive.audit(who)[-5:]:
+    lines = drive.audit(who)
+    print(f"{len(lines)} lines of an audit, the last of them")
+    for line in lines[-5:]:
         print(f"  {line!r}")
 
 
