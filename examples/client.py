@@ -10,7 +10,7 @@ makes an object, changes it, and reads it as it is and as it was. SECRET is 32 h
         drive.ask(Write(made, 0, b"hello"))
         data = drive.ask(Read(made, 0, 100)).data
 
-Requests and replies are the tables below: each row is a class of plain values. A refusal is an exception too.
+Requests and replies are the tables below: each row is a class of plain values. A refusal is raised, as in `except Denied as why: why.right`.
 """
 import argparse
 import re
@@ -221,31 +221,30 @@ AFTER = Maybe(Fields(Place, NUMBER, NAME))
 NAME_LINE = Fields(NameLine, NAME, OBJECT, GRANT)
 AUDIT_LINE = Fields(AuditLine, MOMENT, PRINCIPAL, U32, Number(1, 1, 20), FLAG, Number(1, 0, 15))
 
-# Classes of what is sent and of what comes, by the bytes at the front of a body.
-SENT, COMES = {}, {}
+# Classes of what comes, by the bytes at the front of a body.
+COMES = {}
 
 
-def row(table, front, name, parts, *bases):
-    """A class of bodies: its fields by name, in the order of the wire. A moment and a place may be left out."""
+def body(front, called, parts, *bases):
+    """A class of bodies: the bytes at their front, and their fields in the order of the wire. A moment and a place may be left out."""
     fields = [(it, object, field(default=None)) if part in (AT, AFTER) else (it, object) for it, part in parts.items()]
-    table[front] = make_dataclass(name, fields, bases=bases, unsafe_hash=True, namespace={"front": front, "parts": parts, "__module__": __name__})
-    return table[front]
+    return make_dataclass(called, fields, bases=bases, unsafe_hash=True, namespace={"front": front, "parts": parts, "__module__": __name__})
 
 
 def request(code, called, **parts):
-    return row(SENT, bytes([code]), called, parts)
+    return body(bytes([code]), called, parts)
 
 
 def reply(kind, called, **parts):
-    return row(COMES, bytes([kind]), called, parts)
+    return COMES.setdefault(bytes([kind]), body(bytes([kind]), called, parts))
 
 
 def refusal(number, called, **parts):
-    return row(COMES, bytes([8, number]), called, parts, Refused)
+    return COMES.setdefault(bytes([8, number]), body(bytes([8, number]), called, parts, Refused))
 
 
 def fault(number, called):
-    return row(COMES, bytes([17, number]), called, {}, Fault)
+    return COMES.setdefault(bytes([17, number]), body(bytes([17, number]), called, {}, Fault))
 
 
 Hello = request(0, "Hello", version=Number(1, 0, 255), who=PRINCIPAL, client=U32, secret=Secret())
@@ -300,24 +299,23 @@ NoMemory = refusal(16, "NoMemory")
 Malformed, BadLogin, FrameLength = fault(1, "Malformed"), fault(2, "BadLogin"), fault(3, "FrameLength")
 
 
-def frame_of(body, version):
-    """The frame of a request or a reply: its length, the bytes at its front, and its fields."""
-    spelled = body.front + b"".join(part.spell(getattr(body, name), version) for name, part in body.parts.items())
+def frame_of(asked, version):
+    """The frame of a request: its length, the byte at its front, and its fields."""
+    spelled = asked.front + b"".join(part.spell(getattr(asked, name), version) for name, part in asked.parts.items())
     if len(spelled) > LENGTH_OF_BODY[version]:
         raise ValueError(f"a body of {len(spelled)} bytes is too long for a frame")
     return len(spelled).to_bytes(4, "big") + spelled
 
 
-def read_body(body, version, table=None):
-    """What a body says, one of those that come, or of another table."""
-    table = COMES if table is None else table
-    kind = next((table[body[:size]] for size in (1, 2) if body[:size] in table), None)
+def read_body(given, version):
+    """What the body of a frame says: a reply, a refusal, a Welcome or a fault."""
+    kind = COMES.get(given[:1]) or COMES.get(given[:2])
     if kind is None:
-        raise Unreadable(f"no body begins with {body[:2].hex()}")
-    rest = Rest(body, version)
+        raise Unreadable(f"no body begins with {given[:2].hex()}")
+    rest = Rest(given, version)
     rest.take(len(kind.front))
     said = kind(*[part.take(rest) for part in kind.parts.values()])
-    if rest.place != len(body):
+    if rest.place != len(given):
         raise Unreadable("more stands behind a body")
     return said
 
@@ -410,8 +408,9 @@ def example(drive, who, client):
     show(drive, Write(made, 4, b"66"))
     show(drive, Read(made, 0, 100))
     show(drive, Read(made, 0, 100, at=before))
-    print(f"{len(drive.audit(who))} lines of an audit, the last of them")
-    for line in drive.audit(who)[-5:]:
+    lines = drive.audit(who)
+    print(f"{len(lines)} lines of an audit, the last of them")
+    for line in lines[-5:]:
         print(f"  {line!r}")
 
 

@@ -188,52 +188,62 @@ class Server:
                 return stream.read()
 
 
+def asked_by_tenant(made, home, since):
+    """What the owner of an object asks about it once it is made, and what each request is replied."""
+    purse, own = it.Purse(7, 0), it.Grant(0, since)
+    line = it.NameLine(home, made, own)
+    return (
+        (it.Write(made, 0, b"hello"), it.Done()),
+        (it.Append(made, b" there"), it.Done()),
+        (it.Read(made, 1, 100), it.Data(own, b"ello there")),
+        (it.Truncate(made, 5), it.Done()),
+        (it.Read(made, 0, 100), it.Data(own, b"hello")),
+        (it.Read(made, 0, 100, 2**63), it.Future()),
+        (it.SetAttr(made, b"\x00\xff"), it.Done()),
+        (it.GetAttr(made), it.Attr(own, b"\x00\xff")),
+        (it.SetAttr(made, bytes(257)), it.TooLong()),
+        (it.GetAclByUser(made, 9), it.NoEntry()),
+        (it.GetAclByUser(made, 7), it.Entry(own, 0, 7, 31)),
+        (it.GetAclByIndex(made, 0), it.Entry(own, 0, 7, 31)),
+        (it.GetAclByIndex(made, 255), it.NoEntry()),
+        (it.PCreate(home, made), it.Done()),
+        (it.PCreate(home, made), it.Exists()),
+        (it.PMount(purse, home), it.Mounted(own, made)),
+        (it.PList(7), it.Names((line,), False)),
+        (it.PList(7, it.Place(0, home)), it.Names((), False)),
+        (it.Delete(made), it.Named()),
+        (it.PDelete(purse, home), it.Done()),
+        (it.PMount(purse, home), it.NoPartition()),
+        (it.SetAcl(made, 9, 1), it.Done()),
+        (it.Flush(6, 5), it.BadRange()),
+        (it.FlushO(made, 0, since), it.Denied(32)),
+        (it.SetWindow(5), it.Denied(32)),
+        (it.SetBudget(purse, 5), it.Denied(32)),
+        (it.Delete(made), it.Done()),
+        (it.Read(made, 0, 100), it.NoObject()),
+    )
+
+
+def asked_by_administrator(made):
+    """What the administrator asks once that object is deleted, and what each request is replied."""
+    return (
+        (it.Read(made, 0, 100), it.NoObject()),
+        (it.Flush(0, 0), it.Done()),
+        (it.FlushO(made, 0, 0), it.Done()),
+        (it.SetWindow(86400000), it.Done()),
+        (it.SetBudget(it.Purse(7, 0), 2000000), it.Done()),
+    )
+
+
 def converse(cases, server, version):
-    """Each of the twenty requests by a version. What is wanted follows from docs/MODEL.md; moments are those of the audit."""
+    """Each of the twenty requests by a version. What is wanted follows from docs/MODEL.md; the moment of a grant is that of the Create in the audit."""
     name, number, made = f"version {version}", 10 + version, it.ObjectId(7, 0, version)
-    purse, home = it.Purse(7, 0), f"home-{version}"
     with server.connect(7, number, version) as tenant, server.connect(0, number, version) as administrator:
         cases.ask(name, tenant, it.Create(0), it.Made(made))
         since = [line for line in tenant.audit(7) if line.client == number][0].moment
-        own, line = it.Grant(0, since), it.NameLine(home, made, it.Grant(0, since))
-        for asked, wanted in (
-            (it.Write(made, 0, b"hello"), it.Done()),
-            (it.Append(made, b" there"), it.Done()),
-            (it.Read(made, 1, 100), it.Data(own, b"ello there")),
-            (it.Truncate(made, 5), it.Done()),
-            (it.Read(made, 0, 100), it.Data(own, b"hello")),
-            (it.Read(made, 0, 100, 2**63), it.Future()),
-            (it.SetAttr(made, b"\x00\xff"), it.Done()),
-            (it.GetAttr(made), it.Attr(own, b"\x00\xff")),
-            (it.SetAttr(made, bytes(257)), it.TooLong()),
-            (it.GetAclByUser(made, 9), it.NoEntry()),
-            (it.GetAclByUser(made, 7), it.Entry(own, 0, 7, 31)),
-            (it.GetAclByIndex(made, 0), it.Entry(own, 0, 7, 31)),
-            (it.GetAclByIndex(made, 255), it.NoEntry()),
-            (it.PCreate(home, made), it.Done()),
-            (it.PCreate(home, made), it.Exists()),
-            (it.PMount(purse, home), it.Mounted(own, made)),
-            (it.PList(7), it.Names((line,), False)),
-            (it.PList(7, it.Place(0, home)), it.Names((), False)),
-            (it.Delete(made), it.Named()),
-            (it.PDelete(purse, home), it.Done()),
-            (it.PMount(purse, home), it.NoPartition()),
-            (it.SetAcl(made, 9, 1), it.Done()),
-            (it.Flush(6, 5), it.BadRange()),
-            (it.FlushO(made, 0, since), it.Denied(32)),
-            (it.SetWindow(5), it.Denied(32)),
-            (it.SetBudget(purse, 5), it.Denied(32)),
-            (it.Delete(made), it.Done()),
-            (it.Read(made, 0, 100), it.NoObject()),
-        ):
+        for asked, wanted in asked_by_tenant(made, f"home-{version}", since):
             cases.ask(name, tenant, asked, wanted)
-        for asked, wanted in (
-            (it.Read(made, 0, 100), it.NoObject()),
-            (it.Flush(0, 0), it.Done()),
-            (it.FlushO(made, 0, 0), it.Done()),
-            (it.SetWindow(86400000), it.Done()),
-            (it.SetBudget(purse, 2000000), it.Done()),
-        ):
+        for asked, wanted in asked_by_administrator(made):
             cases.ask(f"{name}, as administrator", administrator, asked, wanted)
     with server.connect(0, number + 10, version) as reader:
         told = [line[1:] for line in reader.audit(7) if line.client == number]
