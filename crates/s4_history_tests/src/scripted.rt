@@ -45,9 +45,10 @@ fn object(creator: u32, number: u8) -> Result<ObjectId, Fail> {
 }
 
 fn creation(moment: u64, who: u32, number: u8) -> Result<Record, Fail> {
-    let made = object(who, number)?;
-    let number = made.purse.number;
-    record(moment, who, Request::Create { number }, Reply::Made(made))
+    let request = Request::Create {
+        number: PurseNo::new(number).ok_or("a purse number")?,
+    };
+    record(moment, who, request, Reply::Made(object(who, number)?))
 }
 
 /// The record where its caller speaks version 2.
