@@ -24,6 +24,15 @@ ALLOCATIONS = {"set_window_over_values": "set_window_over_none"}
 MEASURED = ("serve_many",)
 # Cases of so many reads of one value, of which it is measured how much they hold, and nothing is refused.
 READS = {"read_whole_values": 2_000, "read_single_bytes": 2_000}
+# Cases of a talk that waits for its peer, and how many bytes its buffers may hold then. With the last three what was carried out is held too.
+TALKS = {
+    "talk_silent": 16,
+    "talk_announcing": 16 << 10,
+    "talk_half_a_frame": 160 << 10,
+    "talk_reading_all": 16 << 10,
+    "talk_reading_nothing": 320 << 10,
+    "talk_behind_a_greatest_frame": 320 << 10,
+}
 
 
 class Calling(Program):
@@ -110,12 +119,18 @@ class Caller:
         return called
 
     def measure(self, name):
-        """Measures what the reads of a case hold in the end."""
+        """Measures what the reads or the talk of a case hold in the end."""
         ran, called = self.program.call(name, measures=True), Called(name)
-        held, count = ran.told.get("held_by_calls", 0), READS[name]
+        held = ran.told.get("held_by_calls", 0)
         self.told(called, "with ample memory", ran)
-        called.wrong += faults_of_holding(KINDS_OF_READS[0], name, held, count)
-        called.measured = f"{held / count:.1f} bytes held for each of {count} reads"
+        if name in READS:
+            count = READS[name]
+            called.wrong += faults_of_holding(KINDS_OF_READS[0], name, held, count)
+            called.measured = f"{held / count:.1f} bytes held for each of {count} reads"
+        else:
+            most = TALKS[name]
+            called.wrong += [f"{name}: {held} bytes are held by a talk, and at most {most} are wanted"] if held > most else []
+            called.measured = f"{held} bytes held, at most {most} wanted"
         return called
 
     def ran(self, name, refusal):
@@ -154,8 +169,8 @@ def sweep_all(program, jobs):
     caller, names = Caller(program, jobs), program.names()
     if not names:
         return [Called("all cases", wrong=["all cases, with ample memory: they aren't as expected, each once"])]
-    found = {name: caller.measure(name) if name in READS else caller.sweep(name) for name in names}
-    missed = [it for it in READS if it not in found]
+    found = {name: caller.measure(name) if name in [*READS, *TALKS] else caller.sweep(name) for name in names}
+    missed = [it for it in [*READS, *TALKS] if it not in found]
     for name, other in REPLIES.items():
         if name in found and (other not in found or found[name].replies != found[other].allocations):
             found[name].wrong.append(f"{name}: {found[name].replies} refusals are told by a reply, and not as many as {other} has allocations")

@@ -5,7 +5,7 @@ from tools.calls import Calling, sweep_all
 from tools.planted_refusals import compiled_to
 
 # What is planted, by its number in wrong_calls.c: a word of what has to be said of it, and how often, of the three refusals alone and three in
-# pairs of five cases, and of two cases of reads. Nothing is wrong with the first.
+# pairs of five cases, of two cases of reads, and of six of talks. Nothing is wrong with the first.
 PLANTS = {
     "nothing": ("", 0),
     "a refusal that no call tells": ("no call tells it", 15),
@@ -24,6 +24,7 @@ PLANTS = {
     "room for refunds at a SetWindow": ("and not the number of those of set_window_over_none", 1),
     "a copy of each value that is read": ("are held for each", 1),
     "reads that leave nothing": ("are held for each", 2),
+    "a buffer that isn't given back": ("are held by a talk", 6),
 }
 
 

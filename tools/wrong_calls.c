@@ -1,16 +1,17 @@
 // A small program in the place of s4_row_tests, in which mistakes are planted that show only where an allocation is refused. It is
-// compiled for each mistake by -DMISTAKE=K. Each of its first five cases makes three calls, each of which takes a block of its own. In the two
-// others a value is read often.
+// compiled for each mistake by -DMISTAKE=K. Each of its first five cases makes three calls, each of which takes a block of its own. In two
+// others a value is read often, and in the rest a buffer is held.
 #include <stdio.h>
 #include <stdlib.h>
 #include <string.h>
 #include <unistd.h>
 
-enum { NONE, SWALLOWS, CHANGES_SOMETHING, CRASHES, ENDS, TELLS_TWICE, HAS_NO_END, ASKS_FOR_LESS, ASKS_FOR_NOTHING, TELLS_BY_AN_ERROR, FAILS_ANYWAY, GROWS_BY_ONE, GROWS_FOURFOLD, MAKES_ROOM_FOR_VALUES, COPIES_WHAT_IS_READ, READS_LEAVE_NOTHING };
+enum { NONE, SWALLOWS, CHANGES_SOMETHING, CRASHES, ENDS, TELLS_TWICE, HAS_NO_END, ASKS_FOR_LESS, ASKS_FOR_NOTHING, TELLS_BY_AN_ERROR, FAILS_ANYWAY, GROWS_BY_ONE, GROWS_FOURFOLD, MAKES_ROOM_FOR_VALUES, COPIES_WHAT_IS_READ, READS_LEAVE_NOTHING, KEEPS_A_BUFFER };
 
 #define CALLS 3
-#define CASES 7
-static const char *const cases[CASES] = {"step_arena_three_calls_at_five", "arrive", "serve_many", "set_window_over_none", "set_window_over_values", "read_whole_values", "read_single_bytes"};
+#define CASES 13
+static const char *const cases[CASES] = {"step_arena_three_calls_at_five", "arrive", "serve_many", "set_window_over_none", "set_window_over_values", "read_whole_values", "read_single_bytes",
+    "talk_silent", "talk_announcing", "talk_half_a_frame", "talk_reading_all", "talk_reading_nothing", "talk_behind_a_greatest_frame"};
 #define READS 2000
 
 static void mark(const char *text)
@@ -53,6 +54,19 @@ static void read_often(int is_whole)
     mark("the call ends\n");
 }
 
+// Takes a buffer, and gives it back once it's empty.
+static void fill_a_buffer(int is_kept)
+{
+    void *buffer;
+    mark("the call begins\n");
+    buffer = malloc(1 << 20);
+    if (!buffer)
+        abort();
+    if (!is_kept)
+        free(buffer);
+    mark("the call ends\n");
+}
+
 // Carries out a case. Returns how much wasn't as it has to be.
 static int carry_out(const char *name)
 {
@@ -61,7 +75,9 @@ static int carry_out(const char *name)
         keep_a_thousand();
     if (!strncmp(name, "read_", 5))
         read_often(!strcmp(name, "read_whole_values"));
-    for (int call = 0; call < CALLS && strncmp(name, "read_", 5); call++) {
+    if (!strncmp(name, "talk_", 5))
+        fill_a_buffer(MISTAKE == KEEPS_A_BUFFER);
+    for (int call = 0; call < CALLS && strncmp(name, "read_", 5) && strncmp(name, "talk_", 5); call++) {
         int refused;
         mark("the call begins\n");
         refused = !has_block(name, call);

@@ -12,11 +12,13 @@ mod reads;
 mod rooms;
 mod serving;
 mod steps;
+mod talks;
 mod windows;
 
 use crate::calls::case::Case;
 use crate::calls::fronts::Marked;
 use crate::calls::lent::Served;
+use crate::calls::talks::Peer;
 use crate::telling::Tally;
 use crate::texts::Shelf;
 use std::io;
@@ -42,7 +44,7 @@ enum Called {
     Lent(Served),
 }
 
-const CASES: [(&str, Called); 26] = [
+const CASES: [(&str, Called); 32] = [
     (
         "step_plain_first_moments",
         Called::OverPlainStore("first_moments"),
@@ -98,6 +100,27 @@ const CASES: [(&str, Called); 26] = [
     (
         "set_window_over_values",
         Called::Lent(Served::SetWindow("0 7 create 0", "0 8 create 0")),
+    ),
+    ("talk_silent", Called::Lent(Served::Talk(Peer::Silent))),
+    (
+        "talk_announcing",
+        Called::Lent(Served::Talk(Peer::Announcing)),
+    ),
+    (
+        "talk_half_a_frame",
+        Called::Lent(Served::Talk(Peer::HalfAFrame)),
+    ),
+    (
+        "talk_reading_all",
+        Called::Lent(Served::Talk(Peer::ReadingAll)),
+    ),
+    (
+        "talk_reading_nothing",
+        Called::Lent(Served::Talk(Peer::ReadingNothing)),
+    ),
+    (
+        "talk_behind_a_greatest_frame",
+        Called::Lent(Served::Talk(Peer::BehindAGreatestFrame)),
     ),
 ];
 

@@ -20,11 +20,22 @@ const SECRET_TEXT: &str = "000102030405060708090a0b0c0d0e0f";
 /// Answers by a front, with one pass, at the moment that it is told, and cuts all cells behind each
 /// request. Its calls are those of the pass.
 #[derive(Drop)]
-struct Desk<'a, R> {
+pub struct Desk<'a, R> {
     rt: &'a R,
     front: &'a Front<OpenGate>,
     pass: Pass,
     moment: Moment,
+}
+
+impl<'a, R> Desk<'a, R> {
+    pub fn new(rt: &'a R, front: &'a Front<OpenGate>, pass: Pass) -> Desk<'a, R> {
+        Desk {
+            rt,
+            front,
+            pass,
+            moment: Moment::new(0),
+        }
+    }
 }
 
 impl<R: Wait> Answer for Desk<'_, R> {
@@ -56,12 +67,7 @@ pub fn tell_conversations<R: Wait>(
     }
     let logins = logins_of(alloc, lines)?;
     let (front, mut passes) = Front::open(alloc, window, cells, 1, OpenGate)?;
-    let mut desk = Desk {
-        rt,
-        front: &front,
-        pass: passes.remove(0),
-        moment: Moment::new(0),
-    };
+    let mut desk = Desk::new(rt, &front, passes.remove(0));
     for line in lines {
         match line {
             Line::Step(

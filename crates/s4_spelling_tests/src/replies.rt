@@ -98,6 +98,31 @@ const BODIES: [(&str, &str); 45] = [
     ("0810", "no-memory"),
 ];
 
+/// The same of replies with data by version 2, in which its length has four bytes.
+const BODIES_TWO: [(&str, &str); 7] = [
+    (
+        "02010000000000000000060000000568656c6c6f",
+        "data 68656c6c6f by 0 since 6",
+    ),
+    ("02000000000200ff", "data 00ff by admin"),
+    ("020000000000", "data empty by admin"),
+    (
+        "02010fffffffffffffffff00000001ab",
+        "data ab by 15 since 18446744073709551615",
+    ),
+    ("030000000000", "attr empty by admin"),
+    ("03000000000200ff", "attr 00ff by admin"),
+    (
+        "03010fffffffffffffffff00000001ab",
+        "attr ab by 15 since 18446744073709551615",
+    ),
+];
+
+/// Whether a body is one of a reply with data.
+fn has_data(body: &str) -> bool {
+    body.starts_with("02") || body.starts_with("03")
+}
+
 /// Bodies of no reply, in hexadecimal digits.
 const BAD_BODIES: [&str; 22] = [
     "",
@@ -131,39 +156,80 @@ const BAD_BODIES: [&str; 22] = [
     "080140",
 ];
 
+/// Bodies of no reply by version 2: the bytes that version 1 has for `00ff`, a length of three bytes,
+/// and fewer bytes than their number says.
+const BAD_BODIES_TWO: [&str; 4] = [
+    "0200000200ff",
+    "0300000200ff",
+    "0200000000",
+    "02000000000200",
+];
+
 /// That the reply is written as this body, and is told as this text.
-fn is_spelled(alloc: Global, reply: &Reply, body: &[u8], text: &str) -> Result<bool, Fail> {
+fn is_spelled(
+    version: WireVersion,
+    alloc: Global,
+    reply: &Reply,
+    body: &[u8],
+    text: &str,
+) -> Result<bool, Fail> {
     Ok(
-        write_reply(WireVersion::One, alloc, reply)?.as_slice() == body
+        write_reply(version, alloc, reply)?.as_slice() == body
             && ReplyText(reply).to_string(alloc)?.as_str() == text,
     )
 }
 
-fn check_body(rt: &impl Abort, alloc: Global, body: &str, text: &str) -> Result<(), Fail> {
+fn check_body(
+    rt: &impl Abort,
+    version: WireVersion,
+    alloc: Global,
+    body: &str,
+    text: &str,
+) -> Result<(), Fail> {
     let body = hex::decode(alloc, body)?;
-    let reply = read_reply(WireVersion::One, alloc, &body)?;
+    let reply = read_reply(version, alloc, &body)?;
     assert!(rt;
-        is_spelled(alloc, &reply, &body, text)?,
+        is_spelled(version, alloc, &reply, &body, text)?,
         "{text}: {reply:?}"
     );
+    Ok(())
+}
+
+fn check_bad_bodies(
+    rt: &impl Abort,
+    version: WireVersion,
+    alloc: Global,
+    bodies: &[&str],
+) -> Result<(), Fail> {
+    for digits in bodies {
+        let body = hex::decode(alloc, digits)?;
+        let read = read_reply(version, alloc, &body);
+        assert!(rt; read == Err(ReadError::Malformed), "{digits}");
+    }
     Ok(())
 }
 
 #[test]
 fn replies_are_spelled_as_these_bodies_and_texts(rt: HostRuntime) -> Result<(), Fail> {
     for (body, text) in &BODIES {
-        check_body(&rt, rt.alloc(), body, text)?;
+        check_body(&rt, WireVersion::One, rt.alloc(), body, text)?;
+    }
+    Ok(())
+}
+
+#[test]
+fn by_version_2_replies_with_data_have_other_bodies(rt: HostRuntime) -> Result<(), Fail> {
+    for (body, text) in BODIES.iter().filter(|row| !has_data(row.0)) {
+        check_body(&rt, WireVersion::Two, rt.alloc(), body, text)?;
+    }
+    for (body, text) in &BODIES_TWO {
+        check_body(&rt, WireVersion::Two, rt.alloc(), body, text)?;
     }
     Ok(())
 }
 
 #[test]
 fn bad_bodies_are_of_no_reply(rt: HostRuntime) -> Result<(), Fail> {
-    let alloc = rt.alloc();
-    for digits in &BAD_BODIES {
-        let body = hex::decode(alloc, digits)?;
-        let read = read_reply(WireVersion::One, alloc, &body);
-        assert!(rt; read == Err(ReadError::Malformed), "{digits}");
-    }
-    Ok(())
+    check_bad_bodies(&rt, WireVersion::One, rt.alloc(), &BAD_BODIES)?;
+    check_bad_bodies(&rt, WireVersion::Two, rt.alloc(), &BAD_BODIES_TWO)
 }

@@ -185,15 +185,34 @@ impl Session {
         reserve_answer(out, &event)?;
         self.state = state_after(&event);
         self.pending.advance(count);
+        self.leave_room_of(count);
         self.give_back(KEPT);
         Ok(Some(event))
+    }
+
+    /// Moves what is held behind a large frame of so many bytes to a buffer of its own size: that in
+    /// which the frame became whole may be twice as large as any frame. No more is moved than the
+    /// frame had. Without memory for it all stays where it is.
+    fn leave_room_of(&mut self, count: usize)
+        ensures { self.new ≡ self.old }
+    {
+        if count > KEPT && self.pending.len() <= count {
+            if let Ok(held) = BytesMut::copy_from_slice(self.alloc, self.pending.as_slice()) {
+                self.pending = held;
+            }
+        }
     }
 
     /// Gives back the buffer where it holds nothing and is larger than that.
     fn give_back(&mut self, most: usize)
         ensures { self.new ≡ self.old }
     {
-        if self.pending.is_empty() && self.pending.capacity() > most {
+        if !self.pending.is_empty() {
+            return;
+        }
+        // Only then does its capacity count the bytes that were taken from its front.
+        self.pending.clear();
+        if self.pending.capacity() > most {
             self.pending = BytesMut::new(self.alloc);
         }
     }

@@ -108,8 +108,12 @@ impl Talking {
             waiting,
         } = self;
         let end = turn(session, fault, waiting, logins, reader, writer, answer);
-        if waiting.is_empty() && waiting.capacity() > KEPT {
-            *waiting = BytesMut::new(*alloc);
+        if waiting.is_empty() {
+            // Only then does its capacity count the bytes that were taken from its front.
+            waiting.clear();
+            if waiting.capacity() > KEPT {
+                *waiting = BytesMut::new(*alloc);
+            }
         }
         end
     }

@@ -1,7 +1,9 @@
 //! Random streams: a talk is sent what the hall sends.
 
 use crate::peers::Peer;
-use crate::stream::{CREATE, HELLO, READ, WRITE, logins};
+use crate::stream::{
+    CREATE, HELLO, HELLO_TWO, READ, READ_WHOLE, TRUNCATE_WHOLE, WRITE, WRITE_TWO, logins,
+};
 use crate::talks::talk_with;
 use rand_core::utils::NextWord;
 use rand_pcg::Pcg32;
@@ -49,20 +51,29 @@ fn add_frame(stream: &mut Vec<u8>, dice: &mut Pcg32) -> Result<(), Fail> {
     Ok(())
 }
 
-/// A stream: mostly with a Hello before all else, then frames of requests, some of them at random,
-/// and here and there bytes that are no frame.
+/// A stream: mostly with a Hello of one version or the other before all else, then frames of requests,
+/// some of them at random, and here and there bytes that are no frame, or a Write of the other version.
 fn random_stream(alloc: Global, dice: &mut Pcg32) -> Result<Vec<u8>, Fail> {
     let mut stream = Vec::new(alloc);
+    let (hello, write) = match roll(dice, 2) {
+        0 => (HELLO, WRITE),
+        _ => (HELLO_TWO, WRITE_TWO),
+    };
     if roll(dice, 16) > 0 {
-        stream.extend_from_slice(HELLO)?;
+        stream.extend_from_slice(hello)?;
     }
     for _ in 0..roll(dice, FRAMES) {
-        match roll(dice, 32) {
+        match roll(dice, 64) {
             0 => stream.extend_from_slice(HELLO)?,
-            1 => add_bytes(&mut stream, dice)?,
-            2..9 => stream.extend_from_slice(CREATE)?,
-            9..16 => stream.extend_from_slice(WRITE)?,
-            16..23 => stream.extend_from_slice(READ)?,
+            1 => stream.extend_from_slice(HELLO_TWO)?,
+            2 => add_bytes(&mut stream, dice)?,
+            3 => stream.extend_from_slice(WRITE)?,
+            4 => stream.extend_from_slice(WRITE_TWO)?,
+            5 => stream.extend_from_slice(TRUNCATE_WHOLE)?,
+            6 => stream.extend_from_slice(READ_WHOLE)?,
+            7..20 => stream.extend_from_slice(CREATE)?,
+            20..32 => stream.extend_from_slice(write)?,
+            32..45 => stream.extend_from_slice(READ)?,
             _ => add_frame(&mut stream, dice)?,
         }
     }

@@ -1,7 +1,8 @@
 //! Cases of one front with two cells and one pass, which it lends to them.
 
 use crate::calls::case::Case;
-use crate::calls::{many, reads, windows};
+use crate::calls::talks::Peer;
+use crate::calls::{many, reads, talks, windows};
 use s4_pool::{Front, OpenGate};
 use std::io;
 use std::sync::Wait;
@@ -15,6 +16,8 @@ pub enum Served {
     Reads(u32),
     /// A SetWindow, behind requests of these lines.
     SetWindow(&'static str, &'static str),
+    /// A talk with this peer.
+    Talk(Peer),
 }
 
 pub fn serve<R: Wait>(case: &mut Case, rt: &R, served: Served) -> io::Result<()> {
@@ -26,5 +29,6 @@ pub fn serve<R: Wait>(case: &mut Case, rt: &R, served: Served) -> io::Result<()>
         Served::SetWindow(first, second) => {
             windows::set(case, rt, &front, &mut pass, (first, second))
         }
+        Served::Talk(peer) => talks::talk(case, rt, &front, pass, peer),
     }
 }
