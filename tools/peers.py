@@ -20,15 +20,16 @@ LOOKS, REST, SAME, PATIENCE = 8, 0.25, 0.002, 90
 OTHERS = 100
 # Reads of a server that is called idle: so many, so that what it needs once is there.
 WARM = 20
-KINDS = 6
+KINDS = 7
 
 
 class Kind(NamedTuple):
-    """What peers do, how many bytes one may cost, where that is bounded, and what each sends."""
+    """What peers do, how many bytes one may cost, where that is bounded, what each sends, and how many bytes of replies it reads then."""
 
     name: str
     bound: int | None
     sent: bytes
+    read: int = 0
 
 
 def kinds(made):
@@ -39,13 +40,16 @@ def kinds(made):
     read = it.frame_of(it.Read(made, 0, MOST_DATA), VERSION)
     # (with the 19 bytes before the data this reply has a byte less than those behind which no more is served)
     less = it.frame_of(it.Read(made, 0, MOST_DATA - 20), VERSION)
+    # (the Welcome, and a reply's length, its 15 bytes before the data, and the data)
+    told = 6 + 4 + 15 + MOST_DATA
     return [
         Kind("silent", 1 << 10, b""),
         Kind(f"announces a body of {LONGEST_BODY} bytes", 20 << 10, hello + whole[:4]),
         Kind("sends half of such a body", 170 << 10, hello + whole[: LONGEST_BODY // 2]),
         Kind("sends all of it but a byte", None, hello + whole[:-1]),
+        Kind(f"reads {MOST_DATA} bytes, and is silent then", 20 << 10, hello + read, told),
         Kind(f"asks {READS} times for {MOST_DATA} bytes, and reads nothing", 350 << 10, hello + read * READS),
-        Kind(f"sends such a body, then asks for {MOST_DATA - 20} and {MOST_DATA} bytes in turn, and reads nothing", None, hello + whole + (less + read) * (READS // 2)),
+        Kind(f"sends such a body, then asks for {MOST_DATA - 20} and {MOST_DATA} bytes in turn, and reads nothing", 350 << 10, hello + whole + (less + read) * (READS // 2)),
     ]
 
 
@@ -92,6 +96,18 @@ def send_all(peers, sent):
                 return
 
 
+def read_all(peers, count):
+    """Reads so many bytes as each peer, and no more."""
+    for peer in peers:
+        peer.settimeout(PATIENCE)
+        left = count
+        while left:
+            got = len(peer.recv(left))
+            if not got:
+                raise ConnectionError(f"{left} bytes of {count} aren't sent")
+            left -= got
+
+
 def replies(server):
     """How many requests the server has replied to, by its next status."""
     before, end = server.told.stat().st_mtime_ns, time.monotonic() + PATIENCE
@@ -111,6 +127,7 @@ def cost(program, choose, count):
         kind, idle, before = kinds(made)[choose], settled(server), replies(server)
         peers = [opened.enter_context(connected(server.port)) for _ in range(count)]
         send_all(peers, kind.sent)
+        read_all(peers, kind.read)
         return kind, max(0, settled(server) - idle) / count, (replies(server) - before) / count
 
 
