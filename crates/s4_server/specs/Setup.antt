@@ -1,6 +1,28 @@
 -- What callers see of a server that is set up.
+use Rattle.std.specs.Prelude.{◌≡◌, ℕ, List, [], slice_index_or}
+use Rattle.s4_types.specs.declared.principal.Caller.{Caller}
+use Rattle.s4_types.specs.declared.request.Request.{Request}
+use Rattle.s4_types.specs.declared.reply.Reply.{Reply}
+use Rattle.s4_calls.specs.Calls.{CallList}
+use Rattle.s4_pool.specs.Serving.{ServesUnlessRefused}
 use Rattle.s4_command.specs.declared.settings.Settings.{Settings}
 
--- its settings
-abbrev pub Setup : Type 0
-Setup = Settings
+-- its settings, and its first pass, by which it is asked before connections are served
+pub record Setup : Type 0 where
+  pub settings : Settings
+  pub first : CallList
+
+-- no pass: a list without calls
+abbrev pub no_pass : CallList
+no_pass = record { number = 0; calls = []; room = 0 }
+
+-- the first of the passes
+abbrev pub first_of : List CallList → CallList
+first_of passes = slice_index_or passes 0 no_pass
+
+-- The first pass has one call more, of what was asked at a moment that some clock told, with this reply; or it met want of memory and has none.
+-- All else is as it was.
+pub record CarriesOut (old new : Setup) (caller : Caller) (request : Request) (reply : Reply) : Type 0 where
+  pub settings : new.settings ≡ old.settings
+  pub clock : ℕ
+  pub serves : ServesUnlessRefused old.first new.first caller clock request reply

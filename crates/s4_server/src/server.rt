@@ -1,6 +1,6 @@
 //! The server.
 
-ghost use Rattle.std.specs.Prelude.{◌≡◌, ◌≤◌, ◌==◌, ℕ, false, true, IfOk, IsTrue};
+ghost use Rattle.std.specs.Prelude.{◌≡◌, ◌≤◌, ◌==◌, ℕ, [], false, true, IfOk, IsTrue};
 ghost use Rattle.s4_types.specs.Base.{opened};
 ghost use Rattle.s4_types.specs.Limits.{data_asked, data_in, is_within_limits};
 ghost use Rattle.s4_types.specs.Play.{replies};
@@ -10,6 +10,7 @@ ghost use Rattle.s4_cells.specs.Played.{requests_in};
 ghost use Rattle.s4_merge.specs.Merged.{AreWhole};
 ghost use Rattle.s4_merge.specs.Order.{IsClosing, NoneWent};
 ghost use Rattle.s4_pool.specs.Numbers.{HasAll};
+ghost use Rattle.s4_server.specs.Setup.{CarriesOut};
 
 use crate::accepting::Door;
 use crate::board::Board;
@@ -40,7 +41,7 @@ use std::time::Clock;
 /// How many connections wait for a worker at most; a further one waits to be accepted.
 const WAITING: usize = 64;
 
-/// A server that is set up, and accepts nothing yet. Callers see its settings.
+/// A server that is set up, and accepts nothing yet. Callers see its settings, and its first pass.
 #[derive(Drop)]
 pub struct Server {
     alloc: Global,
@@ -61,11 +62,11 @@ pub struct Server {
 impl Model for Server {
     ghost use Rattle.std.specs.Prelude.{◌≡◌, length};
     ghost use Rattle.s4_server.specs.Places.{AreOf};
-    ghost use Rattle.s4_server.specs.Setup.{Setup};
+    ghost use Rattle.s4_server.specs.Setup.{Setup, first_of};
 
     ghost Value = { Setup };
 
-    ghost view = { λ s. s.settings };
+    ghost view = { λ s. record { settings = s.settings; first = first_of s.passes.items } };
 
     ghost invariant = { λ s. (s.front.window ≡ s.settings.window)
         × (s.front.cells ≡ s.settings.cells)
@@ -80,7 +81,8 @@ impl Server {
     /// queue of connections. `NoMemory` where a growth was refused, and `NoWatch` where the system
     /// gives no watch.
     pub fn open<N: Net>(net: &N, alloc: Global, settings: Settings) -> Result<Server, ServerFault>
-        ensures { IfOk result (λ server. server ≡ settings) }
+        ensures settings { IfOk result (λ server. server.settings ≡ settings) }
+        ensures none { IfOk result (λ server. server.first.calls ≡ []) }
     {
         let Settings {
             window,
@@ -115,7 +117,7 @@ impl Server {
         caller: Caller,
         request: &Request,
     ) -> Reply
-        ensures settings { self.new ≡ self.old }
+        ensures carried_out { CarriesOut self.old self.new caller request.now result }
         ensures limits { IsTrue (is_within_limits caller.version result) }
         ensures asked { data_in result ≤ data_asked request.now }
     {
@@ -141,17 +143,17 @@ impl Server {
         logins: Logins,
         keeper: Option<Keeper>,
     ) -> Result<Closed, ServerFault>
-        ensures there { IfOk result (λ closed. HasAll self.workers closed.passes.items) }
-        ensures whole { IfOk result (λ closed. AreWhole self.window closed.cells.items) }
+        ensures there { IfOk result (λ closed. HasAll self.settings.workers closed.passes.items) }
+        ensures whole { IfOk result (λ closed. AreWhole self.settings.window closed.cells.items) }
         ensures history { IfOk result
-            (λ closed. IsClosing self.window closed.cells.items closed.passes.items
+            (λ closed. IsClosing self.settings.window closed.cells.items closed.passes.items
             closed.history.items) }
-        ensures uncut { IfOk result (λ closed. self.cuts ≡ false
+        ensures uncut { IfOk result (λ closed. self.settings.cuts ≡ false
             → NoneWent closed.cells.items) }
         ensures isolated { IfOk result (λ closed. NoneWent closed.cells.items
             → (who : ℕ) → (who == 0) ≡ false
             → replies (records_of who closed.history.items)
-            ≡ replies_without_strangers (opened self.window) who
+            ≡ replies_without_strangers (opened self.settings.window) who
             (requests_in closed.history.items)) }
     {
         let Server {
