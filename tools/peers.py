@@ -96,16 +96,22 @@ def send_all(peers, sent):
                 return
 
 
-def read_all(peers, count):
-    """Reads so many bytes as each peer, and no more."""
-    for peer in peers:
-        peer.settimeout(PATIENCE)
-        left = count
-        while left:
-            got = len(peer.recv(left))
-            if not got:
-                raise ConnectionError(f"{left} bytes of {count} aren't sent")
-            left -= got
+def read_all(peer, count):
+    """Reads so many bytes as a peer, and no more."""
+    peer.settimeout(PATIENCE)
+    while count:
+        got = len(peer.recv(count))
+        if not got:
+            raise ConnectionError(f"{count} bytes more aren't sent")
+        count -= got
+
+
+def act(peers, kind):
+    """Has all peers do as their kind does: at once, or one behind the other where each reads what it is sent, so that what one gives back the next may take."""
+    for some in [[it] for it in peers] if kind.read else [peers]:
+        send_all(some, kind.sent)
+        for peer in some:
+            read_all(peer, kind.read)
 
 
 def replies(server):
@@ -126,8 +132,7 @@ def cost(program, choose, count):
             drive.ask(it.Read(made, 0, MOST_DATA))
         kind, idle, before = kinds(made)[choose], settled(server), replies(server)
         peers = [opened.enter_context(connected(server.port)) for _ in range(count)]
-        send_all(peers, kind.sent)
-        read_all(peers, kind.read)
+        act(peers, kind)
         return kind, max(0, settled(server) - idle) / count, (replies(server) - before) / count
 
 
