@@ -38,11 +38,14 @@ def disk(room, size):
     try:
         yield where
     finally:
-        subprocess.run(["umount", "-l", where], check=False)
+        # (it isn't there any more where a scene took it away)
+        subprocess.run(["umount", "-l", where], capture_output=True, check=False)
 
 
 class Keeping:
-    """A server that keeps a journal in this folder, and is ended by a file."""
+    """A server that keeps a journal in this folder, and is ended by a file. Those that a scene leaves running are killed behind it."""
+
+    running = []
 
     def __init__(self, program, room, folder, *flags):
         self.program, self.folder, self.port = program, folder, free_port()
@@ -50,6 +53,7 @@ class Keeping:
         (room / "logins").write_text("".join(f"{who} {secret.hex()}\n" for who, secret in SECRETS.items()), encoding="ascii")
         words = [program, "serve", f"{HOST}:{self.port}", room / "logins", "--until", self.until, "--status", self.status, "--journal", folder, *flags]
         self.process = subprocess.Popen(words, stdout=subprocess.PIPE, stderr=subprocess.PIPE, text=True)
+        self.running.append(self.process)
         self.first = self.process.stdout.readline()
 
     def connect(self):
@@ -70,6 +74,15 @@ class Keeping:
         self.until.touch()
         output, errors = self.process.communicate(timeout=PATIENCE)
         return output.splitlines()[-1:], errors.splitlines()
+
+
+def kill_all():
+    """Ends all servers that still run."""
+    while Keeping.running:
+        process = Keeping.running.pop()
+        if process.poll() is None:
+            process.kill()
+            process.communicate()
 
 
 def wanted(found, right, what):
@@ -180,6 +193,8 @@ def try_disks(program):
                 except (Wrong, OSError, it.Refused, it.Fault, subprocess.TimeoutExpired) as why:
                     wrong += 1
                     print(f"{scene.__name__}, --sync {sync}: {why}")
+                finally:
+                    kill_all()
                 tried += 1
     print(f"journals: {tried} scenes of disks, {wrong} wrong")
     return wrong
