@@ -1,0 +1,3 @@
+pub mod Totals
+mod Moves
+mod Counting

@@ -1,0 +1,10 @@
+use Rattle.std.proofs.Common.{List, ap, sym, subst, ◌∙◌}
+use Rattle.s4_counts.specs.declared.hand.Hand.{Hand}
+use Rattle.s4_counts.specs.Tokens.{Known, CanCut}
+use Rattle.s4_counts.proofs.Moves.{cuts}
+use Rattle.s4_counts.proofs.ledger.Ledger.cut.Goals as goal
+
+pub split_seat-seat-requires : goal.split_seat-seat-requires
+split_seat-seat-requires c =
+    let ledger = ap (λ (k : Known). k.ledger) c.token.view_is ∙ (c.requires.ledger ∙ sym c.self.view_is) in
+    (ledger, c.self.invariant, cuts _ _ (subst (λ (hands : List Hand). CanCut hands) (sym (ap (λ (k : Known). k.hands) c.token.view_is)) c.requires.parts))

@@ -1,0 +1,16 @@
+//! What counts calls over threads: tokens without bytes, one with each pass and one beside each cell
+//! (docs/THREADS.md, "Counts").
+#![tactic(auto)]
+
+
+mod book;
+mod books;
+mod hand;
+mod ledger;
+mod names;
+
+pub use book::Book;
+pub use books::{are_in_order, audit_books, count_all};
+pub use hand::Hand;
+pub use ledger::{Ledger, Token};
+pub use names::Names;
