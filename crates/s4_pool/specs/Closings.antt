@@ -1,9 +1,9 @@
 -- What a closing that fails says.
 use Rattle.std.specs.Prelude.{◌≡◌, List}
 use Rattle.s4_types.specs.Log.{Log}
-use Rattle.s4_calls.specs.Calls.{CallList}
-use Rattle.s4_merge.specs.Merged.{AreWhole}
-use Rattle.s4_merge.specs.Order.{IsStray}
+use Rattle.s4_passes.specs.Calls.{CallList}
+use Rattle.s4_closing.specs.Merged.{AreWhole}
+use Rattle.s4_closing.specs.Order.{IsStray}
 use Rattle.s4_pool.specs.Fronts.{FrontState}
 use Rattle.s4_pool.specs.Numbers.{HasAll}
 use Rattle.s4_pool.specs.declared.closing.Why.{Why}

@@ -1,6 +1,6 @@
 -- What is seen of a front.
 use Rattle.std.specs.Prelude.{◌≡◌, ℕ, ◌<◌, List, [], length, slice_index_or}
-use Rattle.s4_calls.specs.Calls.{CallList}
+use Rattle.s4_passes.specs.Calls.{CallList}
 
 -- the window that it was opened with, how many cells it has, and how many passes were opened with it
 pub record FrontState : Type 0 where

@@ -1,6 +1,6 @@
 -- The numbers of passes.
 use Rattle.std.specs.Prelude.{◌≡◌, ℕ, ◌<◌, ◌==◌, List, count_by}
-use Rattle.s4_calls.specs.Calls.{CallList}
+use Rattle.s4_passes.specs.Calls.{CallList}
 
 -- how many of the passes have this number
 abbrev pub numbered : ℕ → List CallList → ℕ

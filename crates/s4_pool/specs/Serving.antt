@@ -7,10 +7,10 @@ use Rattle.s4_types.specs.declared.record.Record.{Record}
 use Rattle.s4_types.specs.Play.{is_no_memory}
 use Rattle.s4_types.specs.Log.{Log}
 use Rattle.s4_cells.specs.Many.{AllAdd}
-use Rattle.s4_calls.specs.declared.call.Asked.{Asked}
-use Rattle.s4_calls.specs.declared.call.Receipt.{Receipt}
-use Rattle.s4_calls.specs.Calls.{Call, CallList, call_of, last_call}
-use Rattle.s4_merge.specs.Claims.{gone}
+use Rattle.s4_passes.specs.declared.call.Asked.{Asked}
+use Rattle.s4_passes.specs.declared.call.Receipt.{Receipt}
+use Rattle.s4_passes.specs.Calls.{Call, CallList, call_of, last_call}
+use Rattle.s4_closing.specs.Claims.{gone}
 
 -- what a caller asked, by its clock
 abbrev pub asked : Caller → ℕ → Request → Asked

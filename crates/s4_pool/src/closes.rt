@@ -6,16 +6,16 @@ ghost use Rattle.s4_types.specs.Play.{replies};
 ghost use Rattle.s4_types.specs.Strike.{records_of};
 ghost use Rattle.s4_drive.specs.Step.{replies_without_strangers};
 ghost use Rattle.s4_cells.specs.Played.{requests_in};
-ghost use Rattle.s4_merge.specs.Merged.{AreWhole};
-ghost use Rattle.s4_merge.specs.Order.{IsClosing, NoneWent};
+ghost use Rattle.s4_closing.specs.Merged.{AreWhole};
+ghost use Rattle.s4_closing.specs.Order.{IsClosing, NoneWent};
 ghost use Rattle.s4_pool.specs.Numbers.{HasAll};
 ghost use Rattle.s4_pool.specs.Closings.{FaultFits};
 
 use crate::closing::{CloseFault, Closed, Left, Why, has_all};
 use crate::front::Front;
 use crate::gate::Gate;
-use s4_calls::Pass;
-use s4_merge::{Verdict, judge};
+use s4_closing::{Verdict, reconcile};
+use s4_passes::Pass;
 use std::alloc::Global;
 use std::sync::RwLock;
 
@@ -54,7 +54,7 @@ impl<G: Gate> Front<G> {
             cells,
         } = self;
         let unlocked = cells.into_inner().unlock();
-        match judge(alloc, window, unlocked.cells.as_slice(), passes.as_slice()) {
+        match reconcile(alloc, window, unlocked.cells.as_slice(), passes.as_slice()) {
             Verdict::Whole(history) => Ok(Closed {
                 cells: unlocked.into_cells(),
                 passes,

@@ -5,8 +5,8 @@ ghost use Rattle.s4_pool.specs.Numbers.{numbered, HasAll};
 
 use crate::front::Front;
 use crate::gate::Gate;
-use s4_calls::Pass;
 use s4_cells::Cell;
+use s4_passes::Pass;
 use s4_types::Record;
 
 /// A front that was closed.

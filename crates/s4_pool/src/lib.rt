@@ -7,13 +7,13 @@ mod closing;
 mod front;
 mod gate;
 mod locks;
-mod serving;
+mod stepping;
 mod stretch;
 
 pub use closing::{CloseFault, Closed, Left, Why};
 pub use front::Front;
 pub use gate::{Gate, OpenGate};
 pub use locks::MOST_CELLS;
-pub use s4_calls::{Asked, Pass, Receipt};
 pub use s4_cells::{Cell, Measure};
+pub use s4_passes::{Asked, Pass, Receipt};
 pub use stretch::Stretch;

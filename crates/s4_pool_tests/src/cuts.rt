@@ -3,7 +3,7 @@
 use crate::calls::{Call, check_calls, is_set};
 use crate::given::{closed, receipt};
 use s4_cells::{Cell, cut_all};
-use s4_merge::{Verdict, judge};
+use s4_closing::{Verdict, reconcile};
 use s4_pool::{Front, OpenGate, Pass, Stretch};
 use s4_types::{Moment, Record};
 use std::alloc::Global;
@@ -123,7 +123,7 @@ fn is_whole(alloc: Global, cells: &[Cell], passes: &[Pass]) -> Option<bool> {
     if cells.is_empty() {
         return None;
     }
-    match judge(alloc, 100, cells, passes) {
+    match reconcile(alloc, 100, cells, passes) {
         Verdict::Whole(_) => Some(true),
         Verdict::Torn => Some(false),
         _ => None,

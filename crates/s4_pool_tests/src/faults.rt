@@ -2,7 +2,7 @@
 
 use crate::given::is_made;
 use s4_cells::Cell;
-use s4_merge::{Verdict, judge};
+use s4_closing::{Verdict, reconcile};
 use s4_pool::{CloseFault, Front, Left, OpenGate, Pass, Why};
 use std::alloc::{AllocError, Global};
 use std::sync::Wait;
@@ -70,7 +70,7 @@ fn two_cells(alloc: Global, first: u64, second: u64) -> Result<[Cell; 2], AllocE
 // Whether cells of these windows are torn, where the front's is 100.
 fn are_torn(alloc: Global, first: u64, second: u64) -> Result<bool, Fail> {
     let cells = two_cells(alloc, first, second)?;
-    Ok(matches!(&judge(alloc, 100, &cells, &[]), Verdict::Torn))
+    Ok(matches!(&reconcile(alloc, 100, &cells, &[]), Verdict::Torn))
 }
 
 #[test]

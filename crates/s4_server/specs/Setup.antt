@@ -3,7 +3,7 @@ use Rattle.std.specs.Prelude.{◌≡◌, ℕ, List, [], slice_index_or}
 use Rattle.s4_types.specs.declared.principal.Caller.{Caller}
 use Rattle.s4_types.specs.declared.request.Request.{Request}
 use Rattle.s4_types.specs.declared.reply.Reply.{Reply}
-use Rattle.s4_calls.specs.Calls.{CallList}
+use Rattle.s4_passes.specs.Calls.{CallList}
 use Rattle.s4_pool.specs.Serving.{ServesUnlessRefused}
 use Rattle.s4_command.specs.declared.settings.Settings.{Settings}
 

@@ -117,7 +117,7 @@ impl Peer {
     }
 
     /// Serves the peer for some turns. `last` says that it sends no more.
-    pub fn serve<R: Wait, C: Ticks>(
+    pub fn take_turn<R: Wait, C: Ticks>(
         &mut self,
         shared: &Shared<'_, R, C>,
         desk: &mut Desk<'_, R, C, OpenGate>,

@@ -88,7 +88,7 @@ impl Peers {
     }
 
     /// Serves the peer of this place, where there is one. `last` says that it sends no more.
-    pub fn serve<R: Wait, C: Ticks>(
+    pub fn give_turn<R: Wait, C: Ticks>(
         &mut self,
         shared: &Shared<'_, R, C>,
         desk: &mut Desk<'_, R, C, OpenGate>,
@@ -99,7 +99,7 @@ impl Peers {
         let Some(peer) = self.places.get_mut(place) else {
             return;
         };
-        let parting = match peer.serve(shared, desk, now, last) {
+        let parting = match peer.take_turn(shared, desk, now, last) {
             Next::Waits => None,
             Next::GoesOn if !peer.becomes_eager() => None,
             Next::GoesOn => noted(&mut self.eager, place),
@@ -112,7 +112,7 @@ impl Peers {
     }
 
     /// Serves those that go on, each once.
-    pub fn serve_eager<R: Wait, C: Ticks>(
+    pub fn give_eager_turns<R: Wait, C: Ticks>(
         &mut self,
         shared: &Shared<'_, R, C>,
         desk: &mut Desk<'_, R, C, OpenGate>,
@@ -123,7 +123,7 @@ impl Peers {
                 if let Some(peer) = self.places.get_mut(place) {
                     peer.becomes_patient();
                 }
-                self.serve(shared, desk, now, place, false);
+                self.give_turn(shared, desk, now, place, false);
             }
         }
     }

@@ -7,8 +7,8 @@ ghost use Rattle.s4_types.specs.Play.{replies};
 ghost use Rattle.s4_types.specs.Strike.{records_of};
 ghost use Rattle.s4_drive.specs.Step.{replies_without_strangers};
 ghost use Rattle.s4_cells.specs.Played.{requests_in};
-ghost use Rattle.s4_merge.specs.Merged.{AreWhole};
-ghost use Rattle.s4_merge.specs.Order.{IsClosing, NoneWent};
+ghost use Rattle.s4_closing.specs.Merged.{AreWhole};
+ghost use Rattle.s4_closing.specs.Order.{IsClosing, NoneWent};
 ghost use Rattle.s4_pool.specs.Numbers.{HasAll};
 ghost use Rattle.s4_server.specs.Setup.{CarriesOut};
 
@@ -20,14 +20,14 @@ use crate::fault::ServerFault;
 use crate::keeper::Keeper;
 use crate::notes::note_passes;
 use crate::post::Post;
-use crate::threads::{Shared, serve_all};
+use crate::threads::{Shared, run_threads};
 use crate::upkeep::{Reloading, Upkeep};
 use crate::watch::Watch;
 use crate::workers::{gather, staff};
 use s4_cells::Cell;
+use s4_closing::none_went;
 use s4_command::Settings;
 use s4_jobs::{Jobs, Seat};
-use s4_merge::none_went;
 use s4_pool::{Closed, Front, OpenGate, Pass};
 use s4_stream::Logins;
 use s4_types::{Caller, Reply, Request};
@@ -188,7 +188,7 @@ impl Server {
         let table = board.tables.newest(rt)?.logins;
         let reloading = Reloading::new(alloc, upkeep, table, now);
         let serving = workers.as_mut_slice();
-        serve_all(
+        run_threads(
             &shared, &settings, door, &jobs, seat, serving, reloading, keeper,
         );
         if board.start.has_failed() {

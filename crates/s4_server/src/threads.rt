@@ -55,7 +55,7 @@ pub struct Shared<'a, R, C> {
 pub const OTHERS: u64 = 3;
 
 /// Serves connections, sweeps and looks after files meanwhile, until the last connection has ended.
-pub fn serve_all<R: Threads + Wait + Clock + Eprint + Sync, C: Ticks>(
+pub fn run_threads<R: Threads + Wait + Clock + Eprint + Sync, C: Ticks>(
     shared: &Shared<'_, R, C>,
     settings: &Settings,
     door: Door<'_>,

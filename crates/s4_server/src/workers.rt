@@ -98,7 +98,7 @@ impl<R: Wait + Clock, C: Ticks> Worker<'_, R, C> {
             if last && self.taken == self.post.given() && self.peers.is_empty() {
                 return;
             }
-            self.serve(shared);
+            self.go_round(shared);
         }
     }
 
@@ -135,7 +135,7 @@ impl<R: Wait + Clock, C: Ticks> Worker<'_, R, C> {
     }
 
     /// Waits until something is told, and serves whom it is told of.
-    fn serve(&mut self, shared: &Shared<'_, R, C>) {
+    fn go_round(&mut self, shared: &Shared<'_, R, C>) {
         let Worker {
             post,
             watch,
@@ -148,10 +148,10 @@ impl<R: Wait + Clock, C: Ticks> Worker<'_, R, C> {
         let now = shared.board.time.load(Ordering::SeqCst);
         for event in events.iter() {
             if let Some(place) = place_of(event.token()) {
-                peers.serve(shared, desk, now, place, event.is_read_closed());
+                peers.give_turn(shared, desk, now, place, event.is_read_closed());
             }
         }
-        peers.serve_eager(shared, desk, now);
+        peers.give_eager_turns(shared, desk, now);
         if peers.look(shared, desk, now) {
             post.show(&peers.states());
             move_on(shared, desk);

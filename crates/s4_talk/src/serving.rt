@@ -52,7 +52,7 @@ pub fn serve_held<A: Answer>(
                 Service::All
             });
         };
-        serve(fault, waiting, event, answer);
+        answer_event(fault, waiting, event, answer);
         if waiting.len() >= BYTES {
             return Ok(Service::Enough);
         }
@@ -62,7 +62,7 @@ pub fn serve_held<A: Answer>(
 
 /// Serves an event in room that is there: a good Hello by the Welcome, a request by its reply, a
 /// fault by its frame.
-fn serve<A: Answer>(
+fn answer_event<A: Answer>(
     fault: &mut Option<SessionFault>,
     waiting: &mut BytesMut,
     event: Event,

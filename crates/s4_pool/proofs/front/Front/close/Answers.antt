@@ -1,8 +1,8 @@
 use Rattle.std.proofs.Common.{List, ap, refl, subst, sym}
-use Rattle.s4_calls.specs.Calls.{CallList}
+use Rattle.s4_passes.specs.Calls.{CallList}
 use Rattle.s4_types.specs.Log.{Log}
-use Rattle.s4_merge.specs.Merged.{AreWhole}
-use Rattle.s4_merge.specs.Order.{IsStray}
+use Rattle.s4_closing.specs.Merged.{AreWhole}
+use Rattle.s4_closing.specs.Order.{IsStray}
 use Rattle.s4_pool.specs.Fronts.{FrontState}
 use Rattle.s4_pool.specs.Numbers.{HasAll}
 use Rattle.s4_pool.proofs.front.Front.close.Goals as goal

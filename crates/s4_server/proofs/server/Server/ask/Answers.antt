@@ -1,6 +1,6 @@
 use Rattle.std.proofs.Common.{rules, ◌≡◌, ◌<◌, List, length, slice_set, sym, ap, subst, ◌∙◌}
 use Rattle.std.proofs.lemmas.List.{get_or_default, get_or-set_same}
-use Rattle.s4_calls.specs.Calls.{CallList}
+use Rattle.s4_passes.specs.Calls.{CallList}
 use Rattle.s4_pool.specs.Serving.{ServesUnlessRefused}
 use Rattle.s4_server.specs.Setup.{Setup, first_of, no_pass}
 use Rattle.s4_server.proofs.server.Server.ask.Goals as goal

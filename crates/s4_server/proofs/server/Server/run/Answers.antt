@@ -1,6 +1,6 @@
 use Rattle.std.proofs.Common.{List, ap, subst, sym, ◌∙◌}
-use Rattle.s4_calls.specs.Calls.{CallList}
-use Rattle.s4_merge.specs.Order.{NoneWent}
+use Rattle.s4_passes.specs.Calls.{CallList}
+use Rattle.s4_closing.specs.Order.{NoneWent}
 use Rattle.s4_pool.specs.Numbers.{HasAll}
 use Rattle.s4_server.specs.Setup.{Setup}
 use Rattle.s4_server.proofs.server.Server.run.Goals as goal

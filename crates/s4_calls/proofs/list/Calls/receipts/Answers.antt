@@ -1,7 +1,0 @@
-use Rattle.std.proofs.Common.{sym, ◌∙◌, ap}
-use Rattle.s4_calls.specs.Calls.{CallList, receipts_of}
-use Rattle.s4_calls.proofs.Pairing.{receipts_of-calls_of}
-use Rattle.s4_calls.proofs.list.Calls.receipts.Goals as goal
-
-pub returns : goal.returns
-returns c = c.as_slice.ensures.value ∙ (sym (receipts_of-calls_of _ _ c.self.invariant.0) ∙ ap (λ (p : CallList). receipts_of p.calls) c.self.view_is)

@@ -1,0 +1,24 @@
+use Rattle.std.proofs.Common.{◌≡◌, length, refl, sym, Some, true≢false}
+use Rattle.std.specs.Prelude.{slice_get}
+use Rattle.std.proofs.lemmas.Option.{slice_get_read, slice_get_within}
+use Rattle.s4_closing.specs.Merged.{IsNextWide}
+use Rattle.s4_closing.proofs.Wides.{other_next, passed}
+use Rattle.s4_closing.proofs.torn.go_past.Goals as goal
+
+pub returns-then-not-is_same : goal.returns-then-not-is_same
+returns-then-not-is_same c =
+    let h = c.args.history.now in
+    let j = c.in_ok-j.j in
+    let x = c.index-history-j.result in
+    let is : IsNextWide h c.args.from j = c.in_ok-j.ensures in
+    let e : slice_get h j ≡ Some x = slice_get_read h (length h) j x refl (slice_get_within h j is.found is.is) c.index-history-j.is in
+    other_next h c.args.from j c.args.found.now x is e (λ s. true≢false (sym (c.if-not-is_same.ensures.1 s)))
+
+pub returns : goal.returns
+returns c =
+    let h = c.args.history.now in
+    let j = c.in_ok-j.j in
+    let x = c.index-history-j.result in
+    let is : IsNextWide h c.args.from j = c.in_ok-j.ensures in
+    let e : slice_get h j ≡ Some x = slice_get_read h (length h) j x refl (slice_get_within h j is.found is.is) c.index-history-j.is in
+    passed h c.args.from j c.args.found.now x is e (c.if-not-is_same.ensures.0 refl)

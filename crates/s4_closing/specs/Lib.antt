@@ -1,0 +1,4 @@
+pub mod Merged
+pub mod Claims
+pub mod Order
+pub mod Reconciled

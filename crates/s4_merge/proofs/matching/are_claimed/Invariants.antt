@@ -1,5 +1,0 @@
-use Rattle.s4_merge.specs.Claims.{AllClaimed}
-use Rattle.s4_merge.proofs.matching.are_claimed.Given as goal
-
-abbrev pub invariant-loop-p : goal.invariant-loop-p
-invariant-loop-p l = AllClaimed l.p l.history l.cell l.claimed

@@ -1,8 +1,0 @@
-use Rattle.std.proofs.Common.{drop}
-use Rattle.s4_calls.specs.Calls.{calls_of}
-use Rattle.s4_merge.specs.Order.{Climbs, low_of}
-use Rattle.s4_merge.proofs.order.climbs.Given as goal
-
-abbrev pub invariant-loop-i : goal.invariant-loop-i
-invariant-loop-i l = (Climbs l.cells l.k l.mine l.first 0 (calls_of l.asked l.receipts) → Climbs l.cells l.k l.mine l.first (low_of l.last) (drop l.i (calls_of l.asked l.receipts)))
-    × (Climbs l.cells l.k l.mine l.first (low_of l.last) (drop l.i (calls_of l.asked l.receipts)) → Climbs l.cells l.k l.mine l.first 0 (calls_of l.asked l.receipts))

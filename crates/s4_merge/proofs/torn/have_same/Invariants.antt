@@ -1,5 +1,0 @@
-use Rattle.s4_merge.specs.Merged.{AreSameFrom}
-use Rattle.s4_merge.proofs.torn.have_same.Given as goal
-
-abbrev pub invariant-loop-i : goal.invariant-loop-i
-invariant-loop-i l = AreSameFrom l.a l.b l.i l.j

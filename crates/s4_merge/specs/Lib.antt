@@ -1,4 +1,0 @@
-pub mod Merged
-pub mod Claims
-pub mod Order
-pub mod Judged

@@ -1,0 +1,27 @@
+-- What was asked and told, side by side.
+use Rattle.std.proofs.Common.{◌≡◌, ℕ, List, [], ◌∷◌, ◌++◌, length, refl, ap, arith}
+use Rattle.s4_passes.specs.declared.call.Asked.{Asked}
+use Rattle.s4_passes.specs.declared.call.Receipt.{Receipt}
+use Rattle.s4_passes.specs.Calls.{call_of, calls_of, last_call, last_receipt, receipts_of}
+
+pub last_call-calls_of : (m : ℕ) (xs : List Asked) (rs : List Receipt) → length xs ≡ length rs → last_call m (calls_of xs rs) ≡ last_receipt m rs
+last_call-calls_of m [] [] e = refl
+last_call-calls_of m [] (r ∷ rs) e = cc
+last_call-calls_of m (x ∷ xs) [] e = cc
+last_call-calls_of m (x ∷ xs) (r ∷ rs) e = last_call-calls_of r.moment xs rs (omega arith)
+
+pub receipts_of-calls_of : (xs : List Asked) (rs : List Receipt) → length xs ≡ length rs → receipts_of (calls_of xs rs) ≡ rs
+receipts_of-calls_of [] [] e = refl
+receipts_of-calls_of [] (r ∷ rs) e = cc
+receipts_of-calls_of (x ∷ xs) [] e = cc
+receipts_of-calls_of (x ∷ xs) (r ∷ rs) e = ap (λ l. r ∷ l) (receipts_of-calls_of xs rs (omega arith))
+
+pub calls_of-push : (xs : List Asked) (rs : List Receipt) (x : Asked) (r : Receipt) → length xs ≡ length rs → calls_of (xs ++ x ∷ []) (rs ++ r ∷ []) ≡ calls_of xs rs ++ call_of x r ∷ []
+calls_of-push [] [] x r e = refl
+calls_of-push [] (s ∷ rs) x r e = cc
+calls_of-push (y ∷ xs) [] x r e = cc
+calls_of-push (y ∷ xs) (s ∷ rs) x r e = ap (λ l. call_of y s ∷ l) (calls_of-push xs rs x r (omega arith))
+
+pub last_receipt-push : (m : ℕ) (rs : List Receipt) (r : Receipt) → last_receipt m (rs ++ r ∷ []) ≡ r.moment
+last_receipt-push m [] r = refl
+last_receipt-push m (s ∷ rs) r = last_receipt-push s.moment rs r

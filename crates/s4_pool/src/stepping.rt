@@ -1,0 +1,105 @@
+//! What runs under the locks.
+
+ghost use Rattle.std.specs.Prelude.{◌≡◌, ◌<◌, ◌≤◌, true, false, IsTrue, IfOk, OnOk, OnErr, length};
+ghost use Rattle.s4_types.specs.Kinds.{is_wide};
+ghost use Rattle.s4_types.specs.Limits.{data_asked, data_in, is_within_limits};
+ghost use Rattle.s4_types.specs.Play.{is_no_memory, last_of};
+ghost use Rattle.s4_cells.specs.Many.{Each, AllStay};
+ghost use Rattle.s4_pool.specs.Serving.{Serves, IsIdle, Adds, AddsToAll};
+
+use s4_cells::{Cell, wide_with_copy};
+use s4_drive::Answered;
+use s4_passes::{Asked, Pass, Receipt};
+use s4_types::{Caller, Moment, NoMemory, Reply, Request};
+
+/// Carries out an ordinary request in its cell, which has that number: at the greatest of the
+/// caller's clock, the pass's last moment and the cell's. The cell gains the record, and the pass the
+/// call with its receipt; an `Err` comes before any change of these.
+pub fn step_in_cell(
+    cell: &mut Cell,
+    number: usize,
+    pass: &mut Pass,
+    caller: Caller,
+    clock: Moment,
+    request: &Request,
+) -> Result<Reply, NoMemory>
+    requires ordinary { is_wide caller request.now ≡ false }
+    ensures told { IfOk result (λ reply. is_no_memory reply ≡ false) }
+    ensures limits { IfOk result (λ reply. IsTrue (is_within_limits caller.version reply)) }
+    ensures asked { IfOk result (λ reply. data_in reply ≤ data_asked request.now) }
+    ensures pass { IfOk result (λ reply. Serves pass.old pass.new caller clock request.now reply) }
+    ensures cell { IfOk result (λ reply. Adds number cell.old cell.new pass.old pass.new) }
+    ensures idle { OnErr result (IsIdle pass.old pass.new) }
+    ensures still { OnErr result (cell.new ≡ cell.old) }
+    ensures opened { cell.new.opened ≡ cell.old.opened }
+{
+    let moment = clock.max(pass.last()).max(cell.last());
+    let place = cell.next_place();
+    pass.reserve()?;
+    let asked = Asked {
+        caller,
+        clock,
+        request: request.copy()?,
+    };
+    let Answered { reply, copy } = cell.step_with_copy(moment, caller, request)?;
+    let receipt = Receipt {
+        cell: number,
+        place,
+        moment,
+        reply: copy,
+    };
+    pass.add(asked, receipt);
+    Ok(reply)
+}
+
+/// Carries out a wide request in all cells, at the greatest of the caller's clock, the pass's last
+/// moment and those of all cells. Each cell gains the record, and the pass the call with its receipt;
+/// an `Err` comes before any change of these.
+pub fn step_in_all(
+    cells: &mut [Cell],
+    pass: &mut Pass,
+    caller: Caller,
+    clock: Moment,
+    request: &Request,
+) -> Result<Reply, NoMemory>
+    requires some { 0 < length cells.old }
+    requires wide { is_wide caller request.now ≡ true }
+    ensures told { IfOk result (λ reply. is_no_memory reply ≡ false) }
+    ensures limits { IfOk result (λ reply. IsTrue (is_within_limits caller.version reply)) }
+    ensures asked { IfOk result (λ reply. data_in reply ≤ data_asked request.now) }
+    ensures pass { IfOk result (λ reply. Serves pass.old pass.new caller clock request.now reply) }
+    ensures idle { OnErr result (IsIdle pass.old pass.new) }
+    ensures cells { OnOk result (AddsToAll cells.old cells.new pass.old pass.new) }
+    ensures still { OnErr result (AllStay cells.old cells.new) }
+    ensures count { length cells.new ≡ length cells.old }
+{
+    let moment = latest(cells, clock.max(pass.last()));
+    let place = cells[0].next_place();
+    pass.reserve()?;
+    let asked = Asked {
+        caller,
+        clock,
+        request: request.copy()?,
+    };
+    let Answered { reply, copy } = wide_with_copy(cells, moment, caller, request)?;
+    let receipt = Receipt {
+        cell: 0,
+        place,
+        moment,
+        reply: copy,
+    };
+    pass.add(asked, receipt);
+    Ok(reply)
+}
+
+/// The greatest of a moment and the cells' last ones.
+fn latest(cells: &[Cell], from: Moment) -> Moment
+    ensures from { from ≤ result }
+    ensures each { Each (λ c. last_of c.history ≤ result) cells.now }
+{
+    let mut moment = from;
+    for cell in cells {
+        moment = moment.max(cell.last());
+    }
+    moment
+}
