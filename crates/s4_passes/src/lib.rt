@@ -8,4 +8,4 @@ mod pass;
 
 pub use call::{Asked, Receipt};
 pub use list::Calls;
-pub use pass::Pass;
+pub use pass::{Pass, audit};

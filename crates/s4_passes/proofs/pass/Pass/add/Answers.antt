@@ -1,0 +1,8 @@
+use Rattle.s4_passes.specs.Calls.{call_of}
+use Rattle.s4_passes.proofs.Counting.{counted_one}
+use Rattle.s4_passes.proofs.pass.Pass.add.Goals as goal
+
+pub invariant_of-self : goal.invariant_of-self
+invariant_of-self g c =
+    let more = counted_one g.N.Names.ledger.words c.args.book.now.cell c.self.inside.token.hands c.self.inside.calls.calls (call_of c.args.asked c.args.receipt) c.requires.ordinary c.requires.cell c.self.invariant.1 in
+    rw (c.count.ensures.calls, c.add.ensures.calls) (c.count.ensures.ledger_of_caller, more)

@@ -1,0 +1,8 @@
+use Rattle.s4_passes.specs.Calls.{call_of}
+use Rattle.s4_passes.proofs.Counting.{counted_all}
+use Rattle.s4_passes.proofs.pass.Pass.add_wide.Goals as goal
+
+pub invariant_of-self : goal.invariant_of-self
+invariant_of-self g c =
+    let more = counted_all g.N.Names.ledger.words c.self.inside.token.hands c.self.inside.calls.calls (call_of c.args.asked c.args.receipt) c.requires.wide c.self.invariant.1 in
+    rw (c.count_all.ensures.calls, c.add.ensures.calls, c.requires.all) (c.count_all.ensures.ledger_of_caller, more)
