@@ -10,6 +10,7 @@ use Rattle.s4_types.specs.Log.{Log, base_of, horizon_in, is_ready_for, with_reco
 use Rattle.s4_cuts.specs.Cut.{base_at}
 use Rattle.s4_state.specs.CutLog.{IsCut}
 use Rattle.s4_drive.specs.Alike.{AnswersAlike}
+use Rattle.s4_cells.specs.Counts.{count_of}
 
 -- the histories of the cells, in their order
 abbrev pub histories : List Log → List (List Record)
@@ -68,7 +69,7 @@ pub record IsCutAlike (moment : ℕ) (old new : Log) : Type 0 where
   pub replies : AnswersAlike old new
   pub last : last_of new.history ≡ last_of old.history
   pub horizon : horizon_in new ≡ horizon_in old
-  pub places : new.base.count + length new.history ≡ old.base.count + length old.history
+  pub count : count_of new ≡ count_of old
 
 -- the cells from i on are cut, and the others are as they were
 pub record CutFrom (moment i : ℕ) (old new : List Log) : Type 0 where

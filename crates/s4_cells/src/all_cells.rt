@@ -1,12 +1,13 @@
 //! A request of all purses: it is carried out on every cell, or on none.
 
-ghost use Rattle.std.specs.Prelude.{◌≡◌, ◌<◌, ◌≤◌, true, false, length, IsTrue, IfOk, OnOk, OnErr};
+ghost use Rattle.std.specs.Prelude.{◌≡◌, ◌<◌, ◌≤◌, ◌+◌, true, false, length, IsTrue, IfOk, OnOk, OnErr};
 ghost use Rattle.s4_types.specs.Answer.{answer as answer_of};
 ghost use Rattle.s4_types.specs.Kinds.{is_wide};
 ghost use Rattle.s4_types.specs.Limits.{data_asked, data_in, is_within_limits};
 ghost use Rattle.s4_types.specs.Play.{last_of, is_no_memory};
 ghost use Rattle.s4_types.specs.Log.{base_of};
-ghost use Rattle.s4_cells.specs.Many.{Each, AllAdd, AllStay, AreReady, wide_record};
+ghost use Rattle.s4_cells.specs.Counts.{count_of};
+ghost use Rattle.s4_cells.specs.Many.{Each, EachNow, AllAdd, AllStay, AreReady, wide_record};
 
 use crate::cell::Cell;
 use s4_drive::Answered;
@@ -28,6 +29,8 @@ pub fn wide(cells: &mut [Cell], moment: Moment, caller: Caller, request: &Reques
           request = request.now;
           reply = result;
         }) cells.old cells.new }
+    ensures counts { is_no_memory result ≡ false
+        → EachNow (λ old new. count_of new ≡ count_of old + 1) cells.old cells.new }
     ensures refused { is_no_memory result ≡ true → AllStay cells.old cells.new }
     ensures limits { IsTrue (is_within_limits caller.version result) }
     ensures asked { data_in result ≤ data_asked request.now }
@@ -59,6 +62,8 @@ pub fn wide_with_copy(
           request = request.now;
           reply = told.reply;
         }) cells.old cells.new) }
+    ensures counts { OnOk result (EachNow (λ old new. count_of new ≡ count_of old + 1)
+        cells.old cells.new) }
     ensures refused { OnErr result (AllStay cells.old cells.new) }
     ensures limits { IfOk result (λ told. IsTrue (is_within_limits caller.version told.reply)) }
     ensures asked { IfOk result (λ told. data_in told.reply ≤ data_asked request.now) }

@@ -6,6 +6,7 @@ ghost use Rattle.s4_closing.specs.Claims.{Matches, Claimed, record_of, all_calls
 
 use crate::home::{home_of, left_at};
 use s4_cells::Cell;
+use s4_counts::Names;
 use s4_passes::{Asked, Pass, Receipt};
 use s4_types::{NoMemory, Record};
 use std::alloc::Global;
@@ -67,7 +68,13 @@ fn claim(
 }
 
 /// Claims the records of one more pass.
-fn claim_pass(held: &Cell, n: usize, cell: usize, pass: &Pass, claimed: &mut [bool]) -> bool
+fn claim_pass<N: Names>(
+    held: &Cell,
+    n: usize,
+    cell: usize,
+    pass: &Pass<N>,
+    claimed: &mut [bool],
+) -> bool
     requires { (0 < n) × (length claimed.old ≡ length held.now.history) }
     ensures { (before : List Call) → Claimed n held.now cell before claimed.old → MatchBool result
         (Claimed n held.now cell (before ++ pass.now.calls) claimed.new)
@@ -97,7 +104,13 @@ fn are_claimed(history: &[Record], cell: usize, claimed: &[bool]) -> bool
 }
 
 /// Whether the records that are left of a cell and the calls of its ranges match one to one.
-fn matches(held: &Cell, n: usize, cell: usize, passes: &[Pass], claimed: &mut [bool]) -> bool
+fn matches<N: Names>(
+    held: &Cell,
+    n: usize,
+    cell: usize,
+    passes: &[Pass<N>],
+    claimed: &mut [bool],
+) -> bool
     requires cells { 0 < n }
     requires count { length claimed.old ≡ length held.now.history }
     requires none { NoneClaimed claimed.old }
@@ -113,12 +126,12 @@ fn matches(held: &Cell, n: usize, cell: usize, passes: &[Pass], claimed: &mut [b
 }
 
 /// Whether the records of one cell match.
-fn cell_matches(
+fn cell_matches<N: Names>(
     alloc: Global,
     held: &Cell,
     n: usize,
     cell: usize,
-    passes: &[Pass],
+    passes: &[Pass<N>],
 ) -> Result<bool, NoMemory>
     requires cells { 0 < n }
     ensures { IfOk result (λ b. MatchBool b (Matches n held.now cell (all_calls passes.now))
@@ -129,7 +142,11 @@ fn cell_matches(
 }
 
 /// Whether calls and the records that are left match one to one.
-pub fn all_match(alloc: Global, cells: &[Cell], passes: &[Pass]) -> Result<bool, NoMemory>
+pub fn all_match<N: Names>(
+    alloc: Global,
+    cells: &[Cell],
+    passes: &[Pass<N>],
+) -> Result<bool, NoMemory>
     ensures { IfOk result (λ b. MatchBool b (AllMatch cells.now passes.now) (¬ AllMatch cells.now passes.now)) }
 {
     for k in 0..cells.len() {

@@ -8,6 +8,7 @@ ghost use Rattle.s4_closing.specs.Order.{is_left, place_left, places, Climbs, lo
 
 use crate::home::{home_of, left_at};
 use s4_cells::Cell;
+use s4_counts::Names;
 use s4_passes::{Asked, Pass, Receipt};
 use s4_types::{Caller, NoMemory, Record, Request};
 use std::alloc::Global;
@@ -115,7 +116,13 @@ fn step(
 }
 
 /// Whether the calls of a pass in a cell stand in their order.
-fn climbs(cells: &[Cell], k: usize, mine: &[usize], first: &[usize], pass: &Pass) -> bool
+fn climbs<N: Names>(
+    cells: &[Cell],
+    k: usize,
+    mine: &[usize],
+    first: &[usize],
+    pass: &Pass<N>,
+) -> bool
     requires { 0 < length cells.now }
     ensures { MatchBool result (Climbs cells.now k mine.now first.now 0 pass.now.calls)
         (¬ Climbs cells.now k mine.now first.now 0 pass.now.calls) }
@@ -132,7 +139,13 @@ fn climbs(cells: &[Cell], k: usize, mine: &[usize], first: &[usize], pass: &Pass
 }
 
 /// Whether the calls of each pass in a cell stand in their order.
-fn all_climb(cells: &[Cell], k: usize, mine: &[usize], first: &[usize], passes: &[Pass]) -> bool
+fn all_climb<N: Names>(
+    cells: &[Cell],
+    k: usize,
+    mine: &[usize],
+    first: &[usize],
+    passes: &[Pass<N>],
+) -> bool
     requires { 0 < length cells.now }
     ensures { MatchBool result
         (AllClimb cells.now k mine.now first.now (length passes.now) passes.now)
@@ -147,11 +160,11 @@ fn all_climb(cells: &[Cell], k: usize, mine: &[usize], first: &[usize], passes: 
 }
 
 /// Whether the calls of each pass whose records are left stand in their order in each cell.
-pub fn are_in_order(
+pub fn are_in_order<N: Names>(
     alloc: Global,
     cells: &[Cell],
     all: &[Record],
-    passes: &[Pass],
+    passes: &[Pass<N>],
 ) -> Result<bool, NoMemory>
     requires { 0 < length cells.now }
     ensures { IfOk result (λ b. MatchBool b

@@ -8,6 +8,7 @@ use crate::merge::merged_history;
 use crate::order::are_in_order;
 use crate::torn::are_whole;
 use s4_cells::Cell;
+use s4_counts::Names;
 use s4_passes::Pass;
 use s4_types::Record;
 use std::alloc::Global;
@@ -28,7 +29,12 @@ pub enum Verdict {
 }
 
 /// Looks at the cells and passes of a front that was opened with this window.
-pub fn reconcile(alloc: Global, window: u64, cells: &[Cell], passes: &[Pass]) -> Verdict
+pub fn reconcile<N: Names>(
+    alloc: Global,
+    window: u64,
+    cells: &[Cell],
+    passes: &[Pass<N>],
+) -> Verdict
     requires { 0 < length cells.now }
     ensures { Fits window cells.now passes.now result }
 {

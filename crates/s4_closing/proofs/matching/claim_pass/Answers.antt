@@ -7,7 +7,7 @@ use Rattle.s4_closing.proofs.Claiming.{calls_more, calls_length, next_in, within
 use Rattle.s4_closing.proofs.matching.claim_pass.Goals as goal
 
 pub returns-then-not-claim : goal.returns-then-not-claim
-returns-then-not-claim c = λ before is rest m.
+returns-then-not-claim g c = λ before is rest m.
     let xs = c.sides.result.0.now in
     let rs = c.sides.result.1.now in
     let i = c.loop-i.i in
@@ -16,7 +16,7 @@ returns-then-not-claim c = λ before is rest m.
     c.if-not-claim.ensures (before ++ take i cs) (c.loop-i.invariant before is) (drop (suc i) cs ++ rest) (subst (λ l. Matches c.args.n c.args.held.now c.args.cell l) (ap (λ l. before ++ (l ++ rest)) (sym c.sides.ensures.calls) ∙ within before cs rest i _ at) m)
 
 pub loop-i-preserved : goal.loop-i-preserved
-loop-i-preserved c = λ before is.
+loop-i-preserved g c = λ before is.
     let xs = c.sides.result.0.now in
     let rs = c.sides.result.1.now in
     let i = c.loop-i.i in
@@ -24,7 +24,7 @@ loop-i-preserved c = λ before is.
     subst (λ l. Claimed c.args.n c.args.held.now c.args.cell l c.claim.new.claimed) (append_assoc before (take i (calls_of xs rs)) _ ∙ ap (λ l. before ++ l) (sym (next_in (calls_of xs rs) i _ at))) (c.if-not-claim.ensures (before ++ take i (calls_of xs rs)) (c.loop-i.invariant before is))
 
 pub returns : goal.returns
-returns c = λ before is.
+returns g c = λ before is.
     let xs = c.sides.result.0.now in
     let rs = c.sides.result.1.now in
     let long = calls_length xs rs c.sides.ensures.even in

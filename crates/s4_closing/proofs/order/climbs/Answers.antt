@@ -8,7 +8,7 @@ use Rattle.s4_closing.proofs.Ordering.{drop_at, climbs_step, climbs_early}
 use Rattle.s4_closing.proofs.order.climbs.Goals as goal
 
 pub returns-in-None : goal.returns-in-None
-returns-in-None c = λ h.
+returns-in-None g c = λ h.
     let xs = c.sides.result.0.now in
     let rs = c.sides.result.1.now in
     let i = c.loop-i.i in
@@ -17,7 +17,7 @@ returns-in-None c = λ h.
     (subst (λ l. Climbs c.args.cells.now c.args.k c.args.mine.now c.args.first.now (low_of c.loop-i.last) l) (drop_at (calls_of xs rs) i _ at) (c.loop-i.invariant.0 (subst (λ l. Climbs c.args.cells.now c.args.k c.args.mine.now c.args.first.now 0 l) (sym c.sides.ensures.calls) h)))
 
 pub loop-i-preserved : goal.loop-i-preserved
-loop-i-preserved c =
+loop-i-preserved g c =
     let xs = c.sides.result.0.now in
     let rs = c.sides.result.1.now in
     let i = c.loop-i.i in
@@ -29,7 +29,7 @@ loop-i-preserved c =
     )
 
 pub returns : goal.returns
-returns c =
+returns g c =
     let xs = c.sides.result.0.now in
     let rs = c.sides.result.1.now in
     let long = calls_length xs rs c.sides.ensures.even in

@@ -11,18 +11,18 @@ use Rattle.s4_closing.proofs.Transfer.{order_moves}
 use Rattle.s4_closing.proofs.reconciling.reconcile.Goals as goal
 
 pub merged_history-requires-clause-home : goal.merged_history-requires-clause-home
-merged_history-requires-clause-home c =
+merged_history-requires-clause-home g c =
     let all : AllMatch c.args.cells.now c.args.passes.now = rw c.if-not-matched.false at c.in-Ok.ensures in
     are_home c.args.cells.now c.args.passes.now all
 
 pub returns-then-not-matched : goal.returns-then-not-matched
-returns-then-not-matched c =
+returns-then-not-matched g c =
     let whole : AreWhole c.args.window c.args.cells.now = search rules in
     let unmatched = rw c.if-not-matched.true at c.in-Ok.ensures in
     (whole, record { never = λ all is match order. unmatched match })
 
 pub returns-then-not-ordered : goal.returns-then-not-ordered
-returns-then-not-ordered c =
+returns-then-not-ordered g c =
     let cells = c.args.cells.now in
     let ps = c.args.passes.now in
     let mine = c.in-Ok-merged_history.all.items in
@@ -32,7 +32,7 @@ returns-then-not-ordered c =
     (whole, record { never = λ all is match order. never (climbs_of_order cells mine ps (order_moves cells ps mine all c.requires merge is match order)) })
 
 pub returns : goal.returns
-returns c =
+returns g c =
     let cells = c.args.cells.now in
     let ps = c.args.passes.now in
     let all = c.in-Ok-merged_history.all.items in
