@@ -3,12 +3,14 @@
 #![tactic(auto)]
 
 
+mod blank;
 mod book;
 mod books;
 mod hand;
 mod ledger;
 mod names;
 
+pub use blank::Blank;
 pub use book::Book;
 pub use books::{are_in_order, audit_books, count_all};
 pub use hand::Hand;

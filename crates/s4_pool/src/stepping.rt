@@ -5,34 +5,39 @@ ghost use Rattle.s4_types.specs.Kinds.{is_wide};
 ghost use Rattle.s4_types.specs.Limits.{data_asked, data_in, is_within_limits};
 ghost use Rattle.s4_types.specs.Play.{is_no_memory, last_of};
 ghost use Rattle.s4_cells.specs.Many.{Each, AllStay};
+ghost use Rattle.s4_pool.specs.Counts.{AreCounted, HaveWindow};
 ghost use Rattle.s4_pool.specs.Serving.{Serves, IsIdle, Adds, AddsToAll};
 
+use crate::locked::Locked;
 use s4_cells::{Cell, wide_with_copy};
+use s4_counts::{Book, Ledger, Names, are_in_order};
 use s4_drive::Answered;
 use s4_passes::{Asked, Pass, Receipt};
 use s4_types::{Caller, Moment, NoMemory, Reply, Request};
 
-/// Carries out an ordinary request in its cell, which has that number: at the greatest of the
-/// caller's clock, the pass's last moment and the cell's. The cell gains the record, and the pass the
-/// call with its receipt; an `Err` comes before any change of these.
-pub fn step_in_cell(
-    cell: &mut Cell,
-    number: usize,
-    pass: &mut Pass,
+/// Carries out an ordinary request in its cell: at the greatest of the caller's clock, the pass's last
+/// moment and the cell's. The cell gains the record, and the pass the call with its receipt; both are
+/// counted at once. An `Err` comes before any change of these.
+pub fn step_in_cell<N: Names>(
+    held: &mut Locked<N>,
+    ledger: &Ledger,
+    pass: &mut Pass<N>,
     caller: Caller,
     clock: Moment,
     request: &Request,
 ) -> Result<Reply, NoMemory>
+    requires ledger { ledger.now ≡ N.ledger }
     requires ordinary { is_wide caller request.now ≡ false }
     ensures told { IfOk result (λ reply. is_no_memory reply ≡ false) }
     ensures limits { IfOk result (λ reply. IsTrue (is_within_limits caller.version reply)) }
     ensures asked { IfOk result (λ reply. data_in reply ≤ data_asked request.now) }
     ensures pass { IfOk result (λ reply. Serves pass.old pass.new caller clock request.now reply) }
-    ensures cell { IfOk result (λ reply. Adds number cell.old cell.new pass.old pass.new) }
+    ensures cell { IfOk result (λ reply. Adds held.old.book.cell held.old.cell held.new.cell pass.old pass.new) }
     ensures idle { OnErr result (IsIdle pass.old pass.new) }
-    ensures still { OnErr result (cell.new ≡ cell.old) }
-    ensures opened { cell.new.opened ≡ cell.old.opened }
+    ensures still { OnErr result (held.new.cell ≡ held.old.cell) }
+    ensures number { held.new.book.cell ≡ held.old.book.cell }
 {
+    let Locked { cell, book } = held;
     let moment = clock.max(pass.last()).max(cell.last());
     let place = cell.next_place();
     pass.reserve()?;
@@ -43,26 +48,35 @@ pub fn step_in_cell(
     };
     let Answered { reply, copy } = cell.step_with_copy(moment, caller, request)?;
     let receipt = Receipt {
-        cell: number,
+        cell: book.cell(),
         place,
         moment,
         reply: copy,
     };
-    pass.add(asked, receipt);
+    pass.add(ledger, book, asked, receipt);
     Ok(reply)
 }
 
 /// Carries out a wide request in all cells, at the greatest of the caller's clock, the pass's last
 /// moment and those of all cells. Each cell gains the record, and the pass the call with its receipt;
-/// an `Err` comes before any change of these.
-pub fn step_in_all(
+/// all are counted at once. An `Err` comes before any change of these. It also comes where the books
+/// aren't in the order of the cells' numbers, which never happens: a lock doesn't say which cell lies
+/// behind it.
+pub fn step_in_all<N: Names>(
     cells: &mut [Cell],
-    pass: &mut Pass,
+    books: &mut [Book<N>],
+    ledger: &Ledger,
+    pass: &mut Pass<N>,
     caller: Caller,
     clock: Moment,
     request: &Request,
 ) -> Result<Reply, NoMemory>
     requires some { 0 < length cells.old }
+    requires all { length cells.old ≡ N.ledger.words }
+    requires books { length books.old ≡ N.ledger.words }
+    requires counted { AreCounted books.old cells.old }
+    requires window { HaveWindow N.window cells.old }
+    requires ledger { ledger.now ≡ N.ledger }
     requires wide { is_wide caller request.now ≡ true }
     ensures told { IfOk result (λ reply. is_no_memory reply ≡ false) }
     ensures limits { IfOk result (λ reply. IsTrue (is_within_limits caller.version reply)) }
@@ -72,7 +86,13 @@ pub fn step_in_all(
     ensures cells { OnOk result (AddsToAll cells.old cells.new pass.old pass.new) }
     ensures still { OnErr result (AllStay cells.old cells.new) }
     ensures count { length cells.new ≡ length cells.old }
+    ensures books { length books.new ≡ length books.old }
+    ensures counted { AreCounted books.new cells.new }
+    ensures window { HaveWindow N.window cells.new }
 {
+    if !are_in_order(books) {
+        return Err(NoMemory);
+    }
     let moment = latest(cells, clock.max(pass.last()));
     let place = cells[0].next_place();
     pass.reserve()?;
@@ -88,7 +108,7 @@ pub fn step_in_all(
         moment,
         reply: copy,
     };
-    pass.add(asked, receipt);
+    pass.add_wide(ledger, books, asked, receipt);
     Ok(reply)
 }
 

@@ -1,0 +1,27 @@
+-- Books beside cells, and a closing that leaves no call uncounted.
+use Rattle.std.specs.Prelude.{◌≡◌, ℕ, ◌<◌, ◌-◌, List, [], ◌∷◌, length, slice_index_or}
+use Rattle.s4_types.specs.Log.{Log}
+use Rattle.s4_cells.specs.Counts.{count_of}
+use Rattle.s4_counts.specs.declared.hand.Hand.{Hand}
+use Rattle.s4_counts.specs.Hands.{hand}
+use Rattle.s4_counts.specs.Books.{BookState}
+use Rattle.s4_passes.specs.Calls.{CallList}
+use Rattle.s4_passes.specs.Counts.{all_hits}
+
+-- the book of each cell has as many records as the cell ever had
+abbrev pub AreCounted : List BookState → List Log → Type 0
+AreCounted books cells = (k : ℕ) (book : BookState) (cell : Log) → k < length books → k < length cells
+    → (slice_index_or books k book).records ≡ count_of (slice_index_or cells k cell)
+
+-- each cell was opened with this window
+abbrev pub HaveWindow : ℕ → List Log → Type 0
+HaveWindow window cells = (k : ℕ) (none : Log) → k < length cells → (slice_index_or cells k none).opened ≡ window
+
+-- each cell ever had as many records as there are calls that count in it
+abbrev pub NoneUncounted : List Log → List CallList → Type 0
+NoneUncounted cells passes = (k : ℕ) (none : Log) → k < length cells → count_of (slice_index_or cells k none) ≡ all_hits k passes
+
+-- the parts of a ledger that neither a cell nor a pass has, with nothing counted
+pub record IsRest (cells passes : ℕ) (hands : List Hand) : Type 0 where
+  pub next : ℕ
+  pub one : hands ≡ hand (64 - cells - passes) next 0 [] ∷ []
