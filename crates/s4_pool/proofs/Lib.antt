@@ -1,1 +1,4 @@
 pub mod Cutting
+mod Beside
+mod Enough
+mod Uncounted

@@ -1,3 +1,4 @@
+pub mod Counts
 pub mod Serving
 pub mod Fronts
 pub mod Numbers

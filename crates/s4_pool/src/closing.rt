@@ -6,16 +6,17 @@ ghost use Rattle.s4_pool.specs.Numbers.{numbered, HasAll};
 use crate::front::Front;
 use crate::gate::Gate;
 use s4_cells::Cell;
+use s4_counts::Names;
 use s4_passes::Pass;
 use s4_types::Record;
 
 /// A front that was closed.
 #[derive(Drop)]
-pub struct Closed {
+pub struct Closed<N: Names> {
     /// The cells, in the order of their numbers.
     pub cells: Vec<Cell>,
     /// The passes, as they were handed in.
-    pub passes: Vec<Pass>,
+    pub passes: Vec<Pass<N>>,
     /// The one history of what is left of all cells: between two wide records by moment, then by
     /// cell, then by place.
     pub history: Vec<Record>,
@@ -37,30 +38,30 @@ pub enum Why {
 
 /// What is left of a front that couldn't be closed.
 #[derive(Drop)]
-pub enum Left<G: Gate> {
+pub enum Left<G: Gate, N: Names> {
     /// The front as it was: it may be closed again.
-    Front(Front<G>),
+    Front(Front<G, N>),
     /// Its cells, out of their locks.
     Cells(Vec<Cell>),
 }
 
 /// Why a front wasn't closed, and all that it was to be closed with.
 #[derive(Drop)]
-pub struct CloseFault<G: Gate> {
+pub struct CloseFault<G: Gate, N: Names> {
     pub why: Why,
-    pub left: Left<G>,
-    pub passes: Vec<Pass>,
+    pub left: Left<G, N>,
+    pub passes: Vec<Pass<N>>,
 }
 
 /// How many of the passes have this number.
-fn count_numbered(passes: &[Pass], number: u64) -> usize
+fn count_numbered<N: Names>(passes: &[Pass<N>], number: u64) -> usize
     ensures { result ≡ numbered number passes.now }
 {
     passes.iter().filter(|pass| pass.number() == number).count()
 }
 
 /// Whether each of so many numbers from 0 on is that of just one pass.
-pub fn has_all(count: u64, passes: &[Pass]) -> bool
+pub fn has_all<N: Names>(count: u64, passes: &[Pass<N>]) -> bool
     ensures { MatchBool result (HasAll count passes.now) (¬ HasAll count passes.now) }
 {
     for number in 0..count {

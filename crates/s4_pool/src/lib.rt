@@ -6,14 +6,18 @@ mod closes;
 mod closing;
 mod front;
 mod gate;
+mod locked;
 mod locks;
+mod room;
 mod stepping;
 mod stretch;
+mod unlocked;
 
 pub use closing::{CloseFault, Closed, Left, Why};
 pub use front::Front;
 pub use gate::{Gate, OpenGate};
 pub use locks::MOST_CELLS;
 pub use s4_cells::{Cell, Measure};
+pub use s4_counts::{Blank, Names};
 pub use s4_passes::{Asked, Pass, Receipt};
 pub use stretch::Stretch;

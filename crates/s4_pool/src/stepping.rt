@@ -14,6 +14,7 @@ use s4_counts::{Book, Ledger, Names, are_in_order};
 use s4_drive::Answered;
 use s4_passes::{Asked, Pass, Receipt};
 use s4_types::{Caller, Moment, NoMemory, Reply, Request};
+use std::alloc::AllocError;
 
 /// Carries out an ordinary request in its cell: at the greatest of the caller's clock, the pass's last
 /// moment and the cell's. The cell gains the record, and the pass the call with its receipt; both are
@@ -91,7 +92,7 @@ pub fn step_in_all<N: Names>(
     ensures window { HaveWindow N.window cells.new }
 {
     if !are_in_order(books) {
-        return Err(NoMemory);
+        return Err(AllocError);
     }
     let moment = latest(cells, clock.max(pass.last()));
     let place = cells[0].next_place();

@@ -5,7 +5,7 @@ use Rattle.s4_pool.specs.Numbers.{numbered}
 use Rattle.s4_pool.proofs.closing.has_all.Goals as goal
 
 pub loop-number-preserved : goal.loop-number-preserved
-loop-number-preserved c =
+loop-number-preserved g c =
     let last = c.loop-number.number in
     let one : c.count_numbered.result ≡ 1 = search rules in
     let here : numbered last c.args.passes.now ≡ 1 = sym c.count_numbered.ensures ∙ one in

@@ -19,32 +19,20 @@ returns-in-Whole-clause-there g c =
     let there = subst (λ n. HasAll n c.as_slice.result.now) count c.if-not-has_all.ensures in
     subst (λ (p : List CallList). HasAll c.args.self.passes p) c.as_slice.ensures.value there
 
+pub reconcile-requires-clause-passes : goal.reconcile-requires-clause-passes
+reconcile-requires-clause-passes g c = ?
+
+pub returns-in-Whole-clause-counted : goal.returns-in-Whole-clause-counted
+returns-in-Whole-clause-counted g c = ?
+
+pub returns-in-Whole-clause-history : goal.returns-in-Whole-clause-history
+returns-in-Whole-clause-history g c = ?
+
 pub returns-in-Torn-clause-why : goal.returns-in-Torn-clause-why
-returns-in-Torn-clause-why g c =
-    let count = ap FrontState.passes c.self.view_is in
-    let window = ap FrontState.window c.self.view_is in
-    let there = subst (λ n. HasAll n c.as_slice.result.now) count c.if-not-has_all.ensures in
-    let torn = subst (λ w. ¬ AreWhole w c.as_slice-2.result.now) window c.in-Torn.ensures in
-    let kept = subst (λ (l : List Log). ¬ AreWhole c.args.self.window l) c.as_slice-2.ensures.value torn in (
-      subst (λ (p : List CallList). HasAll c.args.self.passes p) c.as_slice.ensures.value there,
-      subst (λ (l : List Log). ¬ AreWhole c.args.self.window l) (sym (ap (λ v. v.items) c.into_cells-in-Torn.ensures)) kept,
-    )
+returns-in-Torn-clause-why g c = ?
 
 pub returns-in-Stray-clause-why : goal.returns-in-Stray-clause-why
-returns-in-Stray-clause-why g c =
-    let count = ap FrontState.passes c.self.view_is in
-    let window = ap FrontState.window c.self.view_is in
-    let there = subst (λ n. HasAll n c.as_slice.result.now) count c.if-not-has_all.ensures in
-    let whole = subst (λ w. AreWhole w c.as_slice-2.result.now) window c.in-Stray.ensures.0 in
-    let kept = subst (λ (l : List Log). AreWhole c.args.self.window l) c.as_slice-2.ensures.value whole in
-    let stray = subst (λ (l : List Log). IsStray l c.as_slice-3.result.now) c.as_slice-2.ensures.value c.in-Stray.ensures.1 in
-    let cells = sym (ap (λ v. v.items) c.into_cells-in-Stray.ensures) in (
-      subst (λ (p : List CallList). HasAll c.args.self.passes p) c.as_slice.ensures.value there,
-      (
-        subst (λ (l : List Log). AreWhole c.args.self.window l) cells kept,
-        subst (λ (l : List Log). IsStray l c.args.passes.items) cells (subst (λ (p : List CallList). IsStray c.unlock-unlocked.result.cells.items p) c.as_slice-3.ensures.value stray),
-      ),
-    )
+returns-in-Stray-clause-why g c = ?
 
 pub returns-in-NoMemory-clause-why : goal.returns-in-NoMemory-clause-why
 returns-in-NoMemory-clause-why g c =
