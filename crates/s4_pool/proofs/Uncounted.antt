@@ -8,7 +8,9 @@ use Rattle.s4_counts.specs.Hands.{hand, parts_of, records_of, calls_of}
 use Rattle.s4_counts.specs.Books.{BookState, AreInOrder, counted_in}
 use Rattle.s4_passes.specs.Calls.{CallList}
 use Rattle.s4_passes.specs.Counts.{all_hits}
-use Rattle.s4_pool.specs.Counts.{AreCounted, NoneUncounted, IsRest}
+use Rattle.s4_closing.specs.declared.reconciling.Verdict.{Verdict}
+use Rattle.s4_closing.specs.declared.reconciling.Verdict.TheVariants.{Whole, Torn, Stray, NoMemory}
+use Rattle.s4_pool.specs.Counts.{AreCounted, CountsFit, NoneUncounted, IsRest}
 
 abbrev one_of : ℕ → Bool → ℕ
 one_of n b = cond b n 0
@@ -63,3 +65,9 @@ none_uncounted words opened hands (b ∷ books) cells passes rest order counted 
     nought : (b : Bool) → cond b 0 0 + 0 ≡ 0
     nought true = refl
     nought false = refl
+
+pub counts_fit : (cells : List Log) (passes : List CallList) (verdict : Verdict) → NoneUncounted cells passes → CountsFit cells passes verdict
+counts_fit cells passes (Whole history) none = none
+counts_fit cells passes Torn none = none
+counts_fit cells passes Stray none = none
+counts_fit cells passes NoMemory none = tt
