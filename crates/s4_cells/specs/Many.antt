@@ -1,5 +1,5 @@
 -- Many cells, seen by their logs, and what a request of all purses does to them: facts on the cell of each place.
-use Rattle.std.specs.Prelude.{◌≡◌, ℕ, true, ◌+◌, ◌<◌, ◌≤◌, min, List, [], map, fold, length, slice_index_or}
+use Rattle.std.specs.Prelude.{◌≡◌, ℕ, true, ◌<◌, ◌≤◌, min, List, [], map, fold, length, slice_index_or}
 use Rattle.s4_types.specs.declared.principal.Caller.{Caller}
 use Rattle.s4_types.specs.declared.record.Record.{Record}
 use Rattle.s4_types.specs.declared.request.Request.{Request}

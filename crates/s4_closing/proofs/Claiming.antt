@@ -5,7 +5,6 @@ use Rattle.std.proofs.lemmas.Bool.{ne_eqb, true≢false}
 use Rattle.std.proofs.lemmas.Bool.Decides.{eqb_tells}
 use Rattle.std.proofs.lemmas.Option.{slice_get_within, get_or_from_slice_get}
 use Rattle.std.proofs.lemmas.List.{append-nil, take_all, take_more, get_or-set_same, get_or-set_other, length-set}
-use Rattle.s4_types.specs.declared.record.Record.{Record}
 use Rattle.s4_types.specs.Log.{Log}
 use Rattle.s4_types.specs.Audit.{is_wide_record}
 use Rattle.s4_types.specs.Kinds.{range_of}

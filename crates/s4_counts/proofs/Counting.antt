@@ -1,5 +1,5 @@
 -- Counting in one book after the other.
-use Rattle.std.proofs.Common.{rules, ◌≡◌, ◌≢◌, ℕ, zero, suc, ◌+◌, ◌<◌, ◌≤◌, List, [], ◌∷◌, ◌++◌, length, get_or, set, append_assoc, sym, ◌∙◌, ap, refl, ⊎_elim, arith}
+use Rattle.std.proofs.Common.{◌≡◌, ◌≢◌, ℕ, zero, suc, ◌+◌, ◌<◌, List, [], ◌∷◌, ◌++◌, length, get_or, set, append_assoc, sym, ◌∙◌, ap, refl, ⊎_elim, arith}
 use Rattle.std.specs.List.{range_with_len}
 use Rattle.std.proofs.lemmas.List.{get_or-set_same, get_or-set_other}
 use Rattle.std.proofs.lemmas.Bool.{cases_eq}
@@ -10,7 +10,7 @@ use Rattle.s4_counts.specs.Books.{BookState, FirstCount, with_call_of, with_call
 
 range_more : (from n : ℕ) → range_with_len from (n + 1) ≡ range_with_len from n ++ (from + n) ∷ []
 range_more from zero = ap (λ (k : ℕ). k ∷ []) (omega arith)
-range_more from (suc n) = 
+range_more from (suc n) =
     ap (λ (k : ℕ). range_with_len from k) (let e : suc n + 1 ≡ suc (n + 1) = omega arith in e)
     ∙ ap (λ (l : List ℕ). from ∷ l) (range_more (from + 1) n ∙ ap (λ (k : ℕ). range_with_len (from + 1) n ++ k ∷ []) (let e : from + 1 + n ≡ from + suc n = omega arith in e))
 
@@ -27,14 +27,14 @@ one_counts i old now b so_far there cell records = record {
   count = grind (arith, common_steps, so_far.count);
   cells = λ k none. ⊎_elim
       (λ (same : k ≡ i).
-          ap (λ (j : ℕ). (get_or (set now i b) j none).cell) same
-          ∙ (ap (λ (x : BookState). x.cell) (here none) ∙ (cell none ∙ (so_far.cells i none ∙ ap (λ (j : ℕ). (get_or old j none).cell) (sym same)))))
+      ap (λ (j : ℕ). (get_or (set now i b) j none).cell) same
+      ∙ (ap (λ (x : BookState). x.cell) (here none) ∙ (cell none ∙ (so_far.cells i none ∙ ap (λ (j : ℕ). (get_or old j none).cell) (sym same)))))
       (λ (other : k ≢ i). ap (λ (x : BookState). x.cell) (get_or-set_other now i k b none other) ∙ so_far.cells k none)
       (cases_eq k i);
   first = λ k none lt le. ⊎_elim
       (λ (same : k ≡ i).
-          ap (λ (j : ℕ). (get_or (set now i b) j none).records) same
-          ∙ (ap (λ (x : BookState). x.records) (here none) ∙ (records none ∙ (ap (λ (n : ℕ). n + 1) (so_far.others i none (omega arith)) ∙ ap (λ (j : ℕ). (get_or old j none).records + 1) (sym same)))))
+      ap (λ (j : ℕ). (get_or (set now i b) j none).records) same
+      ∙ (ap (λ (x : BookState). x.records) (here none) ∙ (records none ∙ (ap (λ (n : ℕ). n + 1) (so_far.others i none (omega arith)) ∙ ap (λ (j : ℕ). (get_or old j none).records + 1) (sym same)))))
       (λ (other : k ≢ i). ap (λ (x : BookState). x.records) (get_or-set_other now i k b none other) ∙ so_far.first k none (omega (arith, lt, other)) le)
       (cases_eq k i);
   others = λ k none le. ap (λ (x : BookState). x.records) (get_or-set_other now i k b none (λ same. absurd (omega (arith, le, same)))) ∙ so_far.others k none (omega (arith, le));

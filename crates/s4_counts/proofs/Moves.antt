@@ -1,13 +1,13 @@
 -- Each step keeps the tokens balanced.
-use Rattle.std.proofs.Common.{◌≡◌, ◌≢◌, ℕ, zero, suc, ◌+◌, ◌-◌, ◌<◌, ◌≤◌, ◌==◌, Bool, true, false, List, [], ◌∷◌, ◌++◌, All, set, sym, ◌∙◌, ap, refl, subst, ⊎_elim, arith, cond}
-use mathlib.Core.Option.{some, some-injective, some-ne-none}
+use Rattle.std.proofs.Common.{◌≡◌, ◌≢◌, ℕ, ◌+◌, ◌-◌, ◌≤◌, ◌==◌, Bool, true, false, List, [], ◌∷◌, ◌++◌, set, sym, refl, subst, ⊎_elim, arith, cond}
+use mathlib.Core.Option.{some}
 use lib.ListN.{get_elem?}
 use Rattle.atomic_table.specs.Table.{State, Me, keeps, Allows, Splits, Joins}
 use Rattle.atomic_table.proofs.Lists.{at_set, set_again}
 use Rattle.s4_counts.specs.declared.hand.Hand.{Hand}
-use Rattle.s4_counts.specs.Hands.{hand, total, times, parts_of, records_of, calls_of, AreEven, HaveParts, Balanced, first, rest, with_record, with_call, counted, cut_off, left_by_cut}
+use Rattle.s4_counts.specs.Hands.{hand, times, parts_of, records_of, calls_of, AreEven, HaveParts, Balanced, first, rest, with_record, with_call, counted, cut_off, left_by_cut}
 use Rattle.s4_counts.specs.Tokens.{CanCut, CanCount}
-use Rattle.s4_counts.proofs.Totals.{total_set, total_append, times_push, AreHeld, held_set, held_push, parts_append, alone}
+use Rattle.s4_counts.proofs.Totals.{total_set, total_append, times_push, held_set, held_push, parts_append, alone}
 
 -- parts, records and calls of all after a change of one
 change : (views : List (List Hand)) (id : ℕ) (v w : List Hand) → get_elem? views id ≡ some v → Balanced views
@@ -70,12 +70,15 @@ module _ {S : Type 0} where
     keeps,
     tt,
     subst Balanced (sym (set_again s.views id me.0 at)) b,
-    (refl, λ all k.
-        let p = b.parts in
-        let e = b.even k in
-        let x = alone (λ (h : Hand). cond (h.cell == k) h.records 0) s.views id me.0 at b.some (omega (arith, p, all)) in
-        let y = alone (λ (h : Hand). times k h.calls) s.views id me.0 at b.some (omega (arith, p, all)) in
-        omega arith),
+    (
+      refl,
+      λ all k.
+          let p = b.parts in
+          let e = b.even k in
+          let x = alone (λ (h : Hand). cond (h.cell == k) h.records 0) s.views id me.0 at b.some (omega (arith, p, all)) in
+          let y = alone (λ (h : Hand). times k h.calls) s.views id me.0 at b.some (omega (arith, p, all)) in
+          omega arith,
+    ),
   )
 
   pub joins : (id : ℕ) (v : List Hand) (other : ℕ) (w : List Hand) → Joins Holds id v other w (w ++ v) []

@@ -1,10 +1,10 @@
 -- Totals of lists, and what all but one token know.
-use Rattle.std.proofs.Common.{◌≡◌, ◌≢◌, ℕ, zero, suc, ◌+◌, ◌<◌, ◌≤◌, ◌==◌, List, [], ◌∷◌, ◌++◌, All, set, sym, ◌∙◌, ap, refl, subst, ⊎_elim, arith, cond}
+use Rattle.std.proofs.Common.{◌≡◌, ◌≢◌, ℕ, zero, suc, ◌+◌, ◌≤◌, ◌==◌, List, [], ◌∷◌, ◌++◌, set, sym, ap, refl, subst, ⊎_elim, arith, cond}
 use mathlib.Core.Option.{some, some-injective, some-ne-none}
 use lib.ListN.{get_elem?}
 use Rattle.atomic_table.proofs.Lists.{at_set, at_snoc}
 use Rattle.s4_counts.specs.declared.hand.Hand.{Hand}
-use Rattle.s4_counts.specs.Hands.{total, times, parts_of, records_of, calls_of, HaveParts}
+use Rattle.s4_counts.specs.Hands.{total, times, parts_of, HaveParts}
 
 pub total_set : {A : Type 0} (f : A → ℕ) (xs : List A) (id : ℕ) (v w : A) → get_elem? xs id ≡ some v → total f (set xs id w) + f v ≡ total f xs + f w
 total_set f [] id v w at = absurd (some-ne-none v (sym at))

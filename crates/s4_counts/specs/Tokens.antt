@@ -1,5 +1,5 @@
 -- What is seen of a token.
-use Rattle.std.specs.Prelude.{◌≡◌, ℕ, ◌<◌, List, [], ◌∷◌, ⊤}
+use Rattle.std.specs.Prelude.{◌≡◌, ◌<◌, List, [], ◌∷◌, ⊤}
 use Rattle.atomic_table.specs.Seated.{TableId}
 use Rattle.s4_counts.specs.declared.hand.Hand.{Hand}
 

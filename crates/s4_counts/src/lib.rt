@@ -2,7 +2,6 @@
 //! (docs/THREADS.md, "Counts").
 #![tactic(auto)]
 
-
 mod blank;
 mod book;
 mod books;

@@ -1,5 +1,5 @@
 -- A call more, and the token that counts it.
-use Rattle.std.proofs.Common.{◌≡◌, ◌≢◌, ⊎_elim, ℕ, zero, suc, ◌+◌, ◌<◌, ◌≤◌, ◌==◌, ◌||◌, Bool, true, false, cond, List, [], ◌∷◌, ◌++◌, sym, ◌∙◌, ap, refl, arith, rules, count_by}
+use Rattle.std.proofs.Common.{◌≡◌, ◌≢◌, ⊎_elim, ℕ, zero, suc, ◌+◌, ◌<◌, ◌≤◌, ◌==◌, Bool, true, false, cond, List, [], ◌∷◌, ◌++◌, ap, refl, arith, rules}
 use Rattle.std.specs.List.{range_with_len}
 use Rattle.std.proofs.lemmas.Bool.{ne_eqb}
 use Rattle.std.proofs.lemmas.Bool.Decides.{eqb_tells}
@@ -48,11 +48,11 @@ times_once k from zero le lt = absurd (omega (arith, le, lt))
 times_once k from (suc n) le lt =
     ⊎_elim
     (λ (t : ((from == k) ≡ true) × (from ≡ k)).
-        let c : cond (from == k) 1 0 ≡ 1 = ap one_if t.0 in
-        omega (arith, c, times_below k (from + 1) n (omega (arith, t.1))))
+    let c : cond (from == k) 1 0 ≡ 1 = ap one_if t.0 in
+    omega (arith, c, times_below k (from + 1) n (omega (arith, t.1))))
     (λ (f : ((from == k) ≡ false) × (from ≢ k)).
-        let c : cond (from == k) 1 0 ≡ 0 = ap one_if f.0 in
-        omega (arith, c, times_once k (from + 1) n (omega (arith, le, f.1)) (omega (arith, lt))))
+    let c : cond (from == k) 1 0 ≡ 0 = ap one_if f.0 in
+    omega (arith, c, times_once k (from + 1) n (omega (arith, le, f.1)) (omega (arith, lt))))
     (eqb_tells from k)
 
 -- a wide call counts in all cells

@@ -1,5 +1,5 @@
 -- Books and cells side by side.
-use Rattle.std.proofs.Common.{◌≡◌, ℕ, zero, suc, ◌+◌, ◌<◌, ◌≤◌, List, [], ◌∷◌, ◌++◌, length, get_or, sym, ◌∙◌, ap, arith}
+use Rattle.std.proofs.Common.{◌≡◌, ℕ, zero, suc, List, [], ◌∷◌, ◌++◌, length, sym, ◌∙◌, arith}
 use Rattle.s4_types.specs.Log.{Log}
 use Rattle.s4_cells.specs.Counts.{count_of}
 use Rattle.s4_cells.specs.Many.{EachNow}

@@ -1,10 +1,9 @@
 -- What an audit says of the cells.
-use Rattle.std.proofs.Common.{◌≡◌, ◌≢◌, ℕ, zero, suc, ◌+◌, ◌-◌, ◌<◌, ◌≤◌, ◌==◌, cond, Bool, true, false, List, [], ◌∷◌, length, get_or, ap, refl, sym, ◌∙◌, subst, arith}
+use Rattle.std.proofs.Common.{◌≡◌, ℕ, zero, suc, ◌+◌, ◌-◌, ◌<◌, ◌≤◌, ◌==◌, cond, Bool, true, false, List, [], ◌∷◌, length, get_or, ap, refl, ◌∙◌, arith}
 use Rattle.std.proofs.lemmas.Bool.{ne_eqb, eq-eqb}
 use Rattle.s4_types.specs.Log.{Log}
-use Rattle.s4_cells.specs.Counts.{count_of}
 use Rattle.s4_counts.specs.declared.hand.Hand.{Hand}
-use Rattle.s4_counts.specs.Hands.{hand, parts_of, records_of, calls_of}
+use Rattle.s4_counts.specs.Hands.{parts_of, records_of, calls_of}
 use Rattle.s4_counts.specs.Books.{BookState, AreInOrder, counted_in}
 use Rattle.s4_passes.specs.Calls.{CallList}
 use Rattle.s4_passes.specs.Counts.{all_hits}

@@ -8,7 +8,7 @@ use Rattle.s4_counts.specs.Books.{BookState}
 use Rattle.s4_passes.specs.Calls.{CallList}
 use Rattle.s4_passes.specs.Counts.{all_hits}
 use Rattle.s4_closing.specs.declared.reconciling.Verdict.{Verdict}
-use Rattle.s4_closing.specs.declared.reconciling.Verdict.TheVariants.{Whole, Torn, Stray, NoMemory}
+use Rattle.s4_closing.specs.declared.reconciling.Verdict.TheVariants.{NoMemory}
 
 -- the book of each cell has as many records as the cell ever had
 abbrev pub AreCounted : List BookState → List Log → Type 0

@@ -28,7 +28,11 @@ impl<G: Gate, N: Names> Front<G, N> {
     /// principal other than the administrator was replied what it would have been without its
     /// strangers (docs/MODEL.md, "Isolation"). What can't be closed is handed back, with the
     /// reason.
-    pub fn close(self, alloc: Global, mut passes: Vec<Pass<N>>) -> Result<Closed<N>, CloseFault<G, N>>
+    pub fn close(
+        self,
+        alloc: Global,
+        mut passes: Vec<Pass<N>>,
+    ) -> Result<Closed<N>, CloseFault<G, N>>
         ensures there { IfOk result (λ closed. HasAll self.passes passes.items) }
         ensures passes { IfOk result (λ closed. closed.passes.items ≡ passes.items) }
         ensures count { IfOk result (λ closed. length closed.cells.items ≡ self.cells) }

@@ -1,9 +1,8 @@
-use Rattle.std.proofs.Common.{arith, ◌≡◌, ◌+◌, ◌<◌, sym, ap, ◌∙◌, refl, true≢false, length, Some}
+use Rattle.std.proofs.Common.{arith, sym, ap, ◌∙◌, refl, true≢false, length}
 use Rattle.std.specs.Prelude.{slice_get}
 use Rattle.std.proofs.lemmas.Option.{slice_get_within}
-use Rattle.s4_types.specs.Log.{Log}
 use Rattle.s4_passes.specs.Calls.{call_of}
-use Rattle.s4_closing.specs.Claims.{record_of, gone}
+use Rattle.s4_closing.specs.Claims.{record_of}
 use Rattle.s4_closing.proofs.Claiming.{claim_other, claim_gone, claim_one, misnamed, unsuited, twice}
 use Rattle.s4_closing.proofs.matching.claim.Goals as goal
 

@@ -1,7 +1,6 @@
-use Rattle.std.proofs.Common.{arith, ◌≡◌, ◌+◌, ◌&&◌, sym, ap, ◌∙◌, refl, true, false, ℕ}
-use Rattle.std.proofs.lemmas.Bool.{eqb-true}
+use Rattle.std.proofs.Common.{arith, ◌≡◌, ◌+◌, sym, ap, ◌∙◌, refl, true, false, ℕ}
 use Rattle.s4_passes.specs.Calls.{Call, call_of}
-use Rattle.s4_closing.specs.Order.{touches, is_left, place_left, spot, low_of}
+use Rattle.s4_closing.specs.Order.{touches, spot, low_of}
 use Rattle.s4_closing.proofs.Ordering.{untouched, gone_past, touches_left, spot_is}
 use Rattle.s4_closing.proofs.order.step.Goals as goal
 

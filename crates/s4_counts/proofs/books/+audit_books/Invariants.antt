@@ -1,4 +1,4 @@
-use Rattle.std.proofs.Common.{ℕ, length}
+use Rattle.std.proofs.Common.{length}
 use Rattle.s4_counts.proofs.books.+audit_books.Given as goal
 
 abbrev pub decreases-audit_books : goal.decreases-audit_books

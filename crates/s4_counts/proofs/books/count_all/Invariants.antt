@@ -1,4 +1,4 @@
-use Rattle.std.proofs.Common.{◌≡◌, ℕ, ◌<◌, length}
+use Rattle.std.proofs.Common.{◌≡◌}
 use Rattle.std.specs.List.{range_with_len}
 use Rattle.s4_counts.specs.Books.{FirstCount, with_calls_of}
 use Rattle.s4_counts.proofs.books.count_all.Given as goal

@@ -1,4 +1,4 @@
-use Rattle.std.proofs.Common.{ℕ, length}
+use Rattle.std.proofs.Common.{length}
 use Rattle.s4_passes.proofs.pass.+audit.Given as goal
 
 abbrev pub decreases-audit : goal.decreases-audit

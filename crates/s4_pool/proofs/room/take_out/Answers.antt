@@ -1,4 +1,4 @@
-use Rattle.std.proofs.Common.{rules, arith}
+use Rattle.std.proofs.Common.{arith}
 use Rattle.std.proofs.lemmas.Grind.{common_steps}
 use Rattle.s4_pool.proofs.Beside.{counted_push, window_push}
 use Rattle.s4_pool.proofs.room.take_out.Goals as goal

@@ -1,5 +1,4 @@
-use Rattle.std.proofs.Common.{List, ap, sym, subst, ◌∙◌}
-use Rattle.s4_counts.specs.declared.hand.Hand.{Hand}
+use Rattle.std.proofs.Common.{ap, sym, ◌∙◌}
 use Rattle.s4_counts.specs.Tokens.{Known}
 use Rattle.s4_counts.proofs.Moves.{joins}
 use Rattle.s4_counts.proofs.ledger.Ledger.join.Goals as goal

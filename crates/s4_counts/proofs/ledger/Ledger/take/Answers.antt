@@ -1,5 +1,4 @@
-use Rattle.std.proofs.Common.{List, ap, sym, subst, ◌∙◌}
-use Rattle.s4_counts.specs.declared.hand.Hand.{Hand}
+use Rattle.std.proofs.Common.{ap, sym, ◌∙◌}
 use Rattle.s4_counts.specs.Tokens.{Known}
 use Rattle.s4_counts.proofs.Moves.{gives_all}
 use Rattle.s4_counts.proofs.ledger.Ledger.take.Goals as goal
