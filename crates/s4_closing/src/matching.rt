@@ -23,7 +23,8 @@ fn is_record_of(found: &Record, asked: &Asked, receipt: &Receipt) -> bool
 
 /// Whether the record at a place is that of the call.
 fn is_at(history: &[Record], place: usize, asked: &Asked, receipt: &Receipt) -> bool
-    ensures { IsTrue result ↔ (slice_get history.now place ≡ Some (record_of (call_of asked.now receipt.now))) }
+    ensures { IsTrue result ↔
+        (slice_get history.now place ≡ Some (record_of (call_of asked.now receipt.now))) }
 {
     match history.get(place) {
         Some(found) => is_record_of(found, asked, receipt),
@@ -92,7 +93,8 @@ fn claim_pass<N: Names>(
 /// Whether each record that counts is claimed.
 fn are_claimed(history: &[Record], cell: usize, claimed: &[bool]) -> bool
     requires { length claimed.now ≡ length history.now }
-    ensures { MatchBool result (AllClaimed (length history.now) history.now cell claimed.now) (OneUnclaimed history.now cell claimed.now) }
+    ensures { MatchBool result (AllClaimed (length history.now) history.now cell claimed.now)
+        (OneUnclaimed history.now cell claimed.now) }
 {
     for p in 0..history.len() {
         let needed = !history[p].is_wide() || cell == 0;
@@ -147,7 +149,8 @@ pub fn all_match<N: Names>(
     cells: &[Cell],
     passes: &[Pass<N>],
 ) -> Result<bool, NoMemory>
-    ensures { IfOk result (λ b. MatchBool b (AllMatch cells.now passes.now) (¬ AllMatch cells.now passes.now)) }
+    ensures { IfOk result (λ b. MatchBool b (AllMatch cells.now passes.now)
+        (¬ AllMatch cells.now passes.now)) }
 {
     for k in 0..cells.len() {
         if !cell_matches(alloc, &cells[k], cells.len(), k, passes)? {

@@ -10,7 +10,8 @@ use s4_types::Record;
 /// The place of the next wide record from `from` on.
 fn next_wide(history: &[Record], from: usize) -> Option<usize>
     requires { from ≤ length history.now }
-    ensures { MatchOption result (wide_records (drop from history.now) ≡ []) (λ j. IsNextWide history.now from j) }
+    ensures { MatchOption result (wide_records (drop from history.now) ≡ [])
+        (λ j. IsNextWide history.now from j) }
 {
     for j in from..history.len() {
         if history[j].is_wide() {
@@ -23,7 +24,8 @@ fn next_wide(history: &[Record], from: usize) -> Option<usize>
 /// The place behind the next wide record, if that is this one.
 fn go_past(found: &Record, history: &[Record], from: usize) -> Option<usize>
     requires { from ≤ length history.now }
-    ensures { MatchOption result (IsNotNext history.now from found.now) (λ y. IsPassed history.now from found.now y) }
+    ensures { MatchOption result (IsNotNext history.now from found.now)
+        (λ y. IsPassed history.now from found.now y) }
 {
     let j = next_wide(history, from)?;
     if !history[j].is_same(found) {
@@ -34,7 +36,8 @@ fn go_past(found: &Record, history: &[Record], from: usize) -> Option<usize>
 
 /// Whether two histories have the same wide records.
 fn have_same(a: &[Record], b: &[Record]) -> bool
-    ensures { MatchBool result (wide_records a.now ≡ wide_records b.now) (¬ (wide_records a.now ≡ wide_records b.now)) }
+    ensures { MatchBool result (wide_records a.now ≡ wide_records b.now)
+        (¬ (wide_records a.now ≡ wide_records b.now)) }
 {
     let mut j = 0;
     for i in 0..a.len() {

@@ -28,7 +28,8 @@ pub fn count_all<N: Names>(books: &mut [Book<N>], ledger: &Ledger, caller: &mut 
     requires ledger_of_caller { caller.old.ledger ≡ N.ledger }
     requires caller { 0 < length caller.old.hands }
     ensures books { AllCount books.old books.new }
-    ensures calls { caller.new.hands ≡ with_calls_of (range_with_len 0 (length books.old)) caller.old.hands }
+    ensures calls { caller.new.hands
+        ≡ with_calls_of (range_with_len 0 (length books.old)) caller.old.hands }
     ensures ledger_of_caller { caller.new.ledger ≡ N.ledger }
 {
     for cell in 0..books.len() {

@@ -28,10 +28,12 @@ impl Model for Calls {
     ghost view = { λ c. record {
       number = c.number;
       calls = calls_of c.asked.items c.receipts.items;
-      room = min (vec_capacity c.asked - vec_len c.asked) (vec_capacity c.receipts - vec_len c.receipts);
+      room = min (vec_capacity c.asked - vec_len c.asked)
+          (vec_capacity c.receipts - vec_len c.receipts);
     } };
 
-    ghost invariant = { λ c. (length c.asked.items ≡ length c.receipts.items) × (c.last ≡ last_receipt 0 c.receipts.items) };
+    ghost invariant = { λ c. (length c.asked.items ≡ length c.receipts.items)
+        × (c.last ≡ last_receipt 0 c.receipts.items) };
 }
 
 impl Calls {

@@ -32,7 +32,8 @@ impl<N: Names> Model for Pass<N> {
 
     ghost view = { λ p. p.calls };
 
-    ghost invariant = { λ p. (p.token.ledger ≡ N.ledger) × IsCounted N.ledger.words p.token.hands p.calls.calls };
+    ghost invariant = { λ p. (p.token.ledger ≡ N.ledger)
+        × IsCounted N.ledger.words p.token.hands p.calls.calls };
 }
 
 impl<N: Names> Pass<N> {

@@ -36,13 +36,16 @@ impl<G: Gate, N: Names> Front<G, N> {
         ensures there { IfOk result (λ closed. HasAll self.passes passes.items) }
         ensures passes { IfOk result (λ closed. closed.passes.items ≡ passes.items) }
         ensures count { IfOk result (λ closed. length closed.cells.items ≡ self.cells) }
-        ensures counted { IfOk result (λ closed. NoneUncounted closed.cells.items closed.passes.items) }
+        ensures counted { IfOk result (λ closed.
+            NoneUncounted closed.cells.items closed.passes.items) }
         ensures whole { IfOk result (λ closed. AreWhole self.window closed.cells.items) }
-        ensures history { IfOk result (λ closed. IsClosing self.window closed.cells.items closed.passes.items closed.history.items) }
+        ensures history { IfOk result (λ closed.
+            IsClosing self.window closed.cells.items closed.passes.items closed.history.items) }
         ensures isolated { IfOk result (λ closed. NoneWent closed.cells.items
             → (who : ℕ) → (who == 0) ≡ false
             → replies (records_of who closed.history.items)
-            ≡ replies_without_strangers (opened self.window) who (requests_in closed.history.items)) }
+            ≡ replies_without_strangers (opened self.window) who
+            (requests_in closed.history.items)) }
         ensures back { IfErr result (λ fault. fault.passes.items ≡ passes.items) }
         ensures why { IfErr result (λ fault. FaultFits self passes.items fault.why fault.left) }
     {

@@ -63,7 +63,8 @@ impl<N: Names> Room<N> {
         ensures told { IfOk result (λ reply. is_no_memory reply ≡ false) }
         ensures limits { IfOk result (λ reply. IsTrue (is_within_limits caller.version reply)) }
         ensures asked { IfOk result (λ reply. data_in reply ≤ data_asked request.now) }
-        ensures pass { IfOk result (λ reply. Serves pass.old pass.new caller clock request.now reply) }
+        ensures pass { IfOk result (λ reply.
+            Serves pass.old pass.new caller clock request.now reply) }
         ensures idle { OnErr result (IsIdle pass.old pass.new) }
     {
         let Room { cells, books, .. } = self;

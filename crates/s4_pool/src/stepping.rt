@@ -33,7 +33,8 @@ pub fn step_in_cell<N: Names>(
     ensures limits { IfOk result (λ reply. IsTrue (is_within_limits caller.version reply)) }
     ensures asked { IfOk result (λ reply. data_in reply ≤ data_asked request.now) }
     ensures pass { IfOk result (λ reply. Serves pass.old pass.new caller clock request.now reply) }
-    ensures cell { IfOk result (λ reply. Adds held.old.book.cell held.old.cell held.new.cell pass.old pass.new) }
+    ensures cell { IfOk result (λ reply.
+        Adds held.old.book.cell held.old.cell held.new.cell pass.old pass.new) }
     ensures idle { OnErr result (IsIdle pass.old pass.new) }
     ensures still { OnErr result (held.new.cell ≡ held.old.cell) }
     ensures number { held.new.book.cell ≡ held.old.book.cell }
