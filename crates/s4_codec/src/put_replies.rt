@@ -102,7 +102,7 @@ fn put_fields<R: Room>(version: WireVersion, out: &mut R, reply: &Reply)
 {
     match reply {
         Reply::Done => {}
-        Reply::Made(object) => put_made(out, object),
+        Reply::Made(object) => put_object(out, object),
         Reply::Data { grant, bytes } => put_data(version, out, grant, bytes),
         Reply::Attr { grant, bytes } => put_attr(version, out, grant, bytes),
         Reply::Entry {
@@ -116,15 +116,6 @@ fn put_fields<R: Room>(version: WireVersion, out: &mut R, reply: &Reply)
         Reply::Audit { lines, more } => put_audit(out, lines, *more),
         Reply::Refused(refusal) => put_refused(out, refusal),
     }
-}
-
-fn put_made<R: Room>(out: &mut R, object: &ObjectId)
-    requires room { 8 ≤ R.spare out.old }
-    ensures added { Adds format.made_object (replies.Made object.now)
-        (R.items out.old) (R.items out.new) }
-    ensures left { R.spare out.old ≤ R.spare out.new + 8 }
-{
-    put_object(out, object);
 }
 
 fn put_data<R: Room>(version: WireVersion, out: &mut R, grant: &Grant, bytes: &Bytes)

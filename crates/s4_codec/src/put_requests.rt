@@ -16,8 +16,7 @@ use crate::put_parts::{
 };
 use crate::room::Room;
 use s4_types::{
-    After, Bytes, Moment, Name, ObjectId, Principal, Purse, PurseNo, Request, Rights, User,
-    WireVersion,
+    After, Bytes, Moment, Name, ObjectId, Principal, Purse, Request, Rights, User, WireVersion,
 };
 
 /// Adds the request's spelling.
@@ -38,8 +37,8 @@ fn put_fields<R: Room>(version: WireVersion, out: &mut R, request: &Request)
         (R.items out.old) (R.items out.new) }
 {
     match request {
-        Request::Create { number } => put_create(out, number),
-        Request::Delete { object } => put_delete(out, object),
+        Request::Create { number } => put_purse_number(out, number),
+        Request::Delete { object } => put_object(out, object),
         Request::Read {
             object,
             offset,
@@ -70,26 +69,10 @@ fn put_fields<R: Room>(version: WireVersion, out: &mut R, request: &Request)
         Request::PMount { purse, name, at } => put_pmount(out, purse, name, at),
         Request::Flush { from, to } => put_flush(out, from, to),
         Request::FlushO { object, from, to } => put_flush_object(out, object, from, to),
-        Request::SetWindow { ticks } => put_set_window(out, *ticks),
+        Request::SetWindow { ticks } => put_u64(out, *ticks),
         Request::SetBudget { purse, budget } => put_set_budget(out, purse, *budget),
         Request::ReadAudit { range, skip } => put_read_audit(out, range, *skip),
     }
-}
-
-fn put_create<R: Room>(out: &mut R, number: &PurseNo)
-    requires room { 1 ≤ R.spare out.old }
-    ensures { Adds format.create (requests.Create number.now)
-        (R.items out.old) (R.items out.new) }
-{
-    put_purse_number(out, number);
-}
-
-fn put_delete<R: Room>(out: &mut R, object: &ObjectId)
-    requires room { 8 ≤ R.spare out.old }
-    ensures { Adds format.delete (requests.Delete object.now)
-        (R.items out.old) (R.items out.new) }
-{
-    put_object(out, object);
 }
 
 fn put_read<R: Room>(out: &mut R, object: &ObjectId, offset: u32, length: u32, at: &Option<Moment>)
@@ -243,14 +226,6 @@ fn put_flush_object<R: Room>(out: &mut R, object: &ObjectId, from: &Moment, to: 
     put_object(out, object);
     put_moment(out, from);
     put_moment(out, to);
-}
-
-fn put_set_window<R: Room>(out: &mut R, ticks: u64)
-    requires room { 8 ≤ R.spare out.old }
-    ensures { Adds format.set_window (requests.SetWindow ticks)
-        (R.items out.old) (R.items out.new) }
-{
-    put_u64(out, ticks);
 }
 
 fn put_set_budget<R: Room>(out: &mut R, purse: &Purse, budget: u32)

@@ -50,8 +50,10 @@ fn read_code_and_fields(
 ) -> Result<Request, ReadError>
     ensures { Takes result input.new.left.now ((format.request version).at input.old.left.now) }
 {
-    let code = read_byte(input).ok_or(ReadError::Malformed)?;
-    read_fields(version, alloc, code, input)
+    match read_byte(input) {
+        Some(code) => read_fields(version, alloc, code, input),
+        None => Err(ReadError::Malformed),
+    }
 }
 
 fn read_fields(
