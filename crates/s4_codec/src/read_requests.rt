@@ -10,8 +10,8 @@ ghost use Rattle.s4_types.specs.declared.principal.WireVersion as versions;
 ghost use Rattle.s4_codec.specs.declared.error.ReadError.TheVariants as read_error;
 
 use crate::error::ReadError;
-use crate::frames::frame_limit;
 use crate::input::Input;
+use crate::read_bodies::{Message, read_whole};
 use crate::read_parts::{Part, read_byte, read_bytes, read_u64};
 use s4_types::{ObjectId, PurseNo, Request, WireVersion};
 use std::alloc::Global;
@@ -29,30 +29,14 @@ pub fn read_request(version: WireVersion, alloc: Global, body: &[u8]) -> Result<
     read_whole(version, alloc, body)
 }
 
-fn read_whole(version: WireVersion, alloc: Global, body: &[u8]) -> Result<Request, ReadError>
-    ensures { Gives result (request_in version body.now) }
-{
-    if body.len() > frame_limit(version) {
-        return Err(ReadError::Malformed);
-    }
-    let mut input = Input { left: body };
-    let request = read_code_and_fields(version, alloc, &mut input)?;
-    if !input.left.is_empty() {
-        return Err(ReadError::Malformed);
-    }
-    Ok(request)
-}
+impl Message for Request {
+    ghost format = { format.request };
 
-fn read_code_and_fields(
-    version: WireVersion,
-    alloc: Global,
-    input: &mut Input,
-) -> Result<Request, ReadError>
-    ensures { Takes result input.new.left.now ((format.request version).at input.old.left.now) }
-{
-    match read_byte(input) {
-        Some(code) => read_fields(version, alloc, code, input),
-        None => Err(ReadError::Malformed),
+    fn read(version: WireVersion, alloc: Global, input: &mut Input) -> Result<Request, ReadError> {
+        match read_byte(input) {
+            Some(code) => read_fields(version, alloc, code, input),
+            None => Err(ReadError::Malformed),
+        }
     }
 }
 
