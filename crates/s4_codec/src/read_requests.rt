@@ -34,12 +34,26 @@ impl Message for Request {
 
     fn read(version: WireVersion, alloc: Global, input: &mut Input) -> Result<Request, ReadError> {
         match read_byte(input) {
-            Some(4) => read_write(version, alloc, input),
-            Some(5) => read_append(version, alloc, input),
-            Some(8) => read_set_attr(version, alloc, input),
-            Some(code) => read_plain_fields(code, input).ok_or(ReadError::Malformed),
+            Some(code) => read_fields(version, alloc, code, input),
             None => Err(ReadError::Malformed),
         }
+    }
+}
+
+fn read_fields(
+    version: WireVersion,
+    alloc: Global,
+    code: u8,
+    input: &mut Input,
+) -> Result<Request, ReadError>
+    ensures { Takes result input.new.left.now
+        ((in_place (bodies version) code).at input.old.left.now) }
+{
+    match code {
+        4 => read_write(version, alloc, input),
+        5 => read_append(version, alloc, input),
+        8 => read_set_attr(version, alloc, input),
+        _ => read_plain_fields(code, input).ok_or(ReadError::Malformed),
     }
 }
 
