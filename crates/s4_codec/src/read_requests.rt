@@ -66,8 +66,12 @@ fn read_plain_fields(code: u8, input: &mut Input) -> Option<Request>
         ((in_place (bodies version) code).at input.old.left.now) }
 {
     match code {
-        1 => read_create(input),
-        2 => read_delete(input),
+        1 => Some(Request::Create {
+            number: PurseNo::read(input)?,
+        }),
+        2 => Some(Request::Delete {
+            object: ObjectId::read(input)?,
+        }),
         3 => read_read(input),
         6 => read_truncate(input),
         7 => read_get_attr(input),
@@ -80,25 +84,13 @@ fn read_plain_fields(code: u8, input: &mut Input) -> Option<Request>
         15 => read_pmount(input),
         16 => read_flush(input),
         17 => read_flush_object(input),
-        18 => read_set_window(input),
+        18 => Some(Request::SetWindow {
+            ticks: read_u64(input)?,
+        }),
         19 => read_set_budget(input),
         20 => read_read_audit(input),
         _ => None,
     }
-}
-
-fn read_create(input: &mut Input) -> Option<Request>
-    ensures { Reads result input.new.left.now (format.create.at input.old.left.now) }
-{
-    let number = PurseNo::read(input)?;
-    Some(Request::Create { number })
-}
-
-fn read_delete(input: &mut Input) -> Option<Request>
-    ensures { Reads result input.new.left.now (format.delete.at input.old.left.now) }
-{
-    let object = ObjectId::read(input)?;
-    Some(Request::Delete { object })
 }
 
 fn read_read(input: &mut Input) -> Option<Request>
@@ -224,13 +216,6 @@ fn read_flush_object(input: &mut Input) -> Option<Request>
 {
     let (object, (from, to)) = Part::read(input)?;
     Some(Request::FlushO { object, from, to })
-}
-
-fn read_set_window(input: &mut Input) -> Option<Request>
-    ensures { Reads result input.new.left.now (format.set_window.at input.old.left.now) }
-{
-    let ticks = read_u64(input)?;
-    Some(Request::SetWindow { ticks })
 }
 
 fn read_set_budget(input: &mut Input) -> Option<Request>
