@@ -3,7 +3,8 @@
 ghost use Rattle.std.specs.Prelude.{◌+◌, ◌<◌, ◌^◌, ◌≤◌, length};
 ghost use Rattle.s4_types.specs.declared.request.Request.TheVariants as requests;
 ghost use Rattle.s4_types.specs.Audit.{code_of};
-ghost use Rattle.s4_codec.specs.Format.{in_place};
+ghost use Rattle.s4_codec.specs.Format.{◌&◌, in_place};
+ghost use Rattle.s4_codec.specs.Parts as parts;
 ghost use Rattle.s4_codec.specs.Requests as format;
 ghost use Rattle.s4_codec.specs.Requests.{bodies};
 ghost use Rattle.s4_codec.specs.Rooms.{data_given, request_room};
@@ -50,10 +51,10 @@ fn put_fields<R: Room>(version: WireVersion, out: &mut R, request: &Request)
             offset,
             bytes,
         } => put_write(version, out, object, *offset, bytes),
-        Request::Append { object, bytes } => put_append(version, out, object, bytes),
+        Request::Append { object, bytes } => put_object_and_bytes(version, out, object, bytes),
         Request::Truncate { object, length } => put_truncate(out, object, *length),
         Request::GetAttr { object, at } => put_get_attr(out, object, at),
-        Request::SetAttr { object, bytes } => put_set_attr(version, out, object, bytes),
+        Request::SetAttr { object, bytes } => put_object_and_bytes(version, out, object, bytes),
         Request::GetAclByUser { object, user, at } => put_get_acl_by_user(out, object, user, at),
         Request::GetAclByIndex { object, index, at } => put_get_acl_by_index(
             out, object, *index, at,
@@ -103,10 +104,15 @@ fn put_write<R: Room>(
     put_bytes(version, out, bytes);
 }
 
-fn put_append<R: Room>(version: WireVersion, out: &mut R, object: &ObjectId, bytes: &Bytes)
+fn put_object_and_bytes<R: Room>(
+    version: WireVersion,
+    out: &mut R,
+    object: &ObjectId,
+    bytes: &Bytes,
+)
     requires data { length bytes.now < 256 ^ length_width version }
     requires room { 12 + length bytes.now ≤ R.spare out.old }
-    ensures { Adds (format.append version) (requests.Append object.now bytes.now)
+    ensures { Adds (parts.object & parts.byte_string version) (object.now, bytes.now)
         (R.items out.old) (R.items out.new) }
 {
     put_object(out, object);
@@ -129,16 +135,6 @@ fn put_get_attr<R: Room>(out: &mut R, object: &ObjectId, at: &Option<Moment>)
 {
     put_object(out, object);
     put_optional_moment(out, at);
-}
-
-fn put_set_attr<R: Room>(version: WireVersion, out: &mut R, object: &ObjectId, bytes: &Bytes)
-    requires data { length bytes.now < 256 ^ length_width version }
-    requires room { 12 + length bytes.now ≤ R.spare out.old }
-    ensures { Adds (format.set_attr version) (requests.SetAttr object.now bytes.now)
-        (R.items out.old) (R.items out.new) }
-{
-    put_object(out, object);
-    put_bytes(version, out, bytes);
 }
 
 fn put_get_acl_by_user<R: Room>(out: &mut R, object: &ObjectId, user: &User, at: &Option<Moment>)
