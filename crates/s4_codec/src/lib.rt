@@ -9,6 +9,7 @@ mod put_lines;
 mod put_parts;
 mod put_replies;
 mod put_requests;
+mod read_bodies;
 mod read_lines;
 mod read_parts;
 mod read_replies;

@@ -2,16 +2,18 @@
 
 ghost use Rattle.std.specs.Prelude.{◌*◌, ◌+◌, ◌++◌, ◌<◌, ◌^◌, ◌≡◌, ◌≤◌, length, drop, take, IsTrue};
 ghost use Rattle.s4_types.specs.Audit.{number_of_refusal};
-ghost use Rattle.s4_types.specs.Limits.{data_in, is_within_limits};
+ghost use Rattle.s4_types.specs.Limits.{data_in, is_shown_grant, is_within_limits};
 ghost use Rattle.s4_types.specs.declared.principal.WireVersion.TheVariants.{One};
 ghost use Rattle.s4_types.specs.declared.reply.Refusal.TheVariants as refusals_of;
 ghost use Rattle.s4_types.specs.declared.reply.Reply.TheVariants as replies;
-ghost use Rattle.s4_codec.specs.Format.{in_place};
+ghost use Rattle.s4_codec.specs.Format.{◌&◌, in_place};
 ghost use Rattle.s4_codec.specs.Frames.{framed};
 ghost use Rattle.s4_codec.specs.Replies as format;
 ghost use Rattle.s4_codec.specs.Replies.{bodies, has_body, kind_of, refusals};
 ghost use Rattle.s4_codec.specs.Rooms as rooms;
 ghost use Rattle.s4_codec.specs.Rooms.{body_room, is_spellable};
+ghost use Rattle.s4_codec.specs.Parts as parts;
+ghost use Rattle.s4_codec.specs.Versions.{length_width};
 ghost use Rattle.s4_codec.specs.Writings.{Adds};
 
 use crate::put_lines::{put_audit_lines, put_name_lines};
@@ -102,9 +104,9 @@ fn put_fields<R: Room>(version: WireVersion, out: &mut R, reply: &Reply)
 {
     match reply {
         Reply::Done => {}
-        Reply::Made(object) => put_made(out, object),
-        Reply::Data { grant, bytes } => put_data(version, out, grant, bytes),
-        Reply::Attr { grant, bytes } => put_attr(version, out, grant, bytes),
+        Reply::Made(object) => put_object(out, object),
+        Reply::Data { grant, bytes } => put_grant_and_bytes(version, out, grant, bytes),
+        Reply::Attr { grant, bytes } => put_grant_and_bytes(version, out, grant, bytes),
         Reply::Entry {
             grant,
             index,
@@ -118,30 +120,11 @@ fn put_fields<R: Room>(version: WireVersion, out: &mut R, reply: &Reply)
     }
 }
 
-fn put_made<R: Room>(out: &mut R, object: &ObjectId)
-    requires room { 8 ≤ R.spare out.old }
-    ensures added { Adds format.made_object (replies.Made object.now)
-        (R.items out.old) (R.items out.new) }
-    ensures left { R.spare out.old ≤ R.spare out.new + 8 }
-{
-    put_object(out, object);
-}
-
-fn put_data<R: Room>(version: WireVersion, out: &mut R, grant: &Grant, bytes: &Bytes)
-    requires spellable { IsTrue (is_spellable version (replies.Data grant.now bytes.now)) }
+fn put_grant_and_bytes<R: Room>(version: WireVersion, out: &mut R, grant: &Grant, bytes: &Bytes)
+    requires shown { IsTrue (is_shown_grant grant.now) }
+    requires data { length bytes.now < 256 ^ length_width version }
     requires room { 14 + length bytes.now ≤ R.spare out.old }
-    ensures added { Adds (format.data_read version) (replies.Data grant.now bytes.now)
-        (R.items out.old) (R.items out.new) }
-    ensures left { R.spare out.old ≤ R.spare out.new + (14 + length bytes.now) }
-{
-    put_grant(out, grant);
-    put_bytes(version, out, bytes);
-}
-
-fn put_attr<R: Room>(version: WireVersion, out: &mut R, grant: &Grant, bytes: &Bytes)
-    requires spellable { IsTrue (is_spellable version (replies.Attr grant.now bytes.now)) }
-    requires room { 14 + length bytes.now ≤ R.spare out.old }
-    ensures added { Adds (format.attr_read version) (replies.Attr grant.now bytes.now)
+    ensures added { Adds (parts.grant & parts.byte_string version) (grant.now, bytes.now)
         (R.items out.old) (R.items out.new) }
     ensures left { R.spare out.old ≤ R.spare out.new + (14 + length bytes.now) }
 {

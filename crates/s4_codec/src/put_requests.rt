@@ -3,7 +3,8 @@
 ghost use Rattle.std.specs.Prelude.{◌+◌, ◌<◌, ◌^◌, ◌≤◌, length};
 ghost use Rattle.s4_types.specs.declared.request.Request.TheVariants as requests;
 ghost use Rattle.s4_types.specs.Audit.{code_of};
-ghost use Rattle.s4_codec.specs.Format.{in_place};
+ghost use Rattle.s4_codec.specs.Format.{◌&◌, in_place};
+ghost use Rattle.s4_codec.specs.Parts as parts;
 ghost use Rattle.s4_codec.specs.Requests as format;
 ghost use Rattle.s4_codec.specs.Requests.{bodies};
 ghost use Rattle.s4_codec.specs.Rooms.{data_given, request_room};
@@ -16,8 +17,7 @@ use crate::put_parts::{
 };
 use crate::room::Room;
 use s4_types::{
-    After, Bytes, Moment, Name, ObjectId, Principal, Purse, PurseNo, Request, Rights, User,
-    WireVersion,
+    After, Bytes, Moment, Name, ObjectId, Principal, Purse, Request, Rights, User, WireVersion,
 };
 
 /// Adds the request's spelling.
@@ -38,8 +38,8 @@ fn put_fields<R: Room>(version: WireVersion, out: &mut R, request: &Request)
         (R.items out.old) (R.items out.new) }
 {
     match request {
-        Request::Create { number } => put_create(out, number),
-        Request::Delete { object } => put_delete(out, object),
+        Request::Create { number } => put_purse_number(out, number),
+        Request::Delete { object } => put_object(out, object),
         Request::Read {
             object,
             offset,
@@ -51,10 +51,10 @@ fn put_fields<R: Room>(version: WireVersion, out: &mut R, request: &Request)
             offset,
             bytes,
         } => put_write(version, out, object, *offset, bytes),
-        Request::Append { object, bytes } => put_append(version, out, object, bytes),
+        Request::Append { object, bytes } => put_object_and_bytes(version, out, object, bytes),
         Request::Truncate { object, length } => put_truncate(out, object, *length),
         Request::GetAttr { object, at } => put_get_attr(out, object, at),
-        Request::SetAttr { object, bytes } => put_set_attr(version, out, object, bytes),
+        Request::SetAttr { object, bytes } => put_object_and_bytes(version, out, object, bytes),
         Request::GetAclByUser { object, user, at } => put_get_acl_by_user(out, object, user, at),
         Request::GetAclByIndex { object, index, at } => put_get_acl_by_index(
             out, object, *index, at,
@@ -70,26 +70,10 @@ fn put_fields<R: Room>(version: WireVersion, out: &mut R, request: &Request)
         Request::PMount { purse, name, at } => put_pmount(out, purse, name, at),
         Request::Flush { from, to } => put_flush(out, from, to),
         Request::FlushO { object, from, to } => put_flush_object(out, object, from, to),
-        Request::SetWindow { ticks } => put_set_window(out, *ticks),
+        Request::SetWindow { ticks } => put_u64(out, *ticks),
         Request::SetBudget { purse, budget } => put_set_budget(out, purse, *budget),
         Request::ReadAudit { range, skip } => put_read_audit(out, range, *skip),
     }
-}
-
-fn put_create<R: Room>(out: &mut R, number: &PurseNo)
-    requires room { 1 ≤ R.spare out.old }
-    ensures { Adds format.create (requests.Create number.now)
-        (R.items out.old) (R.items out.new) }
-{
-    put_purse_number(out, number);
-}
-
-fn put_delete<R: Room>(out: &mut R, object: &ObjectId)
-    requires room { 8 ≤ R.spare out.old }
-    ensures { Adds format.delete (requests.Delete object.now)
-        (R.items out.old) (R.items out.new) }
-{
-    put_object(out, object);
 }
 
 fn put_read<R: Room>(out: &mut R, object: &ObjectId, offset: u32, length: u32, at: &Option<Moment>)
@@ -120,10 +104,15 @@ fn put_write<R: Room>(
     put_bytes(version, out, bytes);
 }
 
-fn put_append<R: Room>(version: WireVersion, out: &mut R, object: &ObjectId, bytes: &Bytes)
+fn put_object_and_bytes<R: Room>(
+    version: WireVersion,
+    out: &mut R,
+    object: &ObjectId,
+    bytes: &Bytes,
+)
     requires data { length bytes.now < 256 ^ length_width version }
     requires room { 12 + length bytes.now ≤ R.spare out.old }
-    ensures { Adds (format.append version) (requests.Append object.now bytes.now)
+    ensures { Adds (parts.object & parts.byte_string version) (object.now, bytes.now)
         (R.items out.old) (R.items out.new) }
 {
     put_object(out, object);
@@ -146,16 +135,6 @@ fn put_get_attr<R: Room>(out: &mut R, object: &ObjectId, at: &Option<Moment>)
 {
     put_object(out, object);
     put_optional_moment(out, at);
-}
-
-fn put_set_attr<R: Room>(version: WireVersion, out: &mut R, object: &ObjectId, bytes: &Bytes)
-    requires data { length bytes.now < 256 ^ length_width version }
-    requires room { 12 + length bytes.now ≤ R.spare out.old }
-    ensures { Adds (format.set_attr version) (requests.SetAttr object.now bytes.now)
-        (R.items out.old) (R.items out.new) }
-{
-    put_object(out, object);
-    put_bytes(version, out, bytes);
 }
 
 fn put_get_acl_by_user<R: Room>(out: &mut R, object: &ObjectId, user: &User, at: &Option<Moment>)
@@ -243,14 +222,6 @@ fn put_flush_object<R: Room>(out: &mut R, object: &ObjectId, from: &Moment, to: 
     put_object(out, object);
     put_moment(out, from);
     put_moment(out, to);
-}
-
-fn put_set_window<R: Room>(out: &mut R, ticks: u64)
-    requires room { 8 ≤ R.spare out.old }
-    ensures { Adds format.set_window (requests.SetWindow ticks)
-        (R.items out.old) (R.items out.new) }
-{
-    put_u64(out, ticks);
 }
 
 fn put_set_budget<R: Room>(out: &mut R, purse: &Purse, budget: u32)

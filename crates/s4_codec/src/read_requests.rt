@@ -10,14 +10,10 @@ ghost use Rattle.s4_types.specs.declared.principal.WireVersion as versions;
 ghost use Rattle.s4_codec.specs.declared.error.ReadError.TheVariants as read_error;
 
 use crate::error::ReadError;
-use crate::frames::frame_limit;
 use crate::input::Input;
-use crate::read_parts::{
-    read_byte, read_bytes, read_moment, read_name, read_object, read_optional_after,
-    read_optional_moment, read_principal, read_purse, read_purse_number, read_rights, read_u32,
-    read_u64, read_user,
-};
-use s4_types::{Request, WireVersion};
+use crate::read_bodies::{Message, read_whole};
+use crate::read_parts::{Part, read_byte, read_bytes, read_u64};
+use s4_types::{ObjectId, PurseNo, Request, WireVersion};
 use std::alloc::Global;
 
 /// The request that the body spells (docs/PROTOCOL.md, "Requests").
@@ -33,29 +29,15 @@ pub fn read_request(version: WireVersion, alloc: Global, body: &[u8]) -> Result<
     read_whole(version, alloc, body)
 }
 
-fn read_whole(version: WireVersion, alloc: Global, body: &[u8]) -> Result<Request, ReadError>
-    ensures { Gives result (request_in version body.now) }
-{
-    if body.len() > frame_limit(version) {
-        return Err(ReadError::Malformed);
-    }
-    let mut input = Input { left: body };
-    let request = read_code_and_fields(version, alloc, &mut input)?;
-    if !input.left.is_empty() {
-        return Err(ReadError::Malformed);
-    }
-    Ok(request)
-}
+impl Message for Request {
+    ghost format = { format.request };
 
-fn read_code_and_fields(
-    version: WireVersion,
-    alloc: Global,
-    input: &mut Input,
-) -> Result<Request, ReadError>
-    ensures { Takes result input.new.left.now ((format.request version).at input.old.left.now) }
-{
-    let code = read_byte(input).ok_or(ReadError::Malformed)?;
-    read_fields(version, alloc, code, input)
+    fn read(version: WireVersion, alloc: Global, input: &mut Input) -> Result<Request, ReadError> {
+        match read_byte(input) {
+            Some(code) => read_fields(version, alloc, code, input),
+            None => Err(ReadError::Malformed),
+        }
+    }
 }
 
 fn read_fields(
@@ -84,8 +66,12 @@ fn read_plain_fields(code: u8, input: &mut Input) -> Option<Request>
         ((in_place (bodies version) code).at input.old.left.now) }
 {
     match code {
-        1 => read_create(input),
-        2 => read_delete(input),
+        1 => Some(Request::Create {
+            number: PurseNo::read(input)?,
+        }),
+        2 => Some(Request::Delete {
+            object: ObjectId::read(input)?,
+        }),
         3 => read_read(input),
         6 => read_truncate(input),
         7 => read_get_attr(input),
@@ -98,34 +84,19 @@ fn read_plain_fields(code: u8, input: &mut Input) -> Option<Request>
         15 => read_pmount(input),
         16 => read_flush(input),
         17 => read_flush_object(input),
-        18 => read_set_window(input),
+        18 => Some(Request::SetWindow {
+            ticks: read_u64(input)?,
+        }),
         19 => read_set_budget(input),
         20 => read_read_audit(input),
         _ => None,
     }
 }
 
-fn read_create(input: &mut Input) -> Option<Request>
-    ensures { Reads result input.new.left.now (format.create.at input.old.left.now) }
-{
-    let number = read_purse_number(input)?;
-    Some(Request::Create { number })
-}
-
-fn read_delete(input: &mut Input) -> Option<Request>
-    ensures { Reads result input.new.left.now (format.delete.at input.old.left.now) }
-{
-    let object = read_object(input)?;
-    Some(Request::Delete { object })
-}
-
 fn read_read(input: &mut Input) -> Option<Request>
     ensures { Reads result input.new.left.now (format.read.at input.old.left.now) }
 {
-    let object = read_object(input)?;
-    let offset = read_u32(input)?;
-    let length = read_u32(input)?;
-    let at = read_optional_moment(input)?;
+    let (object, (offset, (length, at))) = Part::read(input)?;
     Some(Request::Read {
         object,
         offset,
@@ -137,8 +108,7 @@ fn read_read(input: &mut Input) -> Option<Request>
 fn read_write(version: WireVersion, alloc: Global, input: &mut Input) -> Result<Request, ReadError>
     ensures { Takes result input.new.left.now ((format.write version).at input.old.left.now) }
 {
-    let object = read_object(input).ok_or(ReadError::Malformed)?;
-    let offset = read_u32(input).ok_or(ReadError::Malformed)?;
+    let (object, offset) = Part::read(input).ok_or(ReadError::Malformed)?;
     let bytes = read_bytes(version, alloc, input)?;
     Ok(Request::Write {
         object,
@@ -150,7 +120,7 @@ fn read_write(version: WireVersion, alloc: Global, input: &mut Input) -> Result<
 fn read_append(version: WireVersion, alloc: Global, input: &mut Input) -> Result<Request, ReadError>
     ensures { Takes result input.new.left.now ((format.append version).at input.old.left.now) }
 {
-    let object = read_object(input).ok_or(ReadError::Malformed)?;
+    let object = ObjectId::read(input).ok_or(ReadError::Malformed)?;
     let bytes = read_bytes(version, alloc, input)?;
     Ok(Request::Append { object, bytes })
 }
@@ -158,16 +128,14 @@ fn read_append(version: WireVersion, alloc: Global, input: &mut Input) -> Result
 fn read_truncate(input: &mut Input) -> Option<Request>
     ensures { Reads result input.new.left.now (format.truncate.at input.old.left.now) }
 {
-    let object = read_object(input)?;
-    let length = read_u32(input)?;
+    let (object, length) = Part::read(input)?;
     Some(Request::Truncate { object, length })
 }
 
 fn read_get_attr(input: &mut Input) -> Option<Request>
     ensures { Reads result input.new.left.now (format.get_attr.at input.old.left.now) }
 {
-    let object = read_object(input)?;
-    let at = read_optional_moment(input)?;
+    let (object, at) = Part::read(input)?;
     Some(Request::GetAttr { object, at })
 }
 
@@ -178,7 +146,7 @@ fn read_set_attr(
 ) -> Result<Request, ReadError>
     ensures { Takes result input.new.left.now ((format.set_attr version).at input.old.left.now) }
 {
-    let object = read_object(input).ok_or(ReadError::Malformed)?;
+    let object = ObjectId::read(input).ok_or(ReadError::Malformed)?;
     let bytes = read_bytes(version, alloc, input)?;
     Ok(Request::SetAttr { object, bytes })
 }
@@ -186,27 +154,21 @@ fn read_set_attr(
 fn read_get_acl_by_user(input: &mut Input) -> Option<Request>
     ensures { Reads result input.new.left.now (format.get_acl_by_user.at input.old.left.now) }
 {
-    let object = read_object(input)?;
-    let user = read_user(input)?;
-    let at = read_optional_moment(input)?;
+    let (object, (user, at)) = Part::read(input)?;
     Some(Request::GetAclByUser { object, user, at })
 }
 
 fn read_get_acl_by_index(input: &mut Input) -> Option<Request>
     ensures { Reads result input.new.left.now (format.get_acl_by_index.at input.old.left.now) }
 {
-    let object = read_object(input)?;
-    let index = read_byte(input)?;
-    let at = read_optional_moment(input)?;
+    let (object, (index, at)) = Part::read(input)?;
     Some(Request::GetAclByIndex { object, index, at })
 }
 
 fn read_set_acl(input: &mut Input) -> Option<Request>
     ensures { Reads result input.new.left.now (format.set_acl.at input.old.left.now) }
 {
-    let object = read_object(input)?;
-    let user = read_user(input)?;
-    let rights = read_rights(input)?;
+    let (object, (user, rights)) = Part::read(input)?;
     Some(Request::SetAcl {
         object,
         user,
@@ -217,73 +179,55 @@ fn read_set_acl(input: &mut Input) -> Option<Request>
 fn read_pcreate(input: &mut Input) -> Option<Request>
     ensures { Reads result input.new.left.now (format.pcreate.at input.old.left.now) }
 {
-    let name = read_name(input)?;
-    let object = read_object(input)?;
+    let (name, object) = Part::read(input)?;
     Some(Request::PCreate { name, object })
 }
 
 fn read_pdelete(input: &mut Input) -> Option<Request>
     ensures { Reads result input.new.left.now (format.pdelete.at input.old.left.now) }
 {
-    let purse = read_purse(input)?;
-    let name = read_name(input)?;
+    let (purse, name) = Part::read(input)?;
     Some(Request::PDelete { purse, name })
 }
 
 fn read_plist(input: &mut Input) -> Option<Request>
     ensures { Reads result input.new.left.now (format.plist.at input.old.left.now) }
 {
-    let range = read_principal(input)?;
-    let after = read_optional_after(input)?;
-    let at = read_optional_moment(input)?;
+    let (range, (after, at)) = Part::read(input)?;
     Some(Request::PList { range, after, at })
 }
 
 fn read_pmount(input: &mut Input) -> Option<Request>
     ensures { Reads result input.new.left.now (format.pmount.at input.old.left.now) }
 {
-    let purse = read_purse(input)?;
-    let name = read_name(input)?;
-    let at = read_optional_moment(input)?;
+    let (purse, (name, at)) = Part::read(input)?;
     Some(Request::PMount { purse, name, at })
 }
 
 fn read_flush(input: &mut Input) -> Option<Request>
     ensures { Reads result input.new.left.now (format.flush.at input.old.left.now) }
 {
-    let from = read_moment(input)?;
-    let to = read_moment(input)?;
+    let (from, to) = Part::read(input)?;
     Some(Request::Flush { from, to })
 }
 
 fn read_flush_object(input: &mut Input) -> Option<Request>
     ensures { Reads result input.new.left.now (format.flush_object.at input.old.left.now) }
 {
-    let object = read_object(input)?;
-    let from = read_moment(input)?;
-    let to = read_moment(input)?;
+    let (object, (from, to)) = Part::read(input)?;
     Some(Request::FlushO { object, from, to })
-}
-
-fn read_set_window(input: &mut Input) -> Option<Request>
-    ensures { Reads result input.new.left.now (format.set_window.at input.old.left.now) }
-{
-    let ticks = read_u64(input)?;
-    Some(Request::SetWindow { ticks })
 }
 
 fn read_set_budget(input: &mut Input) -> Option<Request>
     ensures { Reads result input.new.left.now (format.set_budget.at input.old.left.now) }
 {
-    let purse = read_purse(input)?;
-    let budget = read_u32(input)?;
+    let (purse, budget) = Part::read(input)?;
     Some(Request::SetBudget { purse, budget })
 }
 
 fn read_read_audit(input: &mut Input) -> Option<Request>
     ensures { Reads result input.new.left.now (format.read_audit.at input.old.left.now) }
 {
-    let range = read_principal(input)?;
-    let skip = read_u32(input)?;
+    let (range, skip) = Part::read(input)?;
     Some(Request::ReadAudit { range, skip })
 }
