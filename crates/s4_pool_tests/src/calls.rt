@@ -1,7 +1,7 @@
 //! Calls, each with the receipt that it has to have.
 
 use crate::given::{Ask, is_made, receipt};
-use s4_pool::{Front, OpenGate, Pass};
+use s4_pool::{Front, Names, OpenGate, Pass};
 use s4_types::{Reply, Request};
 use std::process::Abort;
 use std::sync::Wait;
@@ -13,10 +13,10 @@ use std::test::Fail;
 pub struct Call(pub usize, pub u32, pub u64, pub u16, pub (u64, usize, u64));
 
 /// Whether the administrator sets this window.
-pub fn is_set<R: Wait>(
+pub fn is_set<N: Names, R: Wait>(
     rt: &R,
-    front: &Front<OpenGate>,
-    pass: &mut Pass,
+    front: &Front<OpenGate, N>,
+    pass: &mut Pass<N>,
     clock: u64,
     ticks: u64,
 ) -> Result<bool, Fail> {
@@ -25,10 +25,10 @@ pub fn is_set<R: Wait>(
 }
 
 // Whether a call has the reply that it has to have.
-fn is_told<R: Wait>(
+fn is_told<N: Names, R: Wait>(
     rt: &R,
-    front: &Front<OpenGate>,
-    pass: &mut Pass,
+    front: &Front<OpenGate, N>,
+    pass: &mut Pass<N>,
     call: &Call,
 ) -> Result<bool, Fail> {
     match call.3 {
@@ -38,10 +38,10 @@ fn is_told<R: Wait>(
 }
 
 // That a call has its reply and its receipt.
-fn check_call<R: Abort + Wait>(
+fn check_call<N: Names, R: Abort + Wait>(
     rt: &R,
-    front: &Front<OpenGate>,
-    pass: &mut Pass,
+    front: &Front<OpenGate, N>,
+    pass: &mut Pass<N>,
     call: &Call,
 ) -> Result<(), Fail> {
     let place = pass.receipts().len();
@@ -57,10 +57,10 @@ fn check_call<R: Abort + Wait>(
 }
 
 /// That the calls have their replies and receipts.
-pub fn check_calls<R: Abort + Wait>(
+pub fn check_calls<N: Names, R: Abort + Wait>(
     rt: &R,
-    front: &Front<OpenGate>,
-    passes: &mut [Pass],
+    front: &Front<OpenGate, N>,
+    passes: &mut [Pass<N>],
     calls: &[Call],
 ) -> Result<(), Fail> {
     for call in calls {

@@ -1,12 +1,15 @@
 //! A front's cells are cut: places go on, and what is left is closed.
 
+ghost use Rattle.std.specs.Prelude.{◌≡◌};
+
 use crate::calls::{Call, check_calls, is_set};
 use crate::given::{closed, receipt};
 use s4_cells::{Cell, cut_all};
 use s4_closing::{Verdict, reconcile};
-use s4_pool::{Front, OpenGate, Pass, Stretch};
+use s4_pool::{Blank, Front, Names, OpenGate, Pass, Stretch};
 use s4_types::{Moment, Record};
 use std::alloc::Global;
+use std::marker::Brand;
 use std::process::Abort;
 use std::sync::Wait;
 use std::test::Fail;
@@ -21,10 +24,10 @@ const BEHIND: &[Call] = &[Call(0, 7, 9, 2, (9, 1, 2)), Call(1, 8, 8, 2, (8, 0, 2
 const LATER: &[Call] = &[Call(0, 7, 9, 3, (9, 1, 3))];
 
 // Makes the calls of the worked case, where the window is set to 2 ticks.
-fn check_worked<R: Abort + Wait>(
+fn check_worked<N: Names, R: Abort + Wait>(
     rt: &R,
-    front: &Front<OpenGate>,
-    passes: &mut [Pass],
+    front: &Front<OpenGate, N>,
+    passes: &mut [Pass<N>],
 ) -> Result<(), Fail> {
     check_calls(rt, front, passes, FIRST)?;
     if passes.len() < 2 {
@@ -35,10 +38,30 @@ fn check_worked<R: Abort + Wait>(
     check_calls(rt, front, passes, BEHIND)
 }
 
-// A front of the worked case, cut as far as its horizons let it.
-fn cut_front<R: Abort + Wait>(rt: &R, alloc: Global) -> Result<(Front<OpenGate>, Vec<Pass>), Fail> {
-    let (front, mut passes) = Front::open(alloc, 100, 2, 2, OpenGate)?;
+// A front of two cells, with a window of a hundred ticks and two passes, which served the worked case.
+fn open_worked<N: Names, R: Abort + Wait>(
+    rt: &R,
+    alloc: Global,
+    blank: Blank,
+) -> Result<(Front<OpenGate, N>, Vec<Pass<N>>), Fail>
+    requires ledger { blank.ledger ≡ N.ledger }
+    requires names { (N.ledger.words ≡ 2) × (N.window ≡ 100) × (N.passes ≡ 2) }
+{
+    let (front, mut passes) = Front::open(alloc, 100, 2, 2, OpenGate, blank)?;
     check_worked(rt, &front, &mut passes)?;
+    Ok((front, passes))
+}
+
+// The same, cut as far as its horizons let it.
+fn cut_front<N: Names, R: Abort + Wait>(
+    rt: &R,
+    alloc: Global,
+    blank: Blank,
+) -> Result<(Front<OpenGate, N>, Vec<Pass<N>>), Fail>
+    requires ledger { blank.ledger ≡ N.ledger }
+    requires names { (N.ledger.words ≡ 2) × (N.window ≡ 100) × (N.passes ≡ 2) }
+{
+    let (front, passes) = open_worked(rt, alloc, blank)?;
     assert_eq!(rt; front.cut(rt, Moment::new(9))?, Moment::new(6));
     Ok((front, passes))
 }
@@ -54,12 +77,15 @@ fn check_history<R: Abort>(rt: &R, history: &[Record]) {
     }
 }
 
-#[test]
-fn places_go_on_after_a_cut(rt: HostRuntime) -> Result<(), Fail> {
-    let (front, mut passes) = cut_front(&rt, rt.alloc())?;
-    check_calls(&rt, &front, &mut passes, LATER)?;
-    let closed = closed(rt.alloc(), front, passes)?;
-    check_history(&rt, closed.history.as_slice());
+// That calls behind a cut have the places that follow, and that what is left is closed.
+fn check_places<N: Names, R: Abort + Wait>(rt: &R, alloc: Global, blank: Blank) -> Result<(), Fail>
+    requires ledger { blank.ledger ≡ N.ledger }
+    requires names { (N.ledger.words ≡ 2) × (N.window ≡ 100) × (N.passes ≡ 2) }
+{
+    let (front, mut passes) = cut_front::<N, R>(rt, alloc, blank)?;
+    check_calls(rt, &front, &mut passes, LATER)?;
+    let closed = closed(alloc, front, passes)?;
+    check_history(rt, closed.history.as_slice());
     for cell in &closed.cells {
         assert_eq!(rt; cell.gone(), 2);
     }
@@ -67,13 +93,27 @@ fn places_go_on_after_a_cut(rt: HostRuntime) -> Result<(), Fail> {
 }
 
 #[test]
-fn a_cut_goes_no_further_than_asked(rt: HostRuntime) -> Result<(), Fail> {
-    let (front, mut passes) = Front::open(rt.alloc(), 100, 2, 2, OpenGate)?;
-    check_worked(&rt, &front, &mut passes)?;
-    assert_eq!(rt; front.cut(&rt, Moment::new(5))?, Moment::new(5));
-    let closed = closed(rt.alloc(), front, passes)?;
+fn places_go_on_after_a_cut(rt: HostRuntime) -> Result<(), Fail> {
+    let blank = Blank::new(rt.alloc(), 2)?;
+    check_places::<Brand, HostRuntime>(&rt, rt.alloc(), blank)
+}
+
+// That a cut before the horizons leaves the records from its moment on.
+fn check_cut<N: Names, R: Abort + Wait>(rt: &R, alloc: Global, blank: Blank) -> Result<(), Fail>
+    requires ledger { blank.ledger ≡ N.ledger }
+    requires names { (N.ledger.words ≡ 2) × (N.window ≡ 100) × (N.passes ≡ 2) }
+{
+    let (front, passes) = open_worked::<N, R>(rt, alloc, blank)?;
+    assert_eq!(rt; front.cut(rt, Moment::new(5))?, Moment::new(5));
+    let closed = closed(alloc, front, passes)?;
     assert_eq!(rt; closed.history.len(), 5);
     Ok(())
+}
+
+#[test]
+fn a_cut_goes_no_further_than_asked(rt: HostRuntime) -> Result<(), Fail> {
+    let blank = Blank::new(rt.alloc(), 2)?;
+    check_cut::<Brand, HostRuntime>(&rt, rt.alloc(), blank)
 }
 
 // The place of the first record, and the moments of all.
@@ -83,10 +123,13 @@ fn told(found: Option<Stretch>) -> Option<(u64, usize, Option<u64>)> {
     Some((found.first, found.records.len(), newest))
 }
 
-#[test]
-fn records_since_a_place_are_copied(rt: HostRuntime) -> Result<(), Fail> {
-    let (front, mut passes) = cut_front(&rt, rt.alloc())?;
-    check_calls(&rt, &front, &mut passes, LATER)?;
+// That the records from a place on are copied, as many as are asked for.
+fn check_copies<N: Names, R: Abort + Wait>(rt: &R, alloc: Global, blank: Blank) -> Result<(), Fail>
+    requires ledger { blank.ledger ≡ N.ledger }
+    requires names { (N.ledger.words ≡ 2) × (N.window ≡ 100) × (N.passes ≡ 2) }
+{
+    let (front, mut passes) = cut_front::<N, R>(rt, alloc, blank)?;
+    check_calls(rt, &front, &mut passes, LATER)?;
     let rows = [
         (1, 0, 10, Some((2, 2, Some(9)))),
         (1, 3, 10, Some((3, 1, Some(9)))),
@@ -97,7 +140,7 @@ fn records_since_a_place_are_copied(rt: HostRuntime) -> Result<(), Fail> {
         (2, 0, 10, None),
     ];
     for (cell, place, most, wanted) in rows {
-        let found = front.records_since(&rt, cell, place, most)?;
+        let found = front.records_since(rt, cell, place, most)?;
         assert_eq!(rt;
             told(found),
             wanted,
@@ -105,6 +148,12 @@ fn records_since_a_place_are_copied(rt: HostRuntime) -> Result<(), Fail> {
         );
     }
     Ok(())
+}
+
+#[test]
+fn records_since_a_place_are_copied(rt: HostRuntime) -> Result<(), Fail> {
+    let blank = Blank::new(rt.alloc(), 2)?;
+    check_copies::<Brand, HostRuntime>(&rt, rt.alloc(), blank)
 }
 
 // The cells, of which the last is cut at its own horizon alone.
@@ -119,7 +168,7 @@ fn with_last_cut(alloc: Global, cells: Vec<Cell>) -> Result<Vec<Cell>, Fail> {
 }
 
 // What is found of cells and passes, where it is whether they are whole or torn.
-fn is_whole(alloc: Global, cells: &[Cell], passes: &[Pass]) -> Option<bool> {
+fn is_whole<N: Names>(alloc: Global, cells: &[Cell], passes: &[Pass<N>]) -> Option<bool> {
     if cells.is_empty() {
         return None;
     }
@@ -130,13 +179,22 @@ fn is_whole(alloc: Global, cells: &[Cell], passes: &[Pass]) -> Option<bool> {
     }
 }
 
+// That cells are whole which were cut at once, and torn once one was cut alone.
+fn check_torn<N: Names, R: Abort + Wait>(rt: &R, alloc: Global, blank: Blank) -> Result<(), Fail>
+    requires ledger { blank.ledger ≡ N.ledger }
+    requires names { (N.ledger.words ≡ 2) × (N.window ≡ 100) × (N.passes ≡ 2) }
+{
+    let (front, passes) = cut_front::<N, R>(rt, alloc, blank)?;
+    let closed = closed(alloc, front, passes)?;
+    let (cells, passes) = (closed.cells, closed.passes);
+    assert_eq!(rt; is_whole(alloc, &cells, &passes), Some(true));
+    let cells = with_last_cut(alloc, cells)?;
+    assert_eq!(rt; is_whole(alloc, &cells, &passes), Some(false));
+    Ok(())
+}
+
 #[test]
 fn cells_that_are_cut_at_two_moments_are_torn(rt: HostRuntime) -> Result<(), Fail> {
-    let (front, passes) = cut_front(&rt, rt.alloc())?;
-    let closed = closed(rt.alloc(), front, passes)?;
-    let (cells, passes) = (closed.cells, closed.passes);
-    assert_eq!(rt; is_whole(rt.alloc(), &cells, &passes), Some(true));
-    let cells = with_last_cut(rt.alloc(), cells)?;
-    assert_eq!(rt; is_whole(rt.alloc(), &cells, &passes), Some(false));
-    Ok(())
+    let blank = Blank::new(rt.alloc(), 2)?;
+    check_torn::<Brand, HostRuntime>(&rt, rt.alloc(), blank)
 }

@@ -1,65 +1,115 @@
-//! What doesn't fit together is told, and why.
+//! What doesn't fit together is told. A closing never meets calls and records that don't match: a pass
+//! of another front has another type, and each call is counted. So this is told by what it is closed by.
 
-use crate::given::is_made;
+ghost use Rattle.std.specs.Prelude.{◌≡◌};
+
+use crate::given::{closed, is_made, open_two};
 use s4_cells::Cell;
 use s4_closing::{Verdict, reconcile};
-use s4_pool::{CloseFault, Front, Left, OpenGate, Pass, Why};
+use s4_pool::{Blank, Front, Names, OpenGate, Pass};
 use std::alloc::{AllocError, Global};
+use std::marker::Brand;
+use std::process::Abort;
 use std::sync::Wait;
 use std::test::Fail;
 
-// The pass of a front of its own, on which nothing was asked.
-fn pass_of_another(alloc: Global) -> Result<Vec<Pass>, Fail> {
-    let (_front, passes) = Front::open(alloc, 100, 1, 1, OpenGate)?;
-    Ok(passes)
+// A front of one cell and its pass.
+fn open_one<N: Names>(alloc: Global, blank: Blank) -> Result<(Front<OpenGate, N>, Pass<N>), Fail>
+    requires ledger { blank.ledger ≡ N.ledger }
+    requires names { (N.ledger.words ≡ 1) × (N.window ≡ 100) × (N.passes ≡ 1) }
+{
+    let (front, mut passes) = Front::open(alloc, 100, 1, 1, OpenGate, blank)?;
+    let pass = passes.pop().ok_or("pass 0")?;
+    Ok((front, pass))
 }
 
-// Makes the first call of a front, by the first of its passes.
-fn serve_first<R: Wait>(rt: &R, front: &Front<OpenGate>, passes: &mut [Pass]) -> Result<(), Fail> {
-    if passes.is_empty() {
-        return Err("pass 0".into());
-    }
-    if !is_made(rt, front, &mut passes[0], (7, 5), 1)? {
-        return Err("no first call".into());
-    }
-    Ok(())
-}
-
-// A front of one cell with one record, whose receipt is gone.
-fn front_without_its_pass<R: Wait>(rt: &R, alloc: Global) -> Result<Front<OpenGate>, Fail> {
-    let (front, mut passes) = Front::open(alloc, 100, 1, 1, OpenGate)?;
-    serve_first(rt, &front, &mut passes)?;
-    Ok(front)
-}
-
-// The reason of a fault, and how many records and passes it hands back.
-fn handed_back(fault: &CloseFault<OpenGate>) -> (Why, Option<usize>, usize) {
-    let records = match &fault.left {
-        Left::Cells(cells) => cells.first().map(|cell| cell.history().len()),
-        Left::Front(_) => None,
-    };
-    (fault.why, records, fault.passes.len())
-}
-
-// Why the passes don't close the front, and what is handed back.
-fn unclosed(
+// How many records a front has that is closed by one pass.
+fn count_closed<N: Names>(
     alloc: Global,
-    front: Front<OpenGate>,
-    passes: Vec<Pass>,
-) -> Option<(Why, Option<usize>, usize)> {
-    match front.close(alloc, passes) {
-        Ok(_closed) => None,
-        Err(fault) => Some(handed_back(&fault)),
-    }
+    front: Front<OpenGate, N>,
+    pass: Pass<N>,
+) -> Result<usize, Fail> {
+    let passes = Vec::from_array(alloc, [pass])?;
+    Ok(closed(alloc, front, passes)?.history.len())
+}
+
+// That of two fronts each has the calls of its own pass.
+fn check_two<N: Names, M: Names, R: Abort + Wait>(
+    rt: &R,
+    alloc: Global,
+    one: Blank,
+    other: Blank,
+) -> Result<(), Fail>
+    requires ledger { one.ledger ≡ N.ledger }
+    requires names { (N.ledger.words ≡ 1) × (N.window ≡ 100) × (N.passes ≡ 1) }
+    requires other_ledger { other.ledger ≡ M.ledger }
+    requires other_names { (M.ledger.words ≡ 1) × (M.window ≡ 100) × (M.passes ≡ 1) }
+{
+    let (front, mut pass) = open_one::<N>(alloc, one)?;
+    let (other_front, other_pass) = open_one::<M>(alloc, other)?;
+    assert!(rt; is_made(rt, &front, &mut pass, (7, 5), 1)?);
+    assert_eq!(rt; count_closed(alloc, front, pass)?, 1);
+    assert_eq!(rt; count_closed(alloc, other_front, other_pass)?, 0);
+    Ok(())
 }
 
 #[test]
-fn a_pass_of_another_front_leaves_a_record_without_receipt(rt: HostRuntime) -> Result<(), Fail> {
-    let passes = pass_of_another(rt.alloc())?;
-    let front = front_without_its_pass(&rt, rt.alloc())?;
-    let found = unclosed(rt.alloc(), front, passes);
-    assert_eq!(rt; found, Some((Why::Stray, Some(1), 1)));
+fn each_of_two_fronts_has_the_calls_of_its_pass(rt: HostRuntime) -> Result<(), Fail> {
+    let one = Blank::new(rt.alloc(), 1)?;
+    let other = Blank::new(rt.alloc(), 1)?;
+    check_two::<Brand, Brand, HostRuntime>(&rt, rt.alloc(), one, other)
+}
+
+// Whether the calls of these passes and the records of these cells don't match.
+fn are_stray<N: Names>(alloc: Global, cells: &[Cell], passes: &[Pass<N>]) -> Option<bool> {
+    if cells.is_empty() {
+        return None;
+    }
+    match reconcile(alloc, 100, cells, passes) {
+        Verdict::Whole(_) => Some(false),
+        Verdict::Stray => Some(true),
+        _ => None,
+    }
+}
+
+// A cell and two passes with a call each, of a front that was closed.
+fn called_by_two<N: Names, R: Abort + Wait>(
+    rt: &R,
+    alloc: Global,
+    blank: Blank,
+) -> Result<(Vec<Cell>, Vec<Pass<N>>), Fail>
+    requires ledger { blank.ledger ≡ N.ledger }
+    requires names { (N.ledger.words ≡ 1) × (N.window ≡ 100) × (N.passes ≡ 2) }
+{
+    let (front, mut a, mut b) = open_two::<N>(alloc, 1, blank)?;
+    assert!(rt; is_made(rt, &front, &mut a, (7, 5), 1)?);
+    assert!(rt; is_made(rt, &front, &mut b, (7, 6), 2)?);
+    let closed = closed(alloc, front, Vec::from_array(alloc, [a, b])?)?;
+    Ok((closed.cells, closed.passes))
+}
+
+// That records without a receipt are stray, and receipts without a record.
+fn check_stray<N: Names, R: Abort + Wait>(rt: &R, alloc: Global, blank: Blank) -> Result<(), Fail>
+    requires ledger { blank.ledger ≡ N.ledger }
+    requires names { (N.ledger.words ≡ 1) × (N.window ≡ 100) × (N.passes ≡ 2) }
+{
+    let (cells, passes) = called_by_two::<N, R>(rt, alloc, blank)?;
+    let (first, second) = passes.split_at_checked(1).ok_or("two passes")?;
+    assert_eq!(rt; are_stray(alloc, &cells, &passes), Some(false));
+    assert_eq!(rt; are_stray(alloc, &cells, first), Some(true));
+    assert_eq!(rt; are_stray(alloc, &cells, second), Some(true));
+    let empty = [Cell::open(alloc, 100)?];
+    assert_eq!(rt; are_stray(alloc, &empty, first), Some(true));
+    assert_eq!(rt; are_stray::<N>(alloc, &empty, &[]), Some(false));
     Ok(())
+}
+
+#[test]
+fn records_without_a_receipt_are_stray_and_receipts_without_a_record(
+    rt: HostRuntime,
+) -> Result<(), Fail> {
+    let blank = Blank::new(rt.alloc(), 1)?;
+    check_stray::<Brand, HostRuntime>(&rt, rt.alloc(), blank)
 }
 
 // Cells of these windows.
@@ -70,7 +120,8 @@ fn two_cells(alloc: Global, first: u64, second: u64) -> Result<[Cell; 2], AllocE
 // Whether cells of these windows are torn, where the front's is 100.
 fn are_torn(alloc: Global, first: u64, second: u64) -> Result<bool, Fail> {
     let cells = two_cells(alloc, first, second)?;
-    Ok(matches!(&reconcile(alloc, 100, &cells, &[]), Verdict::Torn))
+    let passes: [Pass<Brand>; 0] = [];
+    Ok(matches!(&reconcile(alloc, 100, &cells, &passes), Verdict::Torn))
 }
 
 #[test]

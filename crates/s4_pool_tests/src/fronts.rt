@@ -1,11 +1,12 @@
 //! Fronts of each number of cells, with windows of all kinds.
 
-ghost use Rattle.std.specs.Prelude.{◌<◌, ◌≤◌};
+ghost use Rattle.std.specs.Prelude.{◌≡◌, ◌<◌, ◌≤◌};
 
 use crate::calls::is_set;
 use crate::given::{closed, is_made, receipt};
-use s4_pool::{Front, OpenGate, Pass};
+use s4_pool::{Blank, Front, Names, OpenGate, Pass};
 use std::alloc::Global;
+use std::marker::Brand;
 use std::process::Abort;
 use std::sync::Wait;
 use std::test::Fail;
@@ -36,10 +37,10 @@ const ROWS: [Row; 16] = [
 const RANGES: u32 = 40;
 
 // That an object is made in each range, in the cell of its number modulo that of the cells.
-fn check_ranges<R: Abort + Wait>(
+fn check_ranges<N: Names, R: Abort + Wait>(
     rt: &R,
-    front: &Front<OpenGate>,
-    pass: &mut Pass,
+    front: &Front<OpenGate, N>,
+    pass: &mut Pass<N>,
     cells: usize,
     serial: u16,
 ) -> Result<(), Fail> {
@@ -57,10 +58,10 @@ fn check_ranges<R: Abort + Wait>(
 }
 
 // That objects are made in all ranges, before and after the window of all cells is set.
-fn check_calls<R: Abort + Wait>(
+fn check_calls<N: Names, R: Abort + Wait>(
     rt: &R,
-    front: &Front<OpenGate>,
-    passes: &mut [Pass],
+    front: &Front<OpenGate, N>,
+    passes: &mut [Pass<N>],
     cells: usize,
 ) -> Result<(), Fail> {
     if passes.is_empty() {
@@ -73,22 +74,39 @@ fn check_calls<R: Abort + Wait>(
 }
 
 // That a front does all that is asked, and is closed then.
-fn check_front<R: Abort + Wait>(rt: &R, alloc: Global, row: &Row) -> Result<(), Fail> {
-    let (cells, window) = (row.0, row.1);
-    if cells == 0 || cells > 16 {
-        return Err("a number of cells".into());
-    }
-    let (front, mut passes) = Front::open(alloc, window, cells, 1, OpenGate)?;
+fn check_front<N: Names, R: Abort + Wait>(
+    rt: &R,
+    alloc: Global,
+    cells: usize,
+    window: u64,
+    blank: Blank,
+) -> Result<(), Fail>
+    requires some { 0 < cells }
+    requires few { cells ≤ 16 }
+    requires ledger { blank.ledger ≡ N.ledger }
+    requires names { (N.ledger.words ≡ cells) × (N.window ≡ window) × (N.passes ≡ 1) }
+{
+    let (front, mut passes) = Front::<OpenGate, N>::open(alloc, window, cells, 1, OpenGate, blank)?;
     assert_eq!(rt; front.window(), window);
     check_calls(rt, &front, &mut passes, cells)?;
     assert_eq!(rt; closed(alloc, front, passes)?.history.len(), 81);
     Ok(())
 }
 
+// The same of a front of a row.
+fn check_row<R: Abort + Wait>(rt: &R, alloc: Global, row: &Row) -> Result<(), Fail> {
+    let (cells, window) = (row.0, row.1);
+    if cells == 0 || cells > 16 {
+        return Err("a number of cells".into());
+    }
+    let blank = Blank::new(alloc, cells)?;
+    check_front::<Brand, R>(rt, alloc, cells, window, blank)
+}
+
 #[test]
 fn each_range_has_its_cell_and_each_front_is_closed(rt: HostRuntime) -> Result<(), Fail> {
     for row in &ROWS {
-        check_front(&rt, rt.alloc(), row)?;
+        check_row(&rt, rt.alloc(), row)?;
     }
     Ok(())
 }

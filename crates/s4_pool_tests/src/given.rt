@@ -1,8 +1,8 @@
 //! Callers, requests and fronts of the tests.
 
-ghost use Rattle.std.specs.Prelude.{◌<◌, ◌≤◌};
+ghost use Rattle.std.specs.Prelude.{◌≡◌, ◌<◌, ◌≤◌};
 
-use s4_pool::{Closed, Front, Gate, OpenGate, Pass};
+use s4_pool::{Blank, CloseFault, Closed, Front, Gate, Left, Names, OpenGate, Pass, Why};
 use s4_types::{
     Bytes, Caller, Moment, ObjectId, Principal, Purse, PurseNo, Reply, Request, Serial, WireVersion,
 };
@@ -65,16 +65,32 @@ impl Ask {
         Ask::new(who, tick, create()?)
     }
 
-    pub fn serve<G: Gate, R: Wait>(&self, rt: &R, front: &Front<G>, pass: &mut Pass) -> Reply {
+    pub fn serve<G: Gate, N: Names, R: Wait>(
+        &self,
+        rt: &R,
+        front: &Front<G, N>,
+        pass: &mut Pass<N>,
+    ) -> Reply {
         front.serve(rt, pass, self.caller, self.clock, &self.request)
+    }
+
+    /// The same by a clock that shows another moment.
+    pub fn serve_at<G: Gate, N: Names, R: Wait>(
+        &self,
+        rt: &R,
+        front: &Front<G, N>,
+        pass: &mut Pass<N>,
+        tick: u64,
+    ) -> Reply {
+        front.serve(rt, pass, self.caller, Moment::new(tick), &self.request)
     }
 }
 
 /// Whether a create makes the object with that serial.
-pub fn is_made<G: Gate, R: Wait>(
+pub fn is_made<G: Gate, N: Names, R: Wait>(
     rt: &R,
-    front: &Front<G>,
-    pass: &mut Pass,
+    front: &Front<G, N>,
+    pass: &mut Pass<N>,
     (who, tick): (u32, u64),
     serial: u16,
 ) -> Result<bool, Fail> {
@@ -84,13 +100,13 @@ pub fn is_made<G: Gate, R: Wait>(
 }
 
 /// The moment, the cell and the place of a pass's receipt.
-pub fn receipt(pass: &Pass, place: usize) -> Option<(u64, usize, u64)> {
+pub fn receipt<N: Names>(pass: &Pass<N>, place: usize) -> Option<(u64, usize, u64)> {
     let receipt = pass.receipts().get(place)?;
     Some((receipt.moment.tick(), receipt.cell, receipt.place))
 }
 
 /// The first two passes.
-pub fn two_of(passes: Vec<Pass>) -> Result<(Pass, Pass), Fail> {
+pub fn two_of<N: Names>(passes: Vec<Pass<N>>) -> Result<(Pass<N>, Pass<N>), Fail> {
     let mut passes = passes;
     let b = passes.pop().ok_or("pass 1")?;
     let a = passes.pop().ok_or("pass 0")?;
@@ -98,29 +114,74 @@ pub fn two_of(passes: Vec<Pass>) -> Result<(Pass, Pass), Fail> {
 }
 
 /// A front with a window of a hundred ticks and two passes.
-pub fn open_two(alloc: Global, cells: usize) -> Result<(Front<OpenGate>, Pass, Pass), Fail>
+pub fn open_two<N: Names>(
+    alloc: Global,
+    cells: usize,
+    blank: Blank,
+) -> Result<(Front<OpenGate, N>, Pass<N>, Pass<N>), Fail>
     requires some { 0 < cells }
     requires few { cells ≤ 16 }
+    requires ledger { blank.ledger ≡ N.ledger }
+    requires names { (N.ledger.words ≡ cells) × (N.window ≡ 100) × (N.passes ≡ 2) }
 {
-    let (front, passes) = Front::open(alloc, 100, cells, 2, OpenGate)?;
+    let (front, passes) = Front::open(alloc, 100, cells, 2, OpenGate, blank)?;
     let (a, b) = two_of(passes)?;
     Ok((front, a, b))
 }
 
 /// Closes a front that has to close.
-pub fn closed<G: Gate>(alloc: Global, front: Front<G>, passes: Vec<Pass>) -> Result<Closed, Fail> {
+pub fn closed<G: Gate, N: Names>(
+    alloc: Global,
+    front: Front<G, N>,
+    passes: Vec<Pass<N>>,
+) -> Result<Closed<N>, Fail> {
     front
         .close(alloc, passes)
         .map_err(|_fault| "not closed".into())
 }
 
 /// How many records a front has that is closed by two passes.
-pub fn count_closed<G: Gate>(
+pub fn count_closed<G: Gate, N: Names>(
     alloc: Global,
-    front: Front<G>,
-    a: Pass,
-    b: Pass,
+    front: Front<G, N>,
+    a: Pass<N>,
+    b: Pass<N>,
 ) -> Result<usize, Fail> {
     let passes = Vec::from_array(alloc, [a, b])?;
     Ok(closed(alloc, front, passes)?.history.len())
+}
+
+// What is handed back where a pass is missing.
+fn missing<N: Names>(fault: CloseFault<OpenGate, N>) -> Option<(Front<OpenGate, N>, Vec<Pass<N>>)> {
+    let CloseFault { why, left, passes } = fault;
+    match left {
+        Left::Front(front) if why == Why::Missing => Some((front, passes)),
+        _ => None,
+    }
+}
+
+// The front and its first pass, with which alone it can't be closed.
+fn unclosed<N: Names>(
+    alloc: Global,
+    front: Front<OpenGate, N>,
+    a: Pass<N>,
+) -> Result<(Front<OpenGate, N>, Vec<Pass<N>>), Fail> {
+    let one = Vec::from_array(alloc, [a])?;
+    let fault = front
+        .close(alloc, one)
+        .err()
+        .ok_or("not closed with one pass")?;
+    Ok(missing(fault).ok_or("a fault that is Missing")?)
+}
+
+/// The front, which is closed with both passes once it wasn't with one.
+pub fn closed_again<N: Names>(
+    alloc: Global,
+    front: Front<OpenGate, N>,
+    a: Pass<N>,
+    b: Pass<N>,
+) -> Result<Closed<N>, Fail> {
+    let (front, mut passes) = unclosed(alloc, front, a)?;
+    passes.push(b)?;
+    closed(alloc, front, passes)
 }

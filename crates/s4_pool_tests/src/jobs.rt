@@ -5,8 +5,9 @@ ghost use Rattle.std.specs.Prelude.{◌≡◌, All};
 use crate::gate::{Guarded, Holding, Marks, check_guarded, make_guarded};
 use crate::given::Ask;
 use s4_jobs::{Job, Jobs, NoMemory, Numbered, Seat, work};
-use s4_pool::{Front, Pass};
+use s4_pool::{Blank, Front, Names, Pass};
 use std::alloc::Global;
+use std::marker::Brand;
 use std::process::Abort;
 use std::sync::Wait;
 use std::sync::atomic::Ordering;
@@ -57,13 +58,13 @@ fn places<'a>(
 }
 
 // Makes the calls that it takes, and lets the gate's call go on after one that releases it.
-fn serve_jobs<R: Wait>(
+fn serve_jobs<N: Names, R: Wait>(
     rt: &R,
-    front: &Front<Holding>,
+    front: &Front<Holding, N>,
     marks: &Marks,
     place: Place<'_>,
-    pass: Pass,
-) -> Pass {
+    pass: Pass<N>,
+) -> Pass<N> {
     let Place { queue, mut seat } = place;
     let mut pass = pass;
     work(rt, queue, &mut seat, |call: Call| {
@@ -124,20 +125,27 @@ fn three_of<'a>(places: Vec<Place<'a>>) -> Option<Three<'a>> {
 }
 
 // All that is guarded, and the two calls.
-fn begin<R: Wait>(rt: &R, alloc: Global) -> Result<(Guarded, Call, Call), Fail> {
+fn begin<N: Names, R: Wait>(
+    rt: &R,
+    alloc: Global,
+    blank: Blank,
+) -> Result<(Guarded<N>, Call, Call), Fail>
+    requires ledger { blank.ledger ≡ N.ledger }
+    requires names { (N.ledger.words ≡ 2) × (N.window ≡ 100) × (N.passes ≡ 2) }
+{
     let (held, next) = two_calls()?;
-    let guarded = make_guarded(rt, alloc)?;
+    let guarded = make_guarded(rt, alloc, blank)?;
     Ok((guarded, held, next))
 }
 
 // Puts the calls and makes them, all at once. Tells whether all were put.
-fn work_at_once<R: Threads + Wait + Sync>(
+fn work_at_once<N: Names + Send + Sync, R: Threads + Wait + Sync>(
     rt: &R,
-    guarded: Guarded,
+    guarded: Guarded<N>,
     places: Three<'_>,
     held: Call,
     next: Call,
-) -> (bool, Guarded) {
+) -> (bool, Guarded<N>) {
     let Guarded { front, marks, a, b } = guarded;
     let Three {
         first,
@@ -161,12 +169,16 @@ fn work_at_once<R: Threads + Wait + Sync>(
 }
 
 // That the calls are put and made.
-fn check_places<R: Abort + Threads + Wait + Sync>(
+fn check_places<N: Names + Send + Sync, R: Abort + Threads + Wait + Sync>(
     rt: &R,
     alloc: Global,
     places: Three<'_>,
-) -> Result<(), Fail> {
-    let (guarded, held, next) = begin(rt, alloc)?;
+    blank: Blank,
+) -> Result<(), Fail>
+    requires ledger { blank.ledger ≡ N.ledger }
+    requires names { (N.ledger.words ≡ 2) × (N.window ≡ 100) × (N.passes ≡ 2) }
+{
+    let (guarded, held, next) = begin::<N, R>(rt, alloc, blank)?;
     let (put, guarded) = work_at_once(rt, guarded, places, held, next);
     assert!(rt; put);
     check_guarded(rt, alloc, guarded)
@@ -177,5 +189,6 @@ fn held_by_one_worker(rt: HostRuntime) -> Result<(), Fail> {
     let (queue, seats) = Queue::open(rt.alloc(), 4, 3)?;
     let places = places(rt.alloc(), &queue, seats)?;
     let three = three_of(places).ok_or("three places")?;
-    check_places(&rt, rt.alloc(), three)
+    let blank = Blank::new(rt.alloc(), 2)?;
+    check_places::<Brand, HostRuntime>(&rt, rt.alloc(), three, blank)
 }

@@ -1,9 +1,13 @@
 //! A sweep of a front's cell frees what is expired there, and no more than it is asked for.
 
+ghost use Rattle.std.specs.Prelude.{◌≡◌};
+
 use crate::given::{Ask, is_made, object, write_a};
-use s4_pool::{Front, OpenGate, Pass};
+use s4_pool::{Blank, Front, Names, OpenGate, Pass};
 use s4_types::Reply;
 use std::alloc::Global;
+use std::marker::Brand;
+use std::process::Abort;
 use std::sync::Wait;
 use std::test::Fail;
 
@@ -28,11 +32,11 @@ const SWEEPS: [Sweep; 11] = [
 ];
 
 // Whether the principal writes their object at that moment.
-fn is_written<R: Wait>(
+fn is_written<N: Names, R: Wait>(
     rt: &R,
     alloc: Global,
-    front: &Front<OpenGate>,
-    pass: &mut Pass,
+    front: &Front<OpenGate, N>,
+    pass: &mut Pass<N>,
     (who, moment): (u32, u64),
 ) -> Result<bool, Fail> {
     let object = object(who, 1)?;
@@ -43,11 +47,11 @@ fn is_written<R: Wait>(
 
 // Makes the principal's object, and writes it so often, each time a moment later. Tells whether all
 // was done.
-fn write_often<R: Wait>(
+fn write_often<N: Names, R: Wait>(
     rt: &R,
     alloc: Global,
-    front: &Front<OpenGate>,
-    pass: &mut Pass,
+    front: &Front<OpenGate, N>,
+    pass: &mut Pass<N>,
     (who, count): (u32, u64),
 ) -> Result<bool, Fail> {
     let made = u64::from(who) * 1000;
@@ -61,11 +65,11 @@ fn write_often<R: Wait>(
 
 // Writes all objects, and then each once more when what ended before is expired. Tells whether all
 // was done.
-fn write_all<R: Wait>(
+fn write_all<N: Names, R: Wait>(
     rt: &R,
     alloc: Global,
-    front: &Front<OpenGate>,
-    passes: &mut [Pass],
+    front: &Front<OpenGate, N>,
+    passes: &mut [Pass<N>],
 ) -> Result<bool, Fail> {
     if passes.is_empty() {
         return Err("pass 0".into());
@@ -81,18 +85,27 @@ fn write_all<R: Wait>(
     Ok(done)
 }
 
-#[test]
-fn each_cell_is_swept_of_as_much_as_is_asked_for(rt: HostRuntime) -> Result<(), Fail> {
-    let (front, mut passes) = Front::open(rt.alloc(), 10, 4, 1, OpenGate)?;
-    assert!(rt; write_all(&rt, rt.alloc(), &front, &mut passes)?);
+// That each sweep frees what it has to free.
+fn check_sweeps<N: Names, R: Abort + Wait>(rt: &R, alloc: Global, blank: Blank) -> Result<(), Fail>
+    requires ledger { blank.ledger ≡ N.ledger }
+    requires names { (N.ledger.words ≡ 4) × (N.window ≡ 10) × (N.passes ≡ 1) }
+{
+    let (front, mut passes) = Front::<OpenGate, N>::open(alloc, 10, 4, 1, OpenGate, blank)?;
+    assert!(rt; write_all(rt, alloc, &front, &mut passes)?);
     for sweep in &SWEEPS {
         let (cell, most) = (sweep.0, sweep.1);
         assert!(rt; cell < 4);
         assert_eq!(rt;
-            front.sweep(&rt, cell, most),
+            front.sweep(rt, cell, most),
             sweep.2,
             "{most} of cell {cell}"
         );
     }
     Ok(())
+}
+
+#[test]
+fn each_cell_is_swept_of_as_much_as_is_asked_for(rt: HostRuntime) -> Result<(), Fail> {
+    let blank = Blank::new(rt.alloc(), 4)?;
+    check_sweeps::<Brand, HostRuntime>(&rt, rt.alloc(), blank)
 }

@@ -1,9 +1,12 @@
 //! What one thread wrote another reads.
 
+ghost use Rattle.std.specs.Prelude.{◌≡◌};
+
 use crate::given::{Ask, count_closed, made, object, open_two, write_a};
-use s4_pool::{Front, OpenGate, Pass};
+use s4_pool::{Blank, Front, Names, OpenGate, Pass};
 use s4_types::{Bytes, Grant, Moment, Reply, Request};
 use std::alloc::Global;
+use std::marker::Brand;
 use std::process::Abort;
 use std::sync::Wait;
 use std::test::Fail;
@@ -17,7 +20,12 @@ struct Row {
 }
 
 // Asks for one thing after the other, and gives the pass with whether all was replied as it has to be.
-fn ask_all<R: Wait>(rt: &R, front: &Front<OpenGate>, pass: Pass, rows: &[Row]) -> (Pass, bool) {
+fn ask_all<N: Names, R: Wait>(
+    rt: &R,
+    front: &Front<OpenGate, N>,
+    pass: Pass<N>,
+    rows: &[Row],
+) -> (Pass<N>, bool) {
     let mut pass = pass;
     let mut told = true;
     for row in rows {
@@ -68,12 +76,12 @@ fn write_rows(alloc: Global) -> Result<[Row; 2], Fail> {
 }
 
 // Creates an object and writes it, in the first of two threads.
-fn write_in_first<R: Abort + Threads + Wait + Sync>(
+fn write_in_first<N: Names + Send + Sync, R: Abort + Threads + Wait + Sync>(
     rt: &R,
     alloc: Global,
-    front: &Front<OpenGate>,
-    pass: Pass,
-) -> Result<Pass, Fail> {
+    front: &Front<OpenGate, N>,
+    pass: Pass<N>,
+) -> Result<Pass<N>, Fail> {
     let rows = write_rows(alloc)?;
     let ((pass, told), ()) = thread::join(rt, || ask_all(rt, front, pass, &rows), || ());
     assert!(rt; told);
@@ -81,23 +89,36 @@ fn write_in_first<R: Abort + Threads + Wait + Sync>(
 }
 
 // Reads the object, in the second of two threads.
-fn read_in_second<R: Abort + Threads + Wait + Sync>(
+fn read_in_second<N: Names + Send + Sync, R: Abort + Threads + Wait + Sync>(
     rt: &R,
     alloc: Global,
-    front: &Front<OpenGate>,
-    pass: Pass,
-) -> Result<Pass, Fail> {
+    front: &Front<OpenGate, N>,
+    pass: Pass<N>,
+) -> Result<Pass<N>, Fail> {
     let rows = [read_row(alloc)?];
     let ((), (pass, told)) = thread::join(rt, || (), || ask_all(rt, front, pass, &rows));
     assert!(rt; told);
     Ok(pass)
 }
 
+// That one thread reads what another wrote.
+fn check_threads<N: Names + Send + Sync, R: Abort + Threads + Wait + Sync>(
+    rt: &R,
+    alloc: Global,
+    blank: Blank,
+) -> Result<(), Fail>
+    requires ledger { blank.ledger ≡ N.ledger }
+    requires names { (N.ledger.words ≡ 1) × (N.window ≡ 100) × (N.passes ≡ 2) }
+{
+    let (front, a, b) = open_two::<N>(alloc, 1, blank)?;
+    let a = write_in_first(rt, alloc, &front, a)?;
+    let b = read_in_second(rt, alloc, &front, b)?;
+    assert_eq!(rt; count_closed(alloc, front, a, b)?, 3);
+    Ok(())
+}
+
 #[test]
 fn one_thread_reads_what_another_wrote(rt: HostRuntime) -> Result<(), Fail> {
-    let (front, a, b) = open_two(rt.alloc(), 1)?;
-    let a = write_in_first(&rt, rt.alloc(), &front, a)?;
-    let b = read_in_second(&rt, rt.alloc(), &front, b)?;
-    assert_eq!(rt; count_closed(rt.alloc(), front, a, b)?, 3);
-    Ok(())
+    let blank = Blank::new(rt.alloc(), 1)?;
+    check_threads::<Brand, HostRuntime>(&rt, rt.alloc(), blank)
 }

@@ -1,11 +1,15 @@
 //! The worked case of two cells and two passes, and one of clocks that lag.
 
+ghost use Rattle.std.specs.Prelude.{◌≡◌};
+
 use crate::calls::{Call, check_calls};
-use crate::given::{closed, two_of};
-use s4_pool::{CloseFault, Closed, Front, Left, OpenGate, Pass, Why};
+use crate::given::{closed, closed_again, two_of};
+use s4_pool::{Blank, Front, Names, OpenGate};
 use s4_types::Record;
 use std::alloc::Global;
+use std::marker::Brand;
 use std::process::Abort;
+use std::sync::Wait;
 use std::test::Fail;
 
 /// On two cells.
@@ -34,36 +38,6 @@ const LAGGING: &[Call] = &[
     Call(1, 4, 15, 3, (u64::MAX, 1, 7)),
 ];
 
-// What is handed back where a pass is missing.
-fn missing(fault: CloseFault<OpenGate>) -> Option<(Front<OpenGate>, Vec<Pass>)> {
-    let CloseFault { why, left, passes } = fault;
-    match left {
-        Left::Front(front) if why == Why::Missing => Some((front, passes)),
-        _ => None,
-    }
-}
-
-// The front and its first pass, with which alone it can't be closed.
-fn unclosed(
-    alloc: Global,
-    front: Front<OpenGate>,
-    a: Pass,
-) -> Result<(Front<OpenGate>, Vec<Pass>), Fail> {
-    let one = Vec::from_array(alloc, [a])?;
-    let fault = front
-        .close(alloc, one)
-        .err()
-        .ok_or("not closed with one pass")?;
-    Ok(missing(fault).ok_or("a fault that is Missing")?)
-}
-
-// The front, which is closed with both passes once it wasn't with one.
-fn closed_again(alloc: Global, front: Front<OpenGate>, a: Pass, b: Pass) -> Result<Closed, Fail> {
-    let (front, mut passes) = unclosed(alloc, front, a)?;
-    passes.push(b)?;
-    closed(alloc, front, passes)
-}
-
 // That the one history of both cells has the five records in their order.
 fn check_history<R: Abort>(rt: &R, history: &[Record]) {
     let moments = [5, 5, 5, 8, 9];
@@ -75,22 +49,41 @@ fn check_history<R: Abort>(rt: &R, history: &[Record]) {
     }
 }
 
-#[test]
-fn two_cells(rt: HostRuntime) -> Result<(), Fail> {
-    let (front, mut passes) = Front::open(rt.alloc(), 100, 2, 2, OpenGate)?;
-    check_calls(&rt, &front, &mut passes, FIVE)?;
+// That a front of two cells carries out the worked case, and is closed with both passes once it wasn't
+// with one.
+fn check_two<N: Names, R: Abort + Wait>(rt: &R, alloc: Global, blank: Blank) -> Result<(), Fail>
+    requires ledger { blank.ledger ≡ N.ledger }
+    requires names { (N.ledger.words ≡ 2) × (N.window ≡ 100) × (N.passes ≡ 2) }
+{
+    let (front, mut passes) = Front::<OpenGate, N>::open(alloc, 100, 2, 2, OpenGate, blank)?;
+    check_calls(rt, &front, &mut passes, FIVE)?;
     assert_eq!(rt; front.window(), 100);
     let (a, b) = two_of(passes)?;
-    let closed = closed_again(rt.alloc(), front, a, b)?;
-    check_history(&rt, closed.history.as_slice());
+    let closed = closed_again(alloc, front, a, b)?;
+    check_history(rt, closed.history.as_slice());
+    Ok(())
+}
+
+#[test]
+fn two_cells(rt: HostRuntime) -> Result<(), Fail> {
+    let blank = Blank::new(rt.alloc(), 2)?;
+    check_two::<Brand, HostRuntime>(&rt, rt.alloc(), blank)
+}
+
+// That each call has its moment, and that the front is closed of all then.
+fn check_clocks<N: Names, R: Abort + Wait>(rt: &R, alloc: Global, blank: Blank) -> Result<(), Fail>
+    requires ledger { blank.ledger ≡ N.ledger }
+    requires names { (N.ledger.words ≡ 3) × (N.window ≡ 100) × (N.passes ≡ 2) }
+{
+    let (front, mut passes) = Front::<OpenGate, N>::open(alloc, 100, 3, 2, OpenGate, blank)?;
+    check_calls(rt, &front, &mut passes, LAGGING)?;
+    let closed = closed(alloc, front, passes)?;
+    assert_eq!(rt; closed.history.len(), LAGGING.len());
     Ok(())
 }
 
 #[test]
 fn a_clock_that_lags_is_put_forward_no_more_than_it_must(rt: HostRuntime) -> Result<(), Fail> {
-    let (front, mut passes) = Front::open(rt.alloc(), 100, 3, 2, OpenGate)?;
-    check_calls(&rt, &front, &mut passes, LAGGING)?;
-    let closed = closed(rt.alloc(), front, passes)?;
-    assert_eq!(rt; closed.history.len(), LAGGING.len());
-    Ok(())
+    let blank = Blank::new(rt.alloc(), 3)?;
+    check_clocks::<Brand, HostRuntime>(&rt, rt.alloc(), blank)
 }

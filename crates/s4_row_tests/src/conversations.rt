@@ -1,8 +1,10 @@
 //! Scripts as conversations: each request is asked in a connection of its own, and answered by a
 //! front whose cells are cut behind it.
 
+ghost use Rattle.std.specs.Prelude.{◌≡◌, ◌<◌, ◌≤◌};
+
 use s4_client::{CallFault, call, message};
-use s4_pool::{Front, OpenGate, Pass};
+use s4_pool::{Blank, Front, Names, OpenGate, Pass};
 use s4_run::RunFault;
 use s4_script::{Line, ReplyText};
 use s4_stream::{Hello, Logins};
@@ -10,6 +12,7 @@ use s4_talk::{Answer, talk};
 use s4_types::{Caller, Moment, Reply, Request, Step};
 use std::alloc::Global;
 use std::collections::BTreeSet;
+use std::marker::Brand;
 use std::sync::Wait;
 
 /// The secret of all principals, and how a table of logins has it.
@@ -20,15 +23,15 @@ const SECRET_TEXT: &str = "000102030405060708090a0b0c0d0e0f";
 /// Answers by a front, with one pass, at the moment that it is told, and cuts all cells behind each
 /// request. Its calls are those of the pass.
 #[derive(Drop)]
-pub struct Desk<'a, R> {
+pub struct Desk<'a, N: Names, R> {
     rt: &'a R,
-    front: &'a Front<OpenGate>,
-    pass: Pass,
+    front: &'a Front<OpenGate, N>,
+    pass: Pass<N>,
     moment: Moment,
 }
 
-impl<'a, R> Desk<'a, R> {
-    pub fn new(rt: &'a R, front: &'a Front<OpenGate>, pass: Pass) -> Desk<'a, R> {
+impl<'a, N: Names, R> Desk<'a, N, R> {
+    pub fn new(rt: &'a R, front: &'a Front<OpenGate, N>, pass: Pass<N>) -> Desk<'a, N, R> {
         Desk {
             rt,
             front,
@@ -38,7 +41,7 @@ impl<'a, R> Desk<'a, R> {
     }
 }
 
-impl<R: Wait> Answer for Desk<'_, R> {
+impl<N: Names, R: Wait> Answer for Desk<'_, N, R> {
     ghost use Rattle.s4_row_tests.specs.Desks.{calls_told};
 
     ghost calls = { λ desk. calls_told desk.pass.calls };
@@ -65,8 +68,27 @@ pub fn tell_conversations<R: Wait>(
     if cells == 0 || cells > 16 {
         return Err(RunFault::CannotRead);
     }
+    let blank = Blank::new(alloc, cells)?;
+    tell_by_front::<Brand, R>(rt, alloc, window, lines, cells, told, blank)
+}
+
+/// Tells what is heard by a front of so many cells.
+fn tell_by_front<N: Names, R: Wait>(
+    rt: &R,
+    alloc: Global,
+    window: u64,
+    lines: &[Line],
+    cells: usize,
+    told: &mut String,
+    blank: Blank,
+) -> Result<(), RunFault>
+    requires some { 0 < cells }
+    requires few { cells ≤ 16 }
+    requires ledger { blank.ledger ≡ N.ledger }
+    requires names { (N.ledger.words ≡ cells) × (N.window ≡ window) × (N.passes ≡ 1) }
+{
     let logins = logins_of(alloc, lines)?;
-    let (front, mut passes) = Front::open(alloc, window, cells, 1, OpenGate)?;
+    let (front, mut passes) = Front::<OpenGate, N>::open(alloc, window, cells, 1, OpenGate, blank)?;
     let mut desk = Desk::new(rt, &front, passes.remove(0));
     for line in lines {
         match line {
@@ -109,8 +131,8 @@ fn logins_of(alloc: Global, lines: &[Line]) -> Result<Logins, RunFault> {
 
 /// The reply that is heard in a connection whose caller asks this and no more. A request that no frame
 /// spells is asked without one.
-fn heard<R: Wait>(
-    desk: &mut Desk<'_, R>,
+fn heard<N: Names, R: Wait>(
+    desk: &mut Desk<'_, N, R>,
     alloc: Global,
     logins: &Logins,
     caller: Caller,

@@ -5,12 +5,13 @@ ghost use Rattle.std.specs.Prelude.{◌≡◌};
 
 use crate::campaigns::{steps_of, window_of};
 use s4_drive::{Drive, never_down};
-use s4_pool::{Front, OpenGate, Pass};
+use s4_pool::{Blank, Front, Names, OpenGate, Pass};
 use s4_run::run_script;
 use s4_script::ReplyText;
 use s4_store::PlainStore;
 use s4_types::{NoMemory, Reply, Step};
 use std::alloc::Global;
+use std::marker::Brand;
 use std::process::Abort;
 use std::sync::Wait;
 use std::test::Fail;
@@ -71,11 +72,11 @@ pub fn check_at_once<A: Abort>(
 }
 
 /// The replies of a front of two cells that is asked for these steps.
-fn serve_all<R: Wait>(
+fn serve_all<N: Names, R: Wait>(
     rt: &R,
     alloc: Global,
-    front: &Front<OpenGate>,
-    pass: &mut Pass,
+    front: &Front<OpenGate, N>,
+    pass: &mut Pass<N>,
     steps: &[Step],
 ) -> Result<Vec<Reply>, NoMemory>
     requires { front.now.cells ≡ 2 }
@@ -98,13 +99,17 @@ fn serve_all<R: Wait>(
 }
 
 /// The replies of a fresh front that is asked for these steps.
-fn served<R: Wait>(
+fn served<N: Names, R: Wait>(
     rt: &R,
     alloc: Global,
     window: u64,
     steps: &[Step],
-) -> Result<Vec<Reply>, NoMemory> {
-    let (front, mut passes) = Front::open(alloc, window, 2, 1, OpenGate)?;
+    blank: Blank,
+) -> Result<Vec<Reply>, NoMemory>
+    requires ledger { blank.ledger ≡ N.ledger }
+    requires names { (N.ledger.words ≡ 2) × (N.window ≡ window) × (N.passes ≡ 1) }
+{
+    let (front, mut passes) = Front::<OpenGate, N>::open(alloc, window, 2, 1, OpenGate, blank)?;
     serve_all(rt, alloc, &front, &mut passes[0], steps)
 }
 
@@ -112,7 +117,8 @@ fn served<R: Wait>(
 fn told_by_front<R: Wait>(rt: &R, alloc: Global, script: &str) -> Result<String, Fail> {
     let window = window_of(alloc, script)?;
     let steps = steps_of(alloc, script)?;
-    let replies = served(rt, alloc, window, &steps)?;
+    let blank = Blank::new(alloc, 2)?;
+    let replies = served::<Brand, R>(rt, alloc, window, &steps, blank)?;
     texts_of(alloc, &replies)
 }
 

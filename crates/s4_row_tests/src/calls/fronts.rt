@@ -1,13 +1,16 @@
 //! The worked case of five cells and two passes. A request that met want of memory leaves no record
 //! and no receipt, and a front that met it at its closing has all its cells, and is closed then.
 
+ghost use Rattle.std.specs.Prelude.{◌≡◌};
+
 use crate::calls::case::Case;
 use crate::calls::serving::{Call, serve_all};
 use crate::texts::invalid;
-use s4_pool::{Cell, CloseFault, Closed, Front, Left, OpenGate, Pass, Why};
+use s4_pool::{Blank, Cell, CloseFault, Closed, Front, Left, Names, OpenGate, Pass, Why};
 use s4_types::Record;
 use std::alloc::Global;
 use std::io;
+use std::marker::Brand;
 use std::sync::Wait;
 
 const CALLS: [Call; 7] = [
@@ -35,7 +38,21 @@ pub enum Marked {
 
 /// Makes the calls, and closes the front.
 pub fn serve<R: Wait>(case: &mut Case, rt: &R, marked: Marked) -> io::Result<()> {
-    let (front, mut passes) = Front::open(case.alloc(), 100, 5, 2, OpenGate)?;
+    let blank = Blank::new(case.alloc(), 5)?;
+    serve_front::<Brand, R>(case, rt, marked, blank)
+}
+
+/// The same with a front of that ledger.
+fn serve_front<N: Names, R: Wait>(
+    case: &mut Case,
+    rt: &R,
+    marked: Marked,
+    blank: Blank,
+) -> io::Result<()>
+    requires ledger { blank.ledger ≡ N.ledger }
+    requires names { (N.ledger.words ≡ 5) × (N.window ≡ 100) × (N.passes ≡ 2) }
+{
+    let (front, mut passes) = Front::<OpenGate, N>::open(case.alloc(), 100, 5, 2, OpenGate, blank)?;
     case.is_marking = marked == Marked::Calls;
     serve_all(case, rt, &front, &mut passes, &CALLS)?;
     case.is_marking = marked == Marked::Closing;
@@ -43,7 +60,11 @@ pub fn serve<R: Wait>(case: &mut Case, rt: &R, marked: Marked) -> io::Result<()>
 }
 
 /// Closes a front, once more where there was no memory, and looks at its records.
-fn check_closed(case: &mut Case, front: Front<OpenGate>, passes: Vec<Pass>) -> io::Result<()> {
+fn check_closed<N: Names>(
+    case: &mut Case,
+    front: Front<OpenGate, N>,
+    passes: Vec<Pass<N>>,
+) -> io::Result<()> {
     let closed = closed(case, front, passes)?;
     check_history(case, &closed.history);
     check_cells(case, &closed.cells);
@@ -51,7 +72,11 @@ fn check_closed(case: &mut Case, front: Front<OpenGate>, passes: Vec<Pass>) -> i
     Ok(())
 }
 
-fn closed(case: &mut Case, front: Front<OpenGate>, passes: Vec<Pass>) -> io::Result<Closed> {
+fn closed<N: Names>(
+    case: &mut Case,
+    front: Front<OpenGate, N>,
+    passes: Vec<Pass<N>>,
+) -> io::Result<Closed<N>> {
     let alloc = case.alloc();
     case.begins();
     let closed = front.close(alloc, passes);
@@ -65,7 +90,7 @@ fn closed(case: &mut Case, front: Front<OpenGate>, passes: Vec<Pass>) -> io::Res
     }
 }
 
-fn closed_again(alloc: Global, fault: CloseFault<OpenGate>) -> io::Result<Closed> {
+fn closed_again<N: Names>(alloc: Global, fault: CloseFault<OpenGate, N>) -> io::Result<Closed<N>> {
     let CloseFault { why, left, passes } = fault;
     match left {
         Left::Front(front) if why == Why::NoMemory => front

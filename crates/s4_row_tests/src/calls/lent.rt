@@ -1,10 +1,13 @@
 //! Cases of one front with two cells and one pass, which it lends to them.
 
+ghost use Rattle.std.specs.Prelude.{◌≡◌};
+
 use crate::calls::case::Case;
 use crate::calls::talks::Peer;
 use crate::calls::{many, reads, talks, windows};
-use s4_pool::{Front, OpenGate};
+use s4_pool::{Blank, Front, Names, OpenGate};
 use std::io;
+use std::marker::Brand;
 use std::sync::Wait;
 
 /// What the front serves.
@@ -21,7 +24,16 @@ pub enum Served {
 }
 
 pub fn serve<R: Wait>(case: &mut Case, rt: &R, served: Served) -> io::Result<()> {
-    let (front, mut passes) = Front::open(case.alloc(), 100, 2, 1, OpenGate)?;
+    let blank = Blank::new(case.alloc(), 2)?;
+    lend::<Brand, R>(case, rt, served, blank)
+}
+
+/// Lends the front of that ledger.
+fn lend<N: Names, R: Wait>(case: &mut Case, rt: &R, served: Served, blank: Blank) -> io::Result<()>
+    requires ledger { blank.ledger ≡ N.ledger }
+    requires names { (N.ledger.words ≡ 2) × (N.window ≡ 100) × (N.passes ≡ 1) }
+{
+    let (front, mut passes) = Front::<OpenGate, N>::open(case.alloc(), 100, 2, 1, OpenGate, blank)?;
     let mut pass = passes.remove(0);
     match served {
         Served::Many => many::serve(case, rt, &front, &mut pass),

@@ -4,7 +4,7 @@
 use crate::calls::asked::{asked, is_no_memory};
 use crate::calls::case::Case;
 use crate::calls::serving::ask;
-use s4_pool::{Asked, Front, OpenGate, Pass};
+use s4_pool::{Asked, Front, Names, OpenGate, Pass};
 use s4_types::{Moment, Refusal, Reply};
 use std::io;
 use std::sync::Wait;
@@ -15,11 +15,11 @@ const CALLS: u64 = 4000;
 const TRIES: u32 = 3;
 
 /// Reads an object that isn't there. The calls are what is marked, all at once.
-pub fn serve<R: Wait>(
+pub fn serve<N: Names, R: Wait>(
     case: &mut Case,
     rt: &R,
-    front: &Front<OpenGate>,
-    pass: &mut Pass,
+    front: &Front<OpenGate, N>,
+    pass: &mut Pass<N>,
 ) -> io::Result<()> {
     let mut asked = asked(case.alloc(), "0 7 read 7.0.1 0 1")?;
     case.begins();
@@ -31,11 +31,11 @@ pub fn serve<R: Wait>(
 }
 
 /// Makes all calls, at a moment more each.
-fn serve_all<R: Wait>(
+fn serve_all<N: Names, R: Wait>(
     case: &mut Case,
     rt: &R,
-    front: &Front<OpenGate>,
-    pass: &mut Pass,
+    front: &Front<OpenGate, N>,
+    pass: &mut Pass<N>,
     asked: &mut Asked,
 ) {
     for clock in 0..CALLS {
@@ -46,11 +46,11 @@ fn serve_all<R: Wait>(
 }
 
 /// Whether a request is served, which is made again where there was no memory.
-fn is_served<R: Wait>(
+fn is_served<N: Names, R: Wait>(
     case: &mut Case,
     rt: &R,
-    front: &Front<OpenGate>,
-    pass: &mut Pass,
+    front: &Front<OpenGate, N>,
+    pass: &mut Pass<N>,
     asked: &Asked,
 ) -> bool {
     let before = pass.receipts().len();

@@ -4,7 +4,7 @@
 use crate::calls::asked::asked;
 use crate::calls::case::Case;
 use crate::calls::serving::ask;
-use s4_pool::{Asked, Front, OpenGate, Pass};
+use s4_pool::{Asked, Front, Names, OpenGate, Pass};
 use s4_types::{Moment, Reply};
 use std::io;
 use std::sync::Wait;
@@ -14,11 +14,11 @@ const READS: u64 = 2000;
 
 /// Reads the first so many bytes of the value again and again. The reads are what is marked, all at
 /// once.
-pub fn read<R: Wait>(
+pub fn read<N: Names, R: Wait>(
     case: &mut Case,
     rt: &R,
-    front: &Front<OpenGate>,
-    pass: &mut Pass,
+    front: &Front<OpenGate, N>,
+    pass: &mut Pass<N>,
     length: u32,
 ) -> io::Result<()> {
     write(case, rt, front, pass)?;
@@ -31,11 +31,11 @@ pub fn read<R: Wait>(
 }
 
 /// Principal 7 makes an object, and writes a value of 4096 bytes to it.
-fn write<R: Wait>(
+fn write<N: Names, R: Wait>(
     case: &mut Case,
     rt: &R,
-    front: &Front<OpenGate>,
-    pass: &mut Pass,
+    front: &Front<OpenGate, N>,
+    pass: &mut Pass<N>,
 ) -> io::Result<()> {
     let zeros = format!(in case.alloc(); "0 7 write 7.0.1 0 {:08192}", 0)?;
     for line in ["0 7 create 0", zeros.as_str()] {
@@ -44,11 +44,11 @@ fn write<R: Wait>(
     Ok(())
 }
 
-fn make<R: Wait>(
+fn make<N: Names, R: Wait>(
     case: &mut Case,
     rt: &R,
-    front: &Front<OpenGate>,
-    pass: &mut Pass,
+    front: &Front<OpenGate, N>,
+    pass: &mut Pass<N>,
     line: &str,
 ) -> io::Result<()> {
     let asked = asked(case.alloc(), line)?;
@@ -58,11 +58,11 @@ fn make<R: Wait>(
 }
 
 /// Makes all reads, at a moment more each.
-fn read_all<R: Wait>(
+fn read_all<N: Names, R: Wait>(
     case: &mut Case,
     rt: &R,
-    front: &Front<OpenGate>,
-    pass: &mut Pass,
+    front: &Front<OpenGate, N>,
+    pass: &mut Pass<N>,
     asked: &mut Asked,
 ) {
     for clock in 0..READS {

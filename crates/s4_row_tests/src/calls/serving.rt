@@ -3,7 +3,7 @@
 use crate::calls::asked::{asked, is_no_memory, is_told};
 use crate::calls::case::Case;
 use crate::texts::invalid;
-use s4_pool::{Asked, Front, OpenGate, Pass, Receipt};
+use s4_pool::{Asked, Front, Names, OpenGate, Pass, Receipt};
 use s4_types::Reply;
 use std::io;
 use std::sync::Wait;
@@ -18,11 +18,11 @@ pub struct Call(
     pub (u64, usize, u64),
 );
 
-pub fn serve_all<R: Wait>(
+pub fn serve_all<N: Names, R: Wait>(
     case: &mut Case,
     rt: &R,
-    front: &Front<OpenGate>,
-    passes: &mut [Pass],
+    front: &Front<OpenGate, N>,
+    passes: &mut [Pass<N>],
     calls: &[Call],
 ) -> io::Result<()> {
     for call in calls {
@@ -35,11 +35,11 @@ pub fn serve_all<R: Wait>(
 }
 
 /// Makes a call, and makes it again where there was no memory.
-pub fn serve_one<R: Wait>(
+pub fn serve_one<N: Names, R: Wait>(
     case: &mut Case,
     rt: &R,
-    front: &Front<OpenGate>,
-    pass: &mut Pass,
+    front: &Front<OpenGate, N>,
+    pass: &mut Pass<N>,
     call: &Call,
 ) -> io::Result<()> {
     let asked = asked(case.alloc(), call.1)?;
@@ -64,11 +64,11 @@ fn check_receipts(
 }
 
 /// The reply to a request, which is made again where there was no memory.
-fn replied<R: Wait>(
+fn replied<N: Names, R: Wait>(
     case: &mut Case,
     rt: &R,
-    front: &Front<OpenGate>,
-    pass: &mut Pass,
+    front: &Front<OpenGate, N>,
+    pass: &mut Pass<N>,
     asked: &Asked,
 ) -> Reply {
     let before = pass.receipts().len();
@@ -85,7 +85,12 @@ fn replied<R: Wait>(
 }
 
 /// The call that the case is about.
-pub fn ask<R: Wait>(rt: &R, front: &Front<OpenGate>, pass: &mut Pass, asked: &Asked) -> Reply {
+pub fn ask<N: Names, R: Wait>(
+    rt: &R,
+    front: &Front<OpenGate, N>,
+    pass: &mut Pass<N>,
+    asked: &Asked,
+) -> Reply {
     front.serve(rt, pass, asked.caller, asked.clock, &asked.request)
 }
 

@@ -5,7 +5,7 @@ use crate::calls::asked::asked;
 use crate::calls::case::Case;
 use crate::conversations::Desk;
 use crate::texts::invalid;
-use s4_pool::{Front, OpenGate, Pass};
+use s4_pool::{Front, Names, OpenGate, Pass};
 use s4_stream::Logins;
 use s4_talk::{Answer, Talking, TurnEnd};
 use s4_types::{Reply, WireVersion};
@@ -89,11 +89,11 @@ const TURNS: u32 = 1000;
 
 /// Talks with a peer who may ask for an object of 65536 bytes, until the talk waits for it. The turns
 /// are what is marked, all at once.
-pub fn talk<R: Wait>(
+pub fn talk<N: Names, R: Wait>(
     case: &mut Case,
     rt: &R,
-    front: &Front<OpenGate>,
-    pass: Pass,
+    front: &Front<OpenGate, N>,
+    pass: Pass<N>,
     peer: Peer,
 ) -> io::Result<()> {
     let logins = Logins::read(case.alloc(), LOGINS).map_err(|_| invalid())?;
@@ -117,7 +117,11 @@ pub fn talk<R: Wait>(
 }
 
 /// Carries out what a line asks, before the talk.
-fn make<R: Wait>(case: &mut Case, desk: &mut Desk<'_, R>, line: &str) -> io::Result<()> {
+fn make<N: Names, R: Wait>(
+    case: &mut Case,
+    desk: &mut Desk<'_, N, R>,
+    line: &str,
+) -> io::Result<()> {
     let mut asked = asked(case.alloc(), line)?;
     asked.caller.version = WireVersion::Two;
     let reply = desk.answer(asked.caller, asked.request);

@@ -4,7 +4,7 @@
 use crate::calls::asked::asked;
 use crate::calls::case::Case;
 use crate::calls::serving::{Call, ask, serve_one};
-use s4_pool::{Front, OpenGate, Pass};
+use s4_pool::{Front, Names, OpenGate, Pass};
 use s4_types::{Reply, Request};
 use std::io;
 use std::sync::Wait;
@@ -16,11 +16,11 @@ const SET: Call = Call(0, "5 0 setwindow 10", "done", (5, 0, 5));
 
 /// Makes the requests of each line so often, which are one for each cell. The SetWindow is what is
 /// marked.
-pub fn set<R: Wait>(
+pub fn set<N: Names, R: Wait>(
     case: &mut Case,
     rt: &R,
-    front: &Front<OpenGate>,
-    pass: &mut Pass,
+    front: &Front<OpenGate, N>,
+    pass: &mut Pass<N>,
     (first, second): (&str, &str),
 ) -> io::Result<()> {
     ask_before(case, rt, front, pass, first)?;
@@ -29,11 +29,11 @@ pub fn set<R: Wait>(
 }
 
 /// Leaves the records of a cell.
-fn ask_before<R: Wait>(
+fn ask_before<N: Names, R: Wait>(
     case: &mut Case,
     rt: &R,
-    front: &Front<OpenGate>,
-    pass: &mut Pass,
+    front: &Front<OpenGate, N>,
+    pass: &mut Pass<N>,
     line: &str,
 ) -> io::Result<()> {
     let asked = asked(case.alloc(), line)?;
