@@ -1,63 +1,39 @@
-//! What doesn't fit together is told. A closing never meets calls and records that don't match: a pass
-//! of another front has another type, and each call is counted. So this is told by what it is closed by.
+//! What doesn't fit together is told. No call of a front leads to it, since a pass of another front has
+//! another type, and a cell is lent to be read alone. So what is asked here is `reconcile`, as a closing
+//! asks it.
 
 ghost use Rattle.std.specs.Prelude.{◌≡◌};
 
-use crate::given::{closed, is_made, open_two};
+use crate::given::{Ask, closed, is_made, open_two};
+use crate::pairs::records_of_two;
 use s4_cells::Cell;
 use s4_closing::{Verdict, reconcile};
-use s4_pool::{Blank, Front, Names, OpenGate, Pass};
+use s4_pool::{Blank, Names, Pass};
 use std::alloc::{AllocError, Global};
 use std::marker::Brand;
 use std::process::Abort;
 use std::sync::Wait;
 use std::test::Fail;
 
-// A front of one cell and its pass.
-fn open_one<N: Names>(alloc: Global, blank: Blank) -> Result<(Front<OpenGate, N>, Pass<N>), Fail>
-    requires ledger { blank.ledger ≡ N.ledger }
-    requires names { (N.ledger.words ≡ 1) × (N.window ≡ 100) × (N.passes ≡ 1) }
-{
-    let (front, mut passes) = Front::open(alloc, 100, 1, 1, OpenGate, blank)?;
-    let pass = passes.pop().ok_or("pass 0")?;
-    Ok((front, pass))
-}
-
-// How many records a front has that is closed by one pass.
-fn count_closed<N: Names>(
-    alloc: Global,
-    front: Front<OpenGate, N>,
-    pass: Pass<N>,
-) -> Result<usize, Fail> {
-    let passes = Vec::from_array(alloc, [pass])?;
-    Ok(closed(alloc, front, passes)?.history.len())
-}
-
-// That of two fronts each has the calls of its own pass.
-fn check_two<N: Names, M: Names, R: Abort + Wait>(
-    rt: &R,
-    alloc: Global,
-    one: Blank,
-    other: Blank,
-) -> Result<(), Fail>
-    requires ledger { one.ledger ≡ N.ledger }
-    requires names { (N.ledger.words ≡ 1) × (N.window ≡ 100) × (N.passes ≡ 1) }
-    requires other_ledger { other.ledger ≡ M.ledger }
-    requires other_names { (M.ledger.words ≡ 1) × (M.window ≡ 100) × (M.passes ≡ 1) }
-{
-    let (front, mut pass) = open_one::<N>(alloc, one)?;
-    let (other_front, other_pass) = open_one::<M>(alloc, other)?;
-    assert!(rt; is_made(rt, &front, &mut pass, (7, 5), 1)?);
-    assert_eq!(rt; count_closed(alloc, front, pass)?, 1);
-    assert_eq!(rt; count_closed(alloc, other_front, other_pass)?, 0);
-    Ok(())
-}
-
 #[test]
 fn each_of_two_fronts_has_the_calls_of_its_pass(rt: HostRuntime) -> Result<(), Fail> {
     let one = Blank::new(rt.alloc(), 1)?;
     let other = Blank::new(rt.alloc(), 1)?;
-    check_two::<Brand, Brand, HostRuntime>(&rt, rt.alloc(), one, other)
+    let Ask {
+        caller,
+        request,
+        ..
+    } = Ask::create(7, 5)?;
+    let records = records_of_two::<Brand, Brand, HostRuntime>(
+        &rt,
+        rt.alloc(),
+        one,
+        other,
+        caller,
+        &request,
+    )?;
+    assert_eq!(rt; records, Some((1, 0)));
+    Ok(())
 }
 
 // Whether the calls of these passes and the records of these cells don't match.

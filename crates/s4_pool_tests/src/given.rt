@@ -41,9 +41,9 @@ pub fn write_a(alloc: Global, object: ObjectId) -> Result<Request, Fail> {
 /// What a caller asks, whose clock shows this.
 #[derive(Drop)]
 pub struct Ask {
-    caller: Caller,
+    pub caller: Caller,
     clock: Moment,
-    request: Request,
+    pub request: Request,
 }
 
 impl Ask {

@@ -19,6 +19,7 @@ mod given;
 mod jobs;
 #[cfg(test)]
 mod many;
+pub mod pairs;
 #[cfg(test)]
 mod sweep;
 #[cfg(test)]
