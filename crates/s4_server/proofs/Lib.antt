@@ -1,1 +1,2 @@
 pub mod Drained
+mod Seating

@@ -1,5 +1,6 @@
 -- What callers see of a server that is set up.
 use Rattle.std.specs.Prelude.{◌≡◌, ℕ, List, [], slice_index_or}
+use Rattle.atomic_table.specs.Seated.{TableId}
 use Rattle.s4_types.specs.declared.principal.Caller.{Caller}
 use Rattle.s4_types.specs.declared.request.Request.{Request}
 use Rattle.s4_types.specs.declared.reply.Reply.{Reply}
@@ -11,6 +12,13 @@ use Rattle.s4_command.specs.declared.settings.Settings.{Settings}
 pub record Setup : Type 0 where
   pub settings : Settings
   pub first : CallList
+
+-- the front of a server of these settings, with the ledger of the blank one, is that which is named by this ledger, window and number of passes
+pub record IsNamed (ledger : TableId) (window passes : ℕ) (blank : TableId) (settings : Settings) : Type 0 where
+  pub ledger_is : blank ≡ ledger
+  pub window_is : settings.window ≡ window
+  pub passes_is : settings.workers ≡ passes
+  pub cells_is : settings.cells ≡ ledger.words
 
 -- no pass: a list without calls
 abbrev pub no_pass : CallList

@@ -8,7 +8,7 @@ ghost use Rattle.s4_server.specs.Desks.{calls_told};
 use crate::clock::Ticks;
 use crate::desk::Desk;
 use crate::tables::Table;
-use s4_pool::OpenGate;
+use s4_pool::{Names, OpenGate};
 use s4_stream::{Logins, SessionFault};
 use s4_talk::{Talking, TurnEnd};
 use std::alloc::Global;
@@ -41,9 +41,9 @@ impl Conversation {
     }
 
     /// Takes a turn, and answers the peer's requests at this desk.
-    pub fn turn<R: Wait, C: Ticks, I: Read, O: Write>(
+    pub fn turn<R: Wait, C: Ticks, I: Read, O: Write, N: Names>(
         &mut self,
-        desk: &mut Desk<'_, R, C, OpenGate>,
+        desk: &mut Desk<'_, R, C, OpenGate, N>,
         reader: &mut I,
         writer: &mut O,
     ) -> TurnEnd

@@ -11,7 +11,7 @@ use crate::tables::Table;
 use crate::threads::Shared;
 use mio::net::TcpStream;
 use s4_command::Patience;
-use s4_pool::OpenGate;
+use s4_pool::{Names, OpenGate};
 use s4_stream::SessionFault;
 use s4_talk::{TalkEnd, TurnEnd};
 use std::alloc::Global;
@@ -117,10 +117,10 @@ impl Peer {
     }
 
     /// Serves the peer for some turns. `last` says that it sends no more.
-    pub fn take_turn<R: Wait, C: Ticks>(
+    pub fn take_turn<R: Wait, C: Ticks, N: Names>(
         &mut self,
-        shared: &Shared<'_, R, C>,
-        desk: &mut Desk<'_, R, C, OpenGate>,
+        shared: &Shared<'_, R, C, N>,
+        desk: &mut Desk<'_, R, C, OpenGate, N>,
         now: u64,
         last: bool,
     ) -> Next {
@@ -148,10 +148,10 @@ impl Peer {
     /// read. Until it is welcomed nothing is written in the turn that reads: so the answer to a
     /// failed login can wait. There is no more to read where a read was shorter than it could have
     /// been, but for the end, of which no further event may tell.
-    fn talk<R: Wait, C: Ticks>(
+    fn talk<R: Wait, C: Ticks, N: Names>(
         &mut self,
-        shared: &Shared<'_, R, C>,
-        desk: &mut Desk<'_, R, C, OpenGate>,
+        shared: &Shared<'_, R, C, N>,
+        desk: &mut Desk<'_, R, C, OpenGate, N>,
         now: u64,
     ) -> Option<TurnEnd> {
         let Peer {
@@ -244,7 +244,11 @@ impl Peer {
 
     /// Why the peer may not stay, if so: it was silent, or took nothing of what waits for it, for
     /// too long; or it isn't welcomed yet and should be; or its login isn't in the newest table.
-    pub fn overdue<R: Wait, C>(&mut self, shared: &Shared<'_, R, C>, now: u64) -> Option<Kind> {
+    pub fn overdue<R: Wait, C, N: Names>(
+        &mut self,
+        shared: &Shared<'_, R, C, N>,
+        now: u64,
+    ) -> Option<Kind> {
         match self.tires(now, &shared.patience) {
             None if !self.meets(shared) => Some(Kind::Revoked),
             parting => parting,
@@ -280,7 +284,7 @@ impl Peer {
     }
 
     /// Meets the newest login table, unless it has met that. Tells whether it may stay.
-    pub fn meets<R: Wait, C>(&mut self, shared: &Shared<'_, R, C>) -> bool {
+    pub fn meets<R: Wait, C, N: Names>(&mut self, shared: &Shared<'_, R, C, N>) -> bool {
         let Stage::Talks(talk) = &mut self.stage else {
             return true;
         };
@@ -301,8 +305,8 @@ fn is_past(passed: u64, most: u64) -> bool {
 
 /// Until when the answer to a peer's first words waits, if it does: that to a failed login is
 /// slowed, where such logins of that principal were many.
-fn answered_at<R: Wait, C>(
-    shared: &Shared<'_, R, C>,
+fn answered_at<R: Wait, C, N: Names>(
+    shared: &Shared<'_, R, C, N>,
     talk: &Conversation,
     opening: &Opening,
     now: u64,
@@ -336,8 +340,8 @@ fn parting_of(end: TalkEnd) -> Kind {
 
 /// Leaves word of the peer's welcome, where the turn brought it. A fault in the same turn ends it
 /// again; then more waits than the frame that tells the fault.
-fn tell_welcome<R: Wait, C: Ticks>(
-    desk: &Desk<'_, R, C, OpenGate>,
+fn tell_welcome<R: Wait, C: Ticks, N: Names>(
+    desk: &Desk<'_, R, C, OpenGate, N>,
     entrant: &Entrant,
     talk: &Conversation,
     opening: &Opening,
@@ -354,8 +358,8 @@ fn tell_welcome<R: Wait, C: Ticks>(
 }
 
 /// Leaves word of the fault that ended the peer's session, where there is one.
-fn tell_fault<R: Wait, C: Ticks>(
-    desk: &Desk<'_, R, C, OpenGate>,
+fn tell_fault<R: Wait, C: Ticks, N: Names>(
+    desk: &Desk<'_, R, C, OpenGate, N>,
     entrant: &Entrant,
     talk: &Conversation,
     opening: &Opening,

@@ -9,7 +9,7 @@ use crate::threads::Shared;
 use crate::watch::Watch;
 use mio::net::TcpStream;
 use s4_command::Patience;
-use s4_pool::OpenGate;
+use s4_pool::{Names, OpenGate};
 use slab::Slab;
 use std::alloc::Global;
 use std::collections::VecDeque;
@@ -88,10 +88,10 @@ impl Peers {
     }
 
     /// Serves the peer of this place, where there is one. `last` says that it sends no more.
-    pub fn give_turn<R: Wait, C: Ticks>(
+    pub fn give_turn<R: Wait, C: Ticks, N: Names>(
         &mut self,
-        shared: &Shared<'_, R, C>,
-        desk: &mut Desk<'_, R, C, OpenGate>,
+        shared: &Shared<'_, R, C, N>,
+        desk: &mut Desk<'_, R, C, OpenGate, N>,
         now: u64,
         place: usize,
         last: bool,
@@ -112,10 +112,10 @@ impl Peers {
     }
 
     /// Serves those that go on, each once.
-    pub fn give_eager_turns<R: Wait, C: Ticks>(
+    pub fn give_eager_turns<R: Wait, C: Ticks, N: Names>(
         &mut self,
-        shared: &Shared<'_, R, C>,
-        desk: &mut Desk<'_, R, C, OpenGate>,
+        shared: &Shared<'_, R, C, N>,
+        desk: &mut Desk<'_, R, C, OpenGate, N>,
         now: u64,
     ) {
         for _ in 0..self.eager.len() {
@@ -129,7 +129,11 @@ impl Peers {
     }
 
     /// Ends with those for whom nothing waits to be written.
-    pub fn end<R: Wait, C: Ticks>(&mut self, desk: &Desk<'_, R, C, OpenGate>, now: u64) {
+    pub fn end<R: Wait, C: Ticks, N: Names>(
+        &mut self,
+        desk: &Desk<'_, R, C, OpenGate, N>,
+        now: u64,
+    ) {
         let Peers { places, eager, .. } = self;
         places.retain(|place, peer| {
             let parting = if peer.ends(now) {
@@ -144,10 +148,10 @@ impl Peers {
     /// Looks after all, once at each time: closes those that were idle for too long, or whose login
     /// isn't in the newest table any more, and has those go on whose answer had to wait and is due.
     /// Tells whether it was time for that.
-    pub fn look<R: Wait, C: Ticks>(
+    pub fn look<R: Wait, C: Ticks, N: Names>(
         &mut self,
-        shared: &Shared<'_, R, C>,
-        desk: &Desk<'_, R, C, OpenGate>,
+        shared: &Shared<'_, R, C, N>,
+        desk: &Desk<'_, R, C, OpenGate, N>,
         now: u64,
     ) -> bool {
         if now == self.looked {
@@ -192,8 +196,8 @@ fn noted(eager: &mut VecDeque<usize>, place: usize) -> Option<Kind> {
 }
 
 /// Whether the peer stays: where it doesn't, word is left why.
-fn stays<R: Wait, C: Ticks>(
-    desk: &Desk<'_, R, C, OpenGate>,
+fn stays<R: Wait, C: Ticks, N: Names>(
+    desk: &Desk<'_, R, C, OpenGate, N>,
     peer: &Peer,
     parting: Option<Kind>,
 ) -> bool {

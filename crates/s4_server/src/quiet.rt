@@ -5,7 +5,7 @@ ghost use Rattle.std.specs.Prelude.{◌↔◌, ◌+◌, ◌-◌, ◌<◌, ◌/�
 use crate::clock::Ticks;
 use crate::desk::Desk;
 use crate::threads::Shared;
-use s4_pool::{Gate, MOST_CELLS};
+use s4_pool::{Gate, MOST_CELLS, Names};
 use s4_talk::Answer;
 use s4_types::{Caller, Moment, Principal, Request, WireVersion};
 use std::sync::Wait;
@@ -19,7 +19,7 @@ const PARTS: u64 = 20;
 const LEAST: u64 = 1000;
 
 /// Has a worker ask in each cell that is behind, since it would hold up what is cut.
-pub fn find_quiet<R: Wait, C>(shared: &Shared<'_, R, C>, cells: usize) {
+pub fn find_quiet<R: Wait, C, N: Names>(shared: &Shared<'_, R, C, N>, cells: usize) {
     let mut newest = 0;
     let mut horizon = 0;
     for cell in 0..cells {
@@ -63,9 +63,9 @@ fn bit(cell: usize) -> u64 {
 /// Asks in each cell that was found behind: the administrator, for the partitions of a principal
 /// there at a moment that isn't yet. That is answered Future, looks nothing up, and leaves a record,
 /// so the cell's horizon moves on.
-pub fn move_on<R: Wait, C: Ticks, G: Gate>(
-    shared: &Shared<'_, R, C>,
-    desk: &mut Desk<'_, R, C, G>,
+pub fn move_on<R: Wait, C: Ticks, G: Gate, N: Names>(
+    shared: &Shared<'_, R, C, N>,
+    desk: &mut Desk<'_, R, C, G, N>,
 ) {
     let quiet = shared.board.quiet.swap(0, Ordering::SeqCst);
     if quiet == 0 {

@@ -1,6 +1,6 @@
 //! The server.
 
-ghost use Rattle.std.specs.Prelude.{◌≡◌, ◌≤◌, ◌==◌, ℕ, [], false, true, IfOk, IsTrue};
+ghost use Rattle.std.specs.Prelude.{◌≡◌, ◌≤◌, ◌==◌, ℕ, [], false, true, length, IfOk, IsTrue};
 ghost use Rattle.s4_types.specs.Base.{opened};
 ghost use Rattle.s4_types.specs.Limits.{data_asked, data_in, is_within_limits};
 ghost use Rattle.s4_types.specs.Play.{replies};
@@ -9,8 +9,9 @@ ghost use Rattle.s4_drive.specs.Step.{replies_without_strangers};
 ghost use Rattle.s4_cells.specs.Played.{requests_in};
 ghost use Rattle.s4_closing.specs.Merged.{AreWhole};
 ghost use Rattle.s4_closing.specs.Order.{IsClosing, NoneWent};
+ghost use Rattle.s4_pool.specs.Counts.{NoneUncounted};
 ghost use Rattle.s4_pool.specs.Numbers.{HasAll};
-ghost use Rattle.s4_server.specs.Setup.{CarriesOut};
+ghost use Rattle.s4_server.specs.Setup.{CarriesOut, IsNamed};
 
 use crate::accepting::Door;
 use crate::board::Board;
@@ -28,7 +29,7 @@ use s4_cells::Cell;
 use s4_closing::none_went;
 use s4_command::Settings;
 use s4_jobs::{Jobs, Seat};
-use s4_pool::{Closed, Front, OpenGate, Pass};
+use s4_pool::{Blank, Closed, Front, Names, OpenGate, Pass};
 use s4_stream::Logins;
 use s4_types::{Caller, Reply, Request};
 use std::alloc::Global;
@@ -43,11 +44,11 @@ const WAITING: usize = 64;
 
 /// A server that is set up, and accepts nothing yet. Callers see its settings, and its first pass.
 #[derive(Drop)]
-pub struct Server {
+pub struct Server<N: Names> {
     alloc: Global,
     settings: Settings,
-    front: Front<OpenGate>,
-    passes: Vec<Pass>,
+    front: Front<OpenGate, N>,
+    passes: Vec<Pass<N>>,
     jobs: Jobs<Connection>,
     /// The seat of the one who accepts.
     seat: Seat<Connection>,
@@ -59,7 +60,7 @@ pub struct Server {
     outer: Watch,
 }
 
-impl Model for Server {
+impl<N: Names> Model for Server<N> {
     ghost use Rattle.std.specs.Prelude.{◌≡◌, length};
     ghost use Rattle.s4_server.specs.Places.{AreOf};
     ghost use Rattle.s4_server.specs.Setup.{Setup, first_of};
@@ -76,11 +77,17 @@ impl Model for Server {
         × AreOf s.jobs.queue s.seats.items };
 }
 
-impl Server {
+impl<N: Names + Send + Sync> Server<N> {
     /// A server of these settings: its cells, a pass, a seat and a watch for each worker, and the
-    /// queue of connections. `NoMemory` where a growth was refused, and `NoWatch` where the system
-    /// gives no watch.
-    pub fn open<N: Net>(net: &N, alloc: Global, settings: Settings) -> Result<Server, ServerFault>
+    /// queue of connections. It consumes a blank ledger for its front. `NoMemory` where a growth was
+    /// refused, and `NoWatch` where the system gives no watch.
+    pub fn open<S: Net>(
+        net: &S,
+        alloc: Global,
+        settings: Settings,
+        blank: Blank,
+    ) -> Result<Server<N>, ServerFault>
+        requires named { IsNamed N.ledger N.window N.passes blank.ledger settings }
         ensures settings { IfOk result (λ server. server.settings ≡ settings) }
         ensures none { IfOk result (λ server. server.first.calls ≡ []) }
     {
@@ -90,7 +97,7 @@ impl Server {
             workers,
             ..
         } = settings;
-        let (front, passes) = Front::open(alloc, window, cells, workers, OpenGate)?;
+        let (front, passes) = Front::open(alloc, window, cells, workers, OpenGate, blank)?;
         let (jobs, mut seats) = Jobs::open(alloc, WAITING, workers + 1)?;
         let seat = seats.remove(0);
         let (outer, watches, posts) = open_watches(net, alloc, workers)?;
@@ -142,8 +149,11 @@ impl Server {
         listener: &TcpListener,
         logins: Logins,
         keeper: Option<Keeper>,
-    ) -> Result<Closed, ServerFault>
+    ) -> Result<Closed<N>, ServerFault>
         ensures there { IfOk result (λ closed. HasAll self.settings.workers closed.passes.items) }
+        ensures count { IfOk result (λ closed. length closed.cells.items ≡ self.settings.cells) }
+        ensures counted { IfOk result
+            (λ closed. NoneUncounted closed.cells.items closed.passes.items) }
         ensures whole { IfOk result (λ closed. AreWhole self.settings.window closed.cells.items) }
         ensures history { IfOk result
             (λ closed. IsClosing self.settings.window closed.cells.items closed.passes.items

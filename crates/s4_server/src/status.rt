@@ -7,7 +7,7 @@ use crate::peers::States;
 use crate::post::Post;
 use crate::tally::{KINDS, Tally};
 use crate::threads::Shared;
-use s4_pool::Measure;
+use s4_pool::{Measure, Names};
 use s4_types::NoMemory;
 use serde::Serialize;
 use std::alloc::Global;
@@ -192,8 +192,8 @@ impl Connections {
 
 impl Status {
     /// What the server tells now.
-    pub fn now<R: Wait, C: Ticks>(
-        shared: &Shared<'_, R, C>,
+    pub fn now<R: Wait, C: Ticks, N: Names>(
+        shared: &Shared<'_, R, C, N>,
         cells: usize,
         keeper: Option<&Keeper>,
         resident_bytes: Option<u64>,
@@ -220,9 +220,9 @@ impl Status {
     }
 
     /// Adds what the cells hold.
-    fn count_cells<R: Wait, C>(
+    fn count_cells<R: Wait, C, N: Names>(
         &mut self,
-        shared: &Shared<'_, R, C>,
+        shared: &Shared<'_, R, C, N>,
         cells: usize,
     ) -> Result<(), NoMemory> {
         for cell in 0..cells {

@@ -7,6 +7,7 @@ use crate::keeper::Keeper;
 use crate::status::Status;
 use crate::threads::Shared;
 use crate::upkeep::Upkeep;
+use s4_pool::Names;
 use std::alloc::{AllocError, Global};
 use std::sync::Wait;
 use std::sync::atomic::Ordering;
@@ -40,9 +41,9 @@ impl<'a> Telling<'a> {
 
     /// Tells how the server is, where there is a file for that and it is time. Where it can't, it
     /// says so on standard error, once until it can again.
-    pub fn tell<R: Wait + Eprint, C: Ticks>(
+    pub fn tell<R: Wait + Eprint, C: Ticks, N: Names>(
         &mut self,
-        shared: &Shared<'_, R, C>,
+        shared: &Shared<'_, R, C, N>,
         cells: usize,
         keeper: Option<&Keeper>,
     ) {
@@ -67,9 +68,9 @@ impl<'a> Telling<'a> {
 
     /// Writes how the server is into a file beside the one that is wanted, and has it take that
     /// one's place.
-    fn write<R: Wait, C: Ticks>(
+    fn write<R: Wait, C: Ticks, N: Names>(
         &self,
-        shared: &Shared<'_, R, C>,
+        shared: &Shared<'_, R, C, N>,
         cells: usize,
         keeper: Option<&Keeper>,
         path: &str,

@@ -14,7 +14,7 @@ use crate::upkeep::{Reloading, Upkeep};
 use crate::workers::Worker;
 use s4_command::{Patience, Settings};
 use s4_jobs::{Jobs, Seat};
-use s4_pool::{Front, OpenGate};
+use s4_pool::{Front, Names, OpenGate};
 use s4_types::Moment;
 use std::alloc::Global;
 use std::sync::Wait;
@@ -34,10 +34,10 @@ const REST: u64 = 100;
 
 /// What the threads of a server share.
 #[derive(Drop)]
-pub struct Shared<'a, R, C> {
+pub struct Shared<'a, R, C, N: Names> {
     pub rt: &'a R,
     pub alloc: Global,
-    pub front: &'a Front<OpenGate>,
+    pub front: &'a Front<OpenGate, N>,
     pub clock: &'a C,
     pub upkeep: &'a Upkeep<'a>,
     pub board: &'a Board,
@@ -55,13 +55,13 @@ pub struct Shared<'a, R, C> {
 pub const OTHERS: u64 = 3;
 
 /// Serves connections, sweeps and looks after files meanwhile, until the last connection has ended.
-pub fn run_threads<R: Threads + Wait + Clock + Eprint + Sync, C: Ticks>(
-    shared: &Shared<'_, R, C>,
+pub fn run_threads<R: Threads + Wait + Clock + Eprint + Sync, C: Ticks, N: Names + Send + Sync>(
+    shared: &Shared<'_, R, C, N>,
     settings: &Settings,
     door: Door<'_>,
     jobs: &Jobs<Connection>,
     seat: Seat<Connection>,
-    workers: &mut [Worker<'_, R, C>],
+    workers: &mut [Worker<'_, R, C, N>],
     reloading: Reloading<'_>,
     keeper: Option<Keeper>,
 )
@@ -83,8 +83,8 @@ pub fn run_threads<R: Threads + Wait + Clock + Eprint + Sync, C: Ticks>(
 }
 
 /// Sweeps in one thread, and looks after files in another.
-fn look_after<R: Threads + Wait + Clock + Eprint + Sync, C: Ticks>(
-    shared: &Shared<'_, R, C>,
+fn look_after<R: Threads + Wait + Clock + Eprint + Sync, C: Ticks, N: Names + Send + Sync>(
+    shared: &Shared<'_, R, C, N>,
     cells: usize,
     mut reloading: Reloading<'_>,
     mut keeper: Option<Keeper>,
@@ -102,13 +102,13 @@ fn look_after<R: Threads + Wait + Clock + Eprint + Sync, C: Ticks>(
 }
 
 /// Accepts connections in one thread, and has each worker serve them in another.
-fn serve_to_the_end<R: Threads + Wait + Clock + Eprint + Sync, C: Ticks>(
-    shared: &Shared<'_, R, C>,
+fn serve_to_the_end<R: Threads + Wait + Clock + Eprint + Sync, C: Ticks, N: Names + Send + Sync>(
+    shared: &Shared<'_, R, C, N>,
     settings: &Settings,
     mut door: Door<'_>,
     jobs: &Jobs<Connection>,
     mut seat: Seat<Connection>,
-    workers: &mut [Worker<'_, R, C>],
+    workers: &mut [Worker<'_, R, C, N>],
     ended: &AtomicBool,
 )
     requires { seat.queue ≡ jobs.now.queue }
@@ -124,8 +124,8 @@ fn serve_to_the_end<R: Threads + Wait + Clock + Eprint + Sync, C: Ticks>(
 }
 
 /// Accepts connections, and tells the workers of the last one.
-fn accept_to_the_end<R: Wait + Clock, C: Ticks>(
-    shared: &Shared<'_, R, C>,
+fn accept_to_the_end<R: Wait + Clock, C: Ticks, N: Names>(
+    shared: &Shared<'_, R, C, N>,
     settings: &Settings,
     door: &mut Door<'_>,
     jobs: &Jobs<Connection>,
@@ -148,9 +148,9 @@ fn accept_to_the_end<R: Wait + Clock, C: Ticks>(
 }
 
 /// Has each worker serve connections in a thread of its own, to the end.
-fn work_all<R: Threads + Wait + Clock + Sync, C: Ticks>(
-    shared: &Shared<'_, R, C>,
-    workers: &mut [Worker<'_, R, C>],
+fn work_all<R: Threads + Wait + Clock + Sync, C: Ticks, N: Names + Send + Sync>(
+    shared: &Shared<'_, R, C, N>,
+    workers: &mut [Worker<'_, R, C, N>],
 ) {
     let count = workers.len();
     if count > 0 {
@@ -162,8 +162,8 @@ fn work_all<R: Threads + Wait + Clock + Sync, C: Ticks>(
 /// workers look after their peers. Where the server cuts, the records that no reply needs any more
 /// are cut after each round, but none that its journal may lack; a cut that memory was refused for
 /// is made up for by the next one. And cells that nobody asks are found, which would hold it up.
-fn sweep_to_the_end<R: Wait + Clock, C: Ticks>(
-    shared: &Shared<'_, R, C>,
+fn sweep_to_the_end<R: Wait + Clock, C: Ticks, N: Names>(
+    shared: &Shared<'_, R, C, N>,
     cells: usize,
     ended: &AtomicBool,
 )
@@ -192,7 +192,7 @@ fn sweep_to_the_end<R: Wait + Clock, C: Ticks>(
 
 /// Sweeps the cells in turn, piece by piece, until there is no more to free or the time for that is
 /// over.
-fn sweep_all<R: Wait, C: Ticks>(shared: &Shared<'_, R, C>, cells: usize, begun: u64)
+fn sweep_all<R: Wait, C: Ticks, N: Names>(shared: &Shared<'_, R, C, N>, cells: usize, begun: u64)
     requires { cells ≡ shared.now.front.now.cells }
 {
     for _ in shared.rt.forever() {
@@ -209,8 +209,8 @@ fn sweep_all<R: Wait, C: Ticks>(shared: &Shared<'_, R, C>, cells: usize, begun: 
 
 /// Looks after the server's files, round by round, until the end: whether it is to end, whether the
 /// logins have changed, its journal, and what is told of it.
-fn keep_to_the_end<R: Wait + Clock + Eprint, C: Ticks>(
-    shared: &Shared<'_, R, C>,
+fn keep_to_the_end<R: Wait + Clock + Eprint, C: Ticks, N: Names>(
+    shared: &Shared<'_, R, C, N>,
     cells: usize,
     reloading: &mut Reloading<'_>,
     keeper: &mut Option<Keeper>,
@@ -238,7 +238,10 @@ fn keep_to_the_end<R: Wait + Clock + Eprint, C: Ticks>(
 }
 
 /// Reads the logins again where it is time and they changed, and tells where they can't be had.
-fn reload<R: Wait + Eprint, C>(shared: &Shared<'_, R, C>, reloading: &mut Reloading<'_>) {
+fn reload<R: Wait + Eprint, C, N: Names>(
+    shared: &Shared<'_, R, C, N>,
+    reloading: &mut Reloading<'_>,
+) {
     let now = shared.board.time.load(Ordering::SeqCst);
     if reloading.is_due(now) {
         if let Err(fault) = reloading.read(shared.rt, &shared.board.tables) {

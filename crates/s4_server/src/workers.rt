@@ -14,7 +14,7 @@ use crate::threads::Shared;
 use crate::watch::{Watch, place_of};
 use mio::net::TcpStream;
 use s4_jobs::{Jobs, Seat};
-use s4_pool::{OpenGate, Pass};
+use s4_pool::{Names, OpenGate, Pass};
 use s4_types::NoMemory;
 use std::alloc::Global;
 use std::sync::Wait;
@@ -24,7 +24,7 @@ use std::time::Clock;
 /// A worker's place: where it takes connections, where it waits for what their peers say, and where
 /// it answers their requests.
 #[derive(Drop)]
-pub struct Worker<'a, R, C> {
+pub struct Worker<'a, R, C, N: Names> {
     jobs: &'a Jobs<Connection>,
     seat: Seat<Connection>,
     /// How many connections it took.
@@ -32,18 +32,18 @@ pub struct Worker<'a, R, C> {
     post: &'a Post,
     watch: Watch,
     peers: Peers,
-    desk: Desk<'a, R, C, OpenGate>,
+    desk: Desk<'a, R, C, OpenGate, N>,
     pub ghost same: { seat.queue ≡ jobs.now.queue },
 }
 
 /// A worker for each seat, pass, watch and post.
-pub fn staff<'a, R, C>(
-    shared: &Shared<'a, R, C>,
+pub fn staff<'a, R, C, N: Names>(
+    shared: &Shared<'a, R, C, N>,
     jobs: &'a Jobs<Connection>,
     seats: Vec<Seat<Connection>>,
-    passes: Vec<Pass>,
+    passes: Vec<Pass<N>>,
     watches: Vec<Watch>,
-) -> Result<Vec<Worker<'a, R, C>>, NoMemory>
+) -> Result<Vec<Worker<'a, R, C, N>>, NoMemory>
     requires { AreOf jobs.now.queue seats.items }
 {
     let mut seats = seats;
@@ -76,7 +76,10 @@ pub fn staff<'a, R, C>(
 }
 
 /// The passes of all workers.
-pub fn gather<R, C>(alloc: Global, workers: Vec<Worker<'_, R, C>>) -> Result<Vec<Pass>, NoMemory> {
+pub fn gather<R, C, N: Names>(
+    alloc: Global,
+    workers: Vec<Worker<'_, R, C, N>>,
+) -> Result<Vec<Pass<N>>, NoMemory> {
     let mut passes = Vec::new(alloc);
     for worker in workers {
         passes.push(worker.desk.pass)?;
@@ -84,10 +87,10 @@ pub fn gather<R, C>(alloc: Global, workers: Vec<Worker<'_, R, C>>) -> Result<Vec
     Ok(passes)
 }
 
-impl<R: Wait + Clock, C: Ticks> Worker<'_, R, C> {
+impl<R: Wait + Clock, C: Ticks, N: Names> Worker<'_, R, C, N> {
     /// Serves the connections that it is given, until no more are accepted and all of its own have
     /// ended.
-    pub fn run(&mut self, shared: &Shared<'_, R, C>) {
+    pub fn run(&mut self, shared: &Shared<'_, R, C, N>) {
         self.post.begin();
         if !shared.board.start.is_made(shared.rt) {
             return;
@@ -104,7 +107,7 @@ impl<R: Wait + Clock, C: Ticks> Worker<'_, R, C> {
 
     /// Takes in the connections that it was given. One for which there is no memory, or that can't
     /// be watched, is closed.
-    fn take(&mut self, shared: &Shared<'_, R, C>) {
+    fn take(&mut self, shared: &Shared<'_, R, C, N>) {
         for _ in self.taken..self.post.given() {
             let Worker {
                 jobs,
@@ -135,7 +138,7 @@ impl<R: Wait + Clock, C: Ticks> Worker<'_, R, C> {
     }
 
     /// Waits until something is told, and serves whom it is told of.
-    fn go_round(&mut self, shared: &Shared<'_, R, C>) {
+    fn go_round(&mut self, shared: &Shared<'_, R, C, N>) {
         let Worker {
             post,
             watch,
