@@ -11,5 +11,5 @@ use Rattle.s4_command.specs.declared.command.Command.TheVariants as command
 abbrev pub IsObeyed : Command → Option (List ℕ) → Option (List ℕ) → Type 0
 IsObeyed (command.Show text) before after = Appends before after (string_bytes text)
 IsObeyed (command.Call call) before after = TellsSomeReply before after
-IsObeyed (command.Serve service) before after = TellsService (string_bytes service.address) before after
+IsObeyed (command.Serve service) before after = TellsService service before after
 IsObeyed other before after = ⊤

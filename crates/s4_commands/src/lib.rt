@@ -4,6 +4,7 @@
 
 mod calling;
 mod descriptors;
+mod ending;
 mod fault;
 mod history;
 mod keeping;

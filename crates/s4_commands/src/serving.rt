@@ -1,17 +1,21 @@
 //! A served drive (docs/OPERATIONS.md).
 
-ghost use Rattle.std.specs.Prelude.{OnOk, string_bytes};
+ghost use Rattle.std.specs.Prelude.{OnOk};
 ghost use Rattle.std.specs.Io.KnownBytes.{Appends};
-ghost use Rattle.s4_commands.specs.Serving.{TellsService, closed_line, listening_line};
+ghost use Rattle.s4_server.specs.Setup.{IsNamed};
+ghost use Rattle.s4_commands.specs.Serving.{TellsService, listening_line};
 
+use crate::ending::tell_end;
 use crate::fault::Fault;
 use crate::{descriptors, keeping, setting_up};
 use s4_command::Service;
+use s4_counts::{Blank, Names};
 use s4_run::RunFault;
 use s4_server::{Server, Stopwatch, Ticks, Upkeep, beside};
 use s4_stream::Logins;
 use std::fs;
 use std::io::Write;
+use std::marker::Brand;
 use std::net::{Net, TcpListener, TcpStream};
 use std::rt::Files;
 use std::sync::Wait;
@@ -30,8 +34,8 @@ pub fn serve_at<
         + AllocGlobal,
     W: Write,
 >(rt: &R, files: &HostRuntime, service: &Service, output: &mut W) -> Result<(), Fault>
-    ensures told { OnOk result (TellsService (string_bytes service.now.address)
-        (W.contents output.old) (W.contents output.new)) }
+    ensures told { OnOk result
+        (TellsService service.now (W.contents output.old) (W.contents output.new)) }
 {
     look(files, path_in(&service.until))?;
     try_status(files, path_in(&service.status))?;
@@ -73,7 +77,8 @@ fn path_in(path: &Option<String>) -> Option<&str> {
 }
 
 /// Serves the connections of the listener to the end of the service, and tells that it listens, and
-/// how many records there are at its end.
+/// how many records there are at its end; before that the counts of its cells, where the service has
+/// a file for its status.
 pub fn serve_on<R: Net + Threads + Wait + Clock + Eprint + Sync + AllocGlobal, C: Ticks, W: Write>(
     rt: &R,
     files: &HostRuntime,
@@ -83,16 +88,46 @@ pub fn serve_on<R: Net + Threads + Wait + Clock + Eprint + Sync + AllocGlobal, C
     logins: Logins,
     output: &mut W,
 ) -> Result<(), Fault>
-    ensures told { OnOk result (TellsService (string_bytes service.now.address)
-        (W.contents output.old) (W.contents output.new)) }
+    ensures told { OnOk result
+        (TellsService service.now (W.contents output.old) (W.contents output.new)) }
+{
+    let blank = Blank::new(rt.alloc(), service.settings.cells)?;
+    serve_named::<R, C, W, Brand>(rt, files, service, clock, listener, logins, blank, output)
+}
+
+/// The same, with this ledger for its front.
+fn serve_named<
+    R: Net + Threads + Wait + Clock + Eprint + Sync + AllocGlobal,
+    C: Ticks,
+    W: Write,
+    N: Names + Send + Sync,
+>(
+    rt: &R,
+    files: &HostRuntime,
+    service: &Service,
+    clock: &C,
+    listener: &TcpListener,
+    logins: Logins,
+    blank: Blank,
+    output: &mut W,
+) -> Result<(), Fault>
+    requires named { IsNamed N.ledger N.window N.passes blank.ledger service.now.settings }
+    ensures told { OnOk result
+        (TellsService service.now (W.contents output.old) (W.contents output.new)) }
 {
     let keeper = keeping::keeper(rt, files, service)?;
-    let mut server = Server::open(rt, rt.alloc(), service.settings)?;
+    let mut server = Server::<N>::open(rt, rt.alloc(), service.settings, blank)?;
     setting_up::set_up(rt, files, &mut server, clock, path_in(&service.setup))?;
     tell_listening(output, service.address.as_str())?;
     let upkeep = upkeep_of(files, service);
     let closed = server.run(rt, clock, &upkeep, listener, logins, keeper)?;
-    tell_closed(output, closed.history.len())?;
+    let counts = service.status.is_some();
+    tell_end(
+        output,
+        counts,
+        closed.cells.as_slice(),
+        closed.history.len(),
+    )?;
     Ok(())
 }
 
@@ -113,14 +148,5 @@ fn tell_listening<W: Write>(output: &mut W, address: &str) -> Result<(), RunFaul
         (Appends (W.contents output.old) (W.contents output.new) (listening_line address.now)) }
 {
     writeln!(output, "listening {address}").map_err(RunFault::writing)?;
-    output.flush().map_err(RunFault::writing)
-}
-
-/// Writes how many records there are.
-fn tell_closed<W: Write>(output: &mut W, records: usize) -> Result<(), RunFault>
-    ensures { OnOk result
-        (Appends (W.contents output.old) (W.contents output.new) (closed_line records)) }
-{
-    writeln!(output, "closed {records}").map_err(RunFault::writing)?;
     output.flush().map_err(RunFault::writing)
 }

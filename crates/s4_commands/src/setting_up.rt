@@ -1,6 +1,9 @@
 //! What is carried out before a server listens (docs/OPERATIONS.md, "Flags").
 
+ghost use Rattle.std.specs.Prelude.{◌≡◌};
+
 use crate::fault::Fault;
+use s4_counts::Names;
 use s4_script::{NumberedLines, ReplyText, parse_principal, parse_request, read_file};
 use s4_server::{Server, Ticks};
 use s4_types::{Caller, Reply, Request, WireVersion};
@@ -22,13 +25,15 @@ struct Line {
 }
 
 /// Has the server carry out the lines of the file with this path, where one is named.
-pub fn set_up<R: Wait, C: Ticks>(
+pub fn set_up<R: Wait, C: Ticks, N: Names + Send + Sync>(
     rt: &R,
     files: &HostRuntime,
-    server: &mut Server,
+    server: &mut Server<N>,
     clock: &C,
     path: Option<&str>,
-) -> Result<(), Fault> {
+) -> Result<(), Fault>
+    ensures { server.new.settings ≡ server.old.settings }
+{
     match path {
         Some(path) => carry_out(
             rt,
@@ -57,13 +62,15 @@ fn text_of(files: &HostRuntime, path: &str) -> Option<String> {
 
 /// Has the server carry out the lines of a text in turn. The first one that is none, or is refused,
 /// ends that.
-fn carry_out<R: Wait, C: Ticks>(
+fn carry_out<R: Wait, C: Ticks, N: Names + Send + Sync>(
     rt: &R,
     alloc: Global,
-    server: &mut Server,
+    server: &mut Server<N>,
     clock: &C,
     text: &str,
-) -> Result<(), Fault> {
+) -> Result<(), Fault>
+    ensures { server.new.settings ≡ server.old.settings }
+{
     for (number, line) in NumberedLines::of(text.as_bytes()) {
         let Some(line) = line_in(alloc, line)? else {
             return Err(Fault::SetupLine(number));

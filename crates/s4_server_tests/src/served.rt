@@ -19,6 +19,8 @@ fn three_connections_are_served_in_turn(rt: HostRuntime) -> Result<(), Fail> {
             scene: Scene::Say(&[&[HELLO, CREATE], &[HELLO, WRITE], &[HELLO, READ]]),
             sent: Sent::Pieces(&[&[WELCOME, MADE], &[WELCOME, DONE], &[WELCOME, DATA]]),
             records: (3, 3),
+            // Those of 7 are in the second one of two cells.
+            counts: Some(&[0, 3]),
             ..PLAIN
         },
     )
@@ -324,6 +326,37 @@ fn a_setup_is_carried_out_first(rt: HostRuntime) -> Result<(), Fail> {
 }
 
 #[test]
+fn each_cell_counts_its_own_requests_and_the_wide_ones(rt: HostRuntime) -> Result<(), Fail> {
+    // Those of 8 are in the first cell, those of 7 in the second one, and the window's in both.
+    check(
+        &rt,
+        &rt,
+        &Row {
+            setup: "8 create 0\n7 create 0\n0 setwindow 200\n",
+            scene: Scene::Say(&[&[HELLO, WRITE, READ]]),
+            sent: Sent::Pieces(&[&[WELCOME, DONE, DATA]]),
+            records: (5, 5),
+            counts: Some(&[2, 4]),
+            ..PLAIN
+        },
+    )
+}
+
+#[test]
+fn a_server_without_a_status_tells_no_counts(rt: HostRuntime) -> Result<(), Fail> {
+    check(
+        &rt,
+        &rt,
+        &Row {
+            tells: false,
+            scene: Scene::Say(&[&[HELLO, CREATE]]),
+            sent: Sent::Pieces(&[&[WELCOME, MADE]]),
+            ..PLAIN
+        },
+    )
+}
+
+#[test]
 fn what_no_reply_needs_any_more_is_cut(rt: HostRuntime) -> Result<(), Fail> {
     check(
         &rt,
@@ -336,6 +369,7 @@ fn what_no_reply_needs_any_more_is_cut(rt: HostRuntime) -> Result<(), Fail> {
             scene: Scene::ReadLate,
             sent: Sent::Count(WELCOME.len() + MADE.len() + DONE.len() + DATA.len()),
             records: (0, 1),
+            counts: Some(&[3]),
             ..PLAIN
         },
     )

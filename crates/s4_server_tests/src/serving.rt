@@ -38,11 +38,15 @@ pub struct Row {
     pub cuts: bool,
     /// Whether it keeps its history in a folder, which then has all of it.
     pub keeps: bool,
+    /// Whether it tells of itself in a file, and so the counts of its cells at its end.
+    pub tells: bool,
     pub scene: Scene,
     /// What the peers are sent, in their order.
     pub sent: Sent,
     /// The least and the greatest number of records at the end.
     pub records: (u64, u64),
+    /// The counts of the cells at the end, where it is known which they are.
+    pub counts: Option<&'static [u64]>,
 }
 
 /// One silent peer of two cells and one worker, who has all the patience. Rows say what is otherwise.
@@ -56,9 +60,11 @@ pub const PLAIN: Row = Row {
     open: 1024,
     cuts: false,
     keeps: false,
+    tells: true,
     scene: Scene::Silent,
     sent: Sent::Count(0),
     records: (1, 1),
+    counts: None,
 };
 
 #[derive(Drop)]
@@ -98,7 +104,7 @@ fn service_of(alloc: Global, row: &Row, paths: &Paths<'_>) -> Result<Service, Fa
         logins: String::from_str(alloc, paths.logins)?,
         reload: RELOAD,
         setup: Some(String::from_str(alloc, paths.setup)?),
-        status: Some(String::from_str(alloc, paths.status)?),
+        status: status_of(alloc, row, paths)?,
         journal: journal_of(alloc, row, paths)?,
         until: Some(String::from_str(alloc, paths.end)?),
         settings: Settings {
@@ -115,6 +121,14 @@ fn service_of(alloc: Global, row: &Row, paths: &Paths<'_>) -> Result<Service, Fa
             cuts: row.cuts,
         },
     })
+}
+
+fn status_of(alloc: Global, row: &Row, paths: &Paths<'_>) -> Result<Option<String>, Fail> {
+    if row.tells {
+        Ok(Some(String::from_str(alloc, paths.status)?))
+    } else {
+        Ok(None)
+    }
 }
 
 fn journal_of(alloc: Global, row: &Row, paths: &Paths<'_>) -> Result<Option<Journal>, Fail> {
@@ -195,11 +209,56 @@ fn is_joined(bytes: &[u8], pieces: &[&[u8]]) -> bool {
     rest.is_empty()
 }
 
-/// How many records a server tells at its end.
-fn records_of(served: &[u8]) -> Option<u64> {
+/// What a server tells at its end.
+#[derive(Drop)]
+struct End {
+    /// The counts of its cells; none where it doesn't tell them.
+    counts: Vec<u64>,
+    records: u64,
+}
+
+/// What its lines tell.
+fn end_of(alloc: Global, served: &[u8]) -> Option<End> {
     let told = str::from_utf8(served).ok()?;
-    let number = told.strip_prefix("listening 127.0.0.1:27104\nclosed ")?;
-    parse_number(number.strip_suffix("\n")?).ok()
+    let (counts, number) = told
+        .strip_prefix("listening 127.0.0.1:27104\n")?
+        .split_once("closed ")?;
+    Some(End {
+        counts: counts_of(alloc, counts)?,
+        records: parse_number(number.strip_suffix("\n")?).ok()?,
+    })
+}
+
+/// The counts that the line tells, or none where it is empty.
+fn counts_of(alloc: Global, line: &str) -> Option<Vec<u64>> {
+    let mut counts = Vec::new(alloc);
+    if !line.is_empty() {
+        for word in line
+            .strip_prefix("counted ")?
+            .strip_suffix("\n")?
+            .split(' ')
+        {
+            counts.push(parse_number(word).ok()?).ok()?;
+        }
+    }
+    Some(counts)
+}
+
+/// Whether the end is as the row wants it. Each record counts in a cell.
+fn is_end(end: &End, row: &Row) -> bool {
+    let (least, most) = row.records;
+    let cells = if row.tells { row.cells } else { 0 };
+    let counted = end
+        .counts
+        .iter()
+        .fold(0u64, |all, count| all.saturating_add(*count));
+    least <= end.records
+        && end.records <= most
+        && end.counts.len() == cells
+        && (!row.tells || end.records <= counted)
+        && row
+            .counts
+            .is_none_or(|wanted| end.counts.as_slice() == wanted)
 }
 
 /// What a server writes, and what its peers are sent.
@@ -246,12 +305,9 @@ fn serve_beside<
 }
 
 /// Whether a server and its peers were told what is wanted.
-fn is_told(told: &Told, row: &Row) -> bool {
-    let (least, most) = row.records;
-    match records_of(told.served.as_slice()) {
-        Some(records) => {
-            least <= records && records <= most && is_sent(&told.heard, &row.sent, records)
-        }
+fn is_told(told: &Told, end: &Option<End>, row: &Row) -> bool {
+    match end {
+        Some(end) => is_end(end, row) && is_sent(&told.heard, &row.sent, end.records),
         None => false,
     }
 }
@@ -292,9 +348,10 @@ pub fn check<
         let _ = fs::remove_file(files, path);
     }
     let served = str::from_utf8(&told.served);
-    assert!(rt; is_told(&told, row), "{served:?}");
+    let end = end_of(alloc, told.served.as_slice());
+    assert!(rt; is_told(&told, &end, row), "{served:?}");
     if row.keeps {
-        check_journal(rt, files, paths.journal, records_of(told.served.as_slice()))?;
+        check_journal(rt, files, paths.journal, end.map(|end| end.records))?;
     }
     Ok(())
 }
