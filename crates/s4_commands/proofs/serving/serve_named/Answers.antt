@@ -11,10 +11,10 @@ returns g c =
     let held = g.W.Write.contents in
     let listening = subst (λ (address : List ℕ). Appends (held c.args.output.now) (held c.tell_listening.new.output) (listening_line address))
     c.as_str.ensures.value c.in_ok-tell_listening.ensures in
-    let ends = subst (λ (cells : List Log). Appends (held c.tell_listening.new.output) (held c.tell_end.new.output) (end_lines c.is_some.result cells c.len.result))
+    let ends = subst (λ (cells : List Log). Appends (held c.tell_listening.new.output) (held c.tell_end.new.output) (end_lines c.is_some-counts.result cells c.len.result))
     c.as_slice.ensures.value c.in_ok-tell_end.ensures in
     let as_told = subst (λ (counts : Bool). Appends (held c.tell_listening.new.output) (held c.tell_end.new.output) (end_lines counts c.in_ok-closed.closed.cells.items c.len.result))
-    c.is_some.ensures ends in
+    c.is_some-counts.ensures ends in
     record {
       told = record {
         cells = c.in_ok-closed.closed.cells.items;
