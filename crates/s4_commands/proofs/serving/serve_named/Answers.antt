@@ -1,7 +1,7 @@
 use Rattle.std.proofs.Common.{ℕ, Bool, List, ap, subst, string_bytes, ◌∙◌}
 use Rattle.std.specs.Io.KnownBytes.{Appends}
 use Rattle.s4_types.specs.Log.{Log}
-use Rattle.s4_server.specs.Setup.{Setup}
+use Rattle.s4_command.specs.declared.settings.Settings.{Settings}
 use Rattle.s4_commands.specs.Serving.{end_lines, listening_line}
 use Rattle.s4_commands.proofs.Lines.{appends_both}
 use Rattle.s4_commands.proofs.serving.serve_named.Goals as goal
@@ -19,7 +19,7 @@ returns g c =
       told = record {
         cells = c.in_ok-closed.closed.cells.items;
         records = c.len.result;
-        count = c.in_ok-closed.ensures.count ∙ ap (λ (s : Setup). s.settings.cells) c.set_up.ensures;
+        count = c.in_ok-closed.ensures.count ∙ ap (λ (s : Settings). s.cells) (c.set_up.ensures ∙ c.in_ok-server.ensures.settings);
         written = appends_both (held c.args.output.now) (held c.tell_listening.new.output) (held c.tell_end.new.output) _ _ listening as_told;
       };
     }
