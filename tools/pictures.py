@@ -1,4 +1,4 @@
-"""The pictures that pages show: SVG files, each made by graphviz from the .dot beside it."""
+"""The pictures that pages show: SVG files, each made from the .dot beside it by graphviz, or from the .csv beside it, which was measured."""
 import functools
 import hashlib
 import re
@@ -26,6 +26,12 @@ def sum_of(source):
     return hashlib.sha256(source.read_bytes()).hexdigest()
 
 
+def with_sum(svg, source):
+    """A picture that tells from which file it was made."""
+    head, tag, rest = svg.partition("<svg")
+    return f"{head}<!-- SHA-256 of {source.name}: {sum_of(source)} -->\n{tag}{rest}"
+
+
 def draw(root):
     """Makes each picture anew. Returns how many there are."""
     sources = sorted((Path(root) / FOLDER).glob("*.dot"))
@@ -36,8 +42,7 @@ def draw(root):
             sys.exit("pictures: dot isn't on the PATH; it is part of graphviz")
         except subprocess.CalledProcessError:
             sys.exit(f"pictures: dot can't draw {source.name}")
-        head, tag, rest = made.partition("<svg")
-        source.with_suffix(".svg").write_text(f"{head}<!-- SHA-256 of {source.name}: {sum_of(source)} -->\n{tag}{rest}", encoding="utf-8")
+        source.with_suffix(".svg").write_text(with_sum(made, source), encoding="utf-8")
     return len(sources)
 
 
@@ -90,16 +95,17 @@ def faults_of_crates(root):
 
 
 def faults_of_pictures(root):
-    """The pictures that weren't made from their .dot as it is now, and those that no page shows."""
+    """The pictures that weren't made from their .dot or .csv as it is now, and those that no page shows."""
     folder = Path(root) / FOLDER
     shown = {it for page in (Path(root) / "docs").glob("*.md") for it in SHOWN.findall(page.read_text(encoding="utf-8"))}
     for name in sorted({it.stem for it in folder.iterdir()}):
-        source, picture = folder / f"{name}.dot", folder / f"{name}.svg"
+        measured, picture = folder / f"{name}.csv", folder / f"{name}.svg"
+        source, call = (measured, "./memory --draw") if measured.is_file() else (folder / f"{name}.dot", "./pictures")
         told = SUM.findall(picture.read_text(encoding="utf-8")) if picture.is_file() else []
         if not source.is_file():
-            yield Finding(f"{FOLDER}/{name}.svg", 1, f"there is no {name}.dot from which it was made")
+            yield Finding(f"{FOLDER}/{name}.svg", 1, f"there is no {name}.dot and no {name}.csv from which it was made")
         elif told != [(source.name, sum_of(source))]:
-            yield Finding(f"{FOLDER}/{name}.svg", 1, f"it is older than {name}.dot: call ./pictures, look at it, and commit it")
+            yield Finding(f"{FOLDER}/{name}.svg", 1, f"it is older than {source.name}: call {call}, look at it, and commit it")
         if picture.name not in shown:
             yield Finding(f"{FOLDER}/{name}.svg", 1, "no page shows it, with words for it")
 

@@ -3,7 +3,7 @@ import shutil
 import tempfile
 from pathlib import Path
 
-from tools.pictures import CRATES, FOLDER, wrong_pictures
+from tools.pictures import CRATES, FOLDER, with_sum, wrong_pictures
 
 OLDER, LACKS, WRONG, GROUP = "it is older than", "the arrow from {} to {} isn't there", "the arrow from {} to {} is no edge", "the group '{}' isn't"
 # What is put in the place of what in a file, and where which faults are found then.
@@ -21,6 +21,8 @@ PLANTED = [
     (f"{FOLDER}/threads.dot", "puts", "hands", [(f"{FOLDER}/threads.svg", OLDER)]),
     (f"{FOLDER}/request.svg", "<!-- SHA-256", "<!-- Sum", [(f"{FOLDER}/request.svg", OLDER)]),
     ("docs/THREADS.md", "(pictures/threads.svg)", "(pictures/nothing.svg)", [(f"{FOLDER}/threads.svg", "no page shows it")]),
+    (f"{FOLDER}/measured.csv", "1,2", "1,3", [(f"{FOLDER}/measured.svg", OLDER)]),
+    (f"{FOLDER}/measured.svg", "<!-- SHA-256", "<!-- Sum", [(f"{FOLDER}/measured.svg", OLDER)]),
 ]
 
 
@@ -40,12 +42,21 @@ def faults_of_plant(room, before, plant):
             yield f"once {file} has {new!r} for {old!r}, {said!r} is said of {where}"
 
 
+def put_measured(room):
+    """Puts a picture of what was measured into a copy, and has a page show it."""
+    source, page = room / FOLDER / "measured.csv", room / "docs/THREADS.md"
+    source.write_text("second,bytes\n1,2\n", encoding="ascii")
+    source.with_suffix(".svg").write_text(with_sum("<svg/>", source), encoding="ascii")
+    page.write_text(page.read_text(encoding="utf-8") + "\n![Of bytes](pictures/measured.svg)\n", encoding="utf-8")
+
+
 def self_test(root):
     """Plants mistakes in a copy. Returns whether each is found, and nothing else."""
     with tempfile.TemporaryDirectory(prefix="pictures-") as folder:
         room = Path(folder)
         shutil.copytree(root / "docs", room / "docs")
         shutil.copy(root / "crates.txt", room)
+        put_measured(room)
         before = wrong_pictures(room)
         faults = [fault for plant in PLANTED for fault in faults_of_plant(room, before, plant)]
     print("\n".join(f"pictures: {it}" for it in faults) or f"pictures: {len(PLANTED)} planted mistakes are found")
