@@ -215,10 +215,11 @@ def compare(program, folder, all_asked, died, cuts):
 
 
 def compare_count(output, records, cuts):
-    """Whether the server tells as many records as its journal has; where it cuts, no more."""
+    """Whether the server tells as many records as its journal has; where it cuts, no more. Tells how many went."""
     count = output.removeprefix("closed ").removesuffix("\n")
     if not count.isdigit() or not (int(count) == records or cuts and int(count) < records):
         raise Wrong(f"the server writes {output!r}, and its journal has {records} records")
+    return records - int(count)
 
 
 def change_bytes(program, folder, chance):
@@ -236,8 +237,9 @@ def change_bytes(program, folder, chance):
 
 
 def serve_at_random(program, seed, count, kill):
-    """Serves while four principals ask so often at random, and compares. Tells how many replies were compared."""
-    chance = random.Random(seed)
+    """Serves while four principals ask so often at random, and compares. Tells how many replies were compared, and of a server that cuts and ends
+    how many of its records went; else None."""
+    chance, went = random.Random(seed), None
     room = Path(tempfile.mkdtemp(prefix="journals-"))
     try:
         (room / "logins").write_text("".join(f"{who} {secret(who)}\n" for who in (0, 7, 8, 9)), encoding="utf-8")
@@ -266,8 +268,9 @@ def serve_at_random(program, seed, count, kill):
             for line in errors.splitlines():
                 if " sum " in line:
                     told(program, "history", "check", room / "kept", "--sum", line.rpartition(" sum ")[2])
-            compare_count(output, records + own, cuts)
+            gone = compare_count(output, records + own, cuts)
+            went = gone if cuts else None
             change_bytes(program, room / "kept", chance)
-        return records
+        return records, went
     finally:
         shutil.rmtree(room)

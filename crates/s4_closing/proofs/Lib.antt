@@ -6,3 +6,4 @@ pub mod Ordering
 pub mod Wides
 pub mod Closing
 pub mod Transfer
+pub mod Unclaimed

@@ -1,4 +1,5 @@
 pub mod Merged
 pub mod Claims
+pub mod Claiming
 pub mod Order
 pub mod Reconciled

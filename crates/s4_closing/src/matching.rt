@@ -22,7 +22,7 @@ fn is_record_of(found: &Record, asked: &Asked, receipt: &Receipt) -> bool
 }
 
 /// Whether the record at a place is that of the call.
-fn is_at(history: &[Record], place: usize, asked: &Asked, receipt: &Receipt) -> bool
+pub(crate) fn is_at(history: &[Record], place: usize, asked: &Asked, receipt: &Receipt) -> bool
     ensures { IsTrue result ↔
         (slice_get history.now place ≡ Some (record_of (call_of asked.now receipt.now))) }
 {

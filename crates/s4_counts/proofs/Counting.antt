@@ -22,14 +22,21 @@ calls_more n (h ∷ hands) =
 
 pub one_counts : (i : ℕ) (old now : List BookState) (b : BookState) → FirstCount i old now → i < length old
     → ((none : BookState) → b.cell ≡ (get_or now i none).cell) → ((none : BookState) → b.records ≡ (get_or now i none).records + 1)
+    → ((none : BookState) → b.claims ≡ (get_or now i none).claims)
     → FirstCount (i + 1) old (set now i b)
-one_counts i old now b so_far there cell records = record {
+one_counts i old now b so_far there cell records claims = record {
   count = grind (arith, common_steps, so_far.count);
   cells = λ k none. ⊎_elim
       (λ (same : k ≡ i).
       ap (λ (j : ℕ). (get_or (set now i b) j none).cell) same
       ∙ (ap (λ (x : BookState). x.cell) (here none) ∙ (cell none ∙ (so_far.cells i none ∙ ap (λ (j : ℕ). (get_or old j none).cell) (sym same)))))
       (λ (other : k ≢ i). ap (λ (x : BookState). x.cell) (get_or-set_other now i k b none other) ∙ so_far.cells k none)
+      (cases_eq k i);
+  claims = λ k none. ⊎_elim
+      (λ (same : k ≡ i).
+      ap (λ (j : ℕ). (get_or (set now i b) j none).claims) same
+      ∙ (ap (λ (x : BookState). x.claims) (here none) ∙ (claims none ∙ (so_far.claims i none ∙ ap (λ (j : ℕ). (get_or old j none).claims) (sym same)))))
+      (λ (other : k ≢ i). ap (λ (x : BookState). x.claims) (get_or-set_other now i k b none other) ∙ so_far.claims k none)
       (cases_eq k i);
   first = λ k none lt le. ⊎_elim
       (λ (same : k ≡ i).

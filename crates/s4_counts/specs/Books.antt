@@ -2,11 +2,13 @@
 use Rattle.std.specs.Prelude.{◌≡◌, ℕ, ◌+◌, ◌<◌, ◌≤◌, ◌==◌, List, [], ◌∷◌, ◌++◌, length, slice_index_or, cond}
 use Rattle.s4_counts.specs.declared.hand.Hand.{Hand}
 use Rattle.s4_counts.specs.Hands.{hand, total, with_call}
+use Rattle.s4_counts.specs.Claims.{ClaimList}
 
--- the cell's number, and how many records were counted
+-- the cell's number, how many records were counted, and which are claimed by their calls
 pub record BookState : Type 0 where
   pub cell : ℕ
   pub records : ℕ
+  pub claims : ClaimList
 
 -- what the first hand counted
 abbrev pub records_by : List Hand → ℕ
@@ -35,6 +37,7 @@ with_calls_of cells (h ∷ hands) = hand h.parts h.cell h.records (h.calls ++ ce
 pub record FirstCount (i : ℕ) (old new : List BookState) : Type 0 where
   pub count : length new ≡ length old
   pub cells : (k : ℕ) (none : BookState) → (slice_index_or new k none).cell ≡ (slice_index_or old k none).cell
+  pub claims : (k : ℕ) (none : BookState) → (slice_index_or new k none).claims ≡ (slice_index_or old k none).claims
   pub first : (k : ℕ) (none : BookState) → k < i → k < length old → (slice_index_or new k none).records ≡ (slice_index_or old k none).records + 1
   pub others : (k : ℕ) (none : BookState) → i ≤ k → (slice_index_or new k none).records ≡ (slice_index_or old k none).records
 

@@ -1,3 +1,4 @@
 pub mod Hands
 pub mod Tokens
+pub mod Claims
 pub mod Books

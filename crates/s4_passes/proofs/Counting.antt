@@ -9,8 +9,8 @@ use Rattle.s4_counts.specs.declared.hand.Hand.{Hand}
 use Rattle.s4_counts.specs.Hands.{hand, times, with_call}
 use Rattle.s4_counts.specs.Books.{with_call_of, with_calls_of}
 use Rattle.s4_counts.proofs.Totals.{times_push}
-use Rattle.s4_passes.specs.Calls.{Call}
-use Rattle.s4_passes.specs.Counts.{is_hit, hits, IsCounted}
+use Rattle.s4_passes.specs.Calls.{Call, CallList, DroppedCalls, dropped_in}
+use Rattle.s4_passes.specs.Counts.{is_hit, hits, ever_in, AddsCall, IsCounted}
 
 abbrev one_if : Bool → ℕ
 one_if b = cond b 1 0
@@ -19,17 +19,24 @@ hits_push : (k : ℕ) (calls : List Call) (call : Call) → hits k (calls ++ cal
 hits_push k [] call = search (rules, arith)
 hits_push k (x ∷ calls) call = grind (arith, common_steps, hits_push k calls call)
 
+ever_more : (k : ℕ) (call : Call) (old new : CallList) → AddsCall call old new → ever_in k new ≡ ever_in k old + one_if (is_hit k call)
+ever_more k call old new adds =
+    let calls = ap (hits k) adds.calls in
+    let dropped = ap (λ (d : DroppedCalls). dropped_in k d) adds.dropped in
+    omega (arith, calls, dropped, hits_push k old.calls call)
+
 -- an ordinary call counts in its cell
-pub counted_one : (cells cell : ℕ) (hands : List Hand) (calls : List Call) (call : Call) → is_wide call.asked.caller call.asked.request ≡ false → call.receipt.cell ≡ cell
-    → IsCounted cells hands calls → IsCounted cells (with_call_of cell hands) (calls ++ call ∷ [])
-counted_one cells cell hands calls call narrow at is = record {
+pub counted_one : (cells cell : ℕ) (hands : List Hand) (call : Call) (old new : CallList) → is_wide call.asked.caller call.asked.request ≡ false → call.receipt.cell ≡ cell
+    → AddsCall call old new → IsCounted cells hands old → IsCounted cells (with_call_of cell hands) new
+counted_one cells cell hands call old new narrow at adds is = record {
+  few = is.few;
   mine = with_call cell is.mine;
   one = ap (with_call_of cell) is.one;
   part = is.part;
   none = is.none;
   hits_are = λ k lt.
       let one : one_if (is_hit k call) ≡ one_if (cell == k) = rw (narrow, at) refl in
-      omega (arith, one, hits_push k calls call, times_push k cell is.mine.calls, is.hits_are k lt);
+      omega (arith, one, ever_more k call old new adds, times_push k cell is.mine.calls, is.hits_are k lt);
 }
 
 times_append : (k : ℕ) (xs ys : List ℕ) → times k (xs ++ ys) ≡ times k xs + times k ys
@@ -56,14 +63,15 @@ times_once k from (suc n) le lt =
     (eqb_tells from k)
 
 -- a wide call counts in all cells
-pub counted_all : (cells : ℕ) (hands : List Hand) (calls : List Call) (call : Call) → is_wide call.asked.caller call.asked.request ≡ true
-    → IsCounted cells hands calls → IsCounted cells (with_calls_of (range_with_len 0 cells) hands) (calls ++ call ∷ [])
-counted_all cells hands calls call wide is = record {
+pub counted_all : (cells : ℕ) (hands : List Hand) (call : Call) (old new : CallList) → is_wide call.asked.caller call.asked.request ≡ true
+    → AddsCall call old new → IsCounted cells hands old → IsCounted cells (with_calls_of (range_with_len 0 cells) hands) new
+counted_all cells hands call old new wide adds is = record {
+  few = is.few;
   mine = hand is.mine.parts is.mine.cell is.mine.records (is.mine.calls ++ range_with_len 0 cells);
   one = ap (with_calls_of (range_with_len 0 cells)) is.one;
   part = is.part;
   none = is.none;
   hits_are = λ k lt.
       let one : one_if (is_hit k call) ≡ 1 = rw wide refl in
-      omega (arith, one, hits_push k calls call, times_append k is.mine.calls (range_with_len 0 cells), times_once k 0 cells (omega arith) (omega (arith, lt)), is.hits_are k lt);
+      omega (arith, one, ever_more k call old new adds, times_append k is.mine.calls (range_with_len 0 cells), times_once k 0 cells (omega arith) (omega (arith, lt)), is.hits_are k lt);
 }

@@ -3,9 +3,11 @@
 #![tactic(auto)]
 
 mod call;
+mod dropped;
 mod list;
 mod pass;
 
 pub use call::{Asked, Receipt};
+pub use dropped::Dropped;
 pub use list::Calls;
 pub use pass::{Pass, audit};

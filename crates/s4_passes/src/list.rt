@@ -1,24 +1,29 @@
 //! A list of calls.
 
-ghost use Rattle.std.specs.Prelude.{◌≡◌, ◌<◌, [], ◌∷◌, ◌++◌, OnOk, OnErr, length};
-ghost use Rattle.s4_passes.specs.Calls.{call_of, calls_of, last_call, receipts_of};
+ghost use Rattle.std.specs.Prelude.{◌≡◌, ℕ, ◌+◌, ◌<◌, ◌≤◌, ◌^◌, [], ◌∷◌, ◌++◌, OnOk, OnErr, MatchBool, length, take};
+ghost use Rattle.s4_passes.specs.Calls.{call_of, calls_of, last_moment, none_dropped, receipts_of};
+ghost use Rattle.s4_passes.specs.Counts.{AddsCall, AreBefore, ClaimsNext, Counts, Forgets, KeepsCalls};
 
 use crate::call::{Asked, Receipt};
+use crate::dropped::Dropped;
 use s4_types::{Moment, NoMemory};
 use std::alloc::Global;
 use std::marker::Model;
 
 /// A list of calls with a number. Callers see what was asked and what was told of each call as one.
+/// Calls at the front, which have claimed their records, may be dropped; they are counted then.
 #[derive(Drop)]
 pub struct Calls {
     number: u64,
+    dropped: Dropped,
     last: Moment,
+    claimed: usize,
     asked: Vec<Asked>,
     receipts: Vec<Receipt>,
 }
 
 impl Model for Calls {
-    ghost use Rattle.std.specs.Prelude.{◌≡◌, ℕ, ◌-◌, length, vec_len, vec_capacity, min};
+    ghost use Rattle.std.specs.Prelude.{◌≡◌, ◌≤◌, ℕ, ◌-◌, length, vec_len, vec_capacity, min};
     ghost use Rattle.s4_passes.specs.Calls.{CallList};
 
     ghost Value = { CallList };
@@ -27,13 +32,16 @@ impl Model for Calls {
 
     ghost view = { λ c. record {
       number = c.number;
+      dropped = c.dropped;
+      claimed = c.claimed;
       calls = calls_of c.asked.items c.receipts.items;
       room = min (vec_capacity c.asked - vec_len c.asked)
           (vec_capacity c.receipts - vec_len c.receipts);
     } };
 
     ghost invariant = { λ c. (length c.asked.items ≡ length c.receipts.items)
-        × (c.last ≡ last_receipt 0 c.receipts.items) };
+        × (c.last ≡ last_receipt c.dropped.last c.receipts.items)
+        × (c.claimed ≤ length c.receipts.items) };
 }
 
 impl Calls {
@@ -41,10 +49,14 @@ impl Calls {
     pub fn new(alloc: Global, number: u64) -> Calls
         ensures number { result.number ≡ number }
         ensures calls { result.calls ≡ [] }
+        ensures claimed { result.claimed ≡ 0 }
+        ensures dropped { result.dropped ≡ none_dropped }
     {
         Calls {
             number,
+            dropped: Dropped::none(),
             last: Moment::new(0),
+            claimed: 0,
             asked: Vec::new(alloc),
             receipts: Vec::new(alloc),
         }
@@ -57,9 +69,9 @@ impl Calls {
         self.number
     }
 
-    /// The moment of the last call, 0 where there is none.
+    /// The moment of the last call that there ever was, 0 where there was none.
     pub fn last(&self) -> Moment
-        ensures { result ≡ last_call 0 self.now.calls }
+        ensures { result ≡ last_moment self.now }
     {
         self.last
     }
@@ -79,11 +91,35 @@ impl Calls {
         (self.asked.as_slice(), self.receipts.as_slice())
     }
 
+    /// How many of the calls, from the first on, have claimed their records.
+    pub fn claimed(&self) -> usize
+        ensures claimed { result ≡ self.now.claimed }
+        ensures within { result ≤ length self.now.calls }
+    {
+        self.claimed
+    }
+
+    /// How many of the calls that have claimed their records are of moments before this one, where
+    /// their moments never go down.
+    pub fn claimed_before(&self, moment: Moment) -> usize
+        ensures within { result ≤ self.now.claimed }
+        ensures before { AreBefore moment
+            (take self.now.claimed (receipts_of self.now.calls)) result }
+    {
+        self.receipts[..self.claimed].partition_point(|receipt| receipt.moment < moment)
+    }
+
+    /// What is kept of the calls that were dropped.
+    pub fn dropped(&self) -> &Dropped
+        ensures { result.now ≡ self.now.dropped }
+    {
+        &self.dropped
+    }
+
     /// Makes room for one more call, or answers `NoMemory` where there was none and a growth was refused:
     /// then there is as much as before.
     pub fn reserve(&mut self) -> Result<(), NoMemory>
-        ensures calls { self.new.calls ≡ self.old.calls }
-        ensures number { self.new.number ≡ self.old.number }
+        ensures same { KeepsCalls self.old self.new }
         ensures room { OnOk result (0 < self.new.room) }
         ensures refused { OnErr result (self.new.room ≡ self.old.room) }
         ensures wanting { OnErr result (self.old.room ≡ 0) }
@@ -95,11 +131,47 @@ impl Calls {
     /// Adds a call, in the room for it. Takes no memory.
     pub fn add(&mut self, asked: Asked, receipt: Receipt)
         requires { 0 < self.old.room }
-        ensures calls { self.new.calls ≡ self.old.calls ++ call_of asked receipt ∷ [] }
-        ensures number { self.new.number ≡ self.old.number }
+        ensures { AddsCall (call_of asked receipt) self.old self.new }
     {
         self.asked.push_reserved(asked);
         self.last = receipt.moment;
         self.receipts.push_reserved(receipt);
+    }
+
+    /// The next call has claimed its record.
+    pub fn claim_next(&mut self)
+        requires { self.old.claimed < length self.old.calls }
+        ensures { ClaimsNext self.old self.new }
+    {
+        self.claimed += 1;
+    }
+
+    /// Drops the first calls, so many, which have claimed their records. False, and all is as it was,
+    /// where they can't be counted with those that were dropped before.
+    pub fn forget(&mut self, count: usize) -> bool
+        requires { count ≤ self.old.claimed }
+        ensures { MatchBool result (Forgets count self.old self.new)
+            (KeepsCalls self.old self.new × (2 ^ 64 ≤ self.old.dropped.all + count)) }
+    {
+        if self.dropped.all().checked_add(count as u64).is_none() {
+            return false;
+        }
+        count_first(&mut self.dropped, &self.asked, &self.receipts, count);
+        drop(self.asked.drain(..count));
+        drop(self.receipts.drain(..count));
+        self.claimed -= count;
+        true
+    }
+}
+
+/// Counts the first calls, so many, with those that were dropped.
+fn count_first(dropped: &mut Dropped, asked: &[Asked], receipts: &[Receipt], count: usize)
+    requires asked { count ≤ length asked.now }
+    requires receipts { count ≤ length receipts.now }
+    requires room { dropped.old.all + count < 2 ^ 64 }
+    ensures { Counts (take count (calls_of asked.now receipts.now)) dropped.old dropped.new }
+{
+    for at in 0..count {
+        dropped.add(&asked[at], &receipts[at]);
     }
 }

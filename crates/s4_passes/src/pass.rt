@@ -1,13 +1,14 @@
 //! A pass.
 
-ghost use Rattle.std.specs.Prelude.{◌≡◌, ◌<◌, ◌≤◌, ◌+◌, ℕ, true, false, [], ◌∷◌, ◌++◌, OnOk, OnErr, length};
+ghost use Rattle.std.specs.Prelude.{◌≡◌, ◌<◌, ◌≤◌, ◌+◌, ◌^◌, ℕ, true, false, [], ◌∷◌, ◌++◌, OnOk, OnErr, MatchBool, length, take};
 ghost use Rattle.s4_types.specs.Kinds.{is_wide};
 ghost use Rattle.s4_counts.specs.Hands.{hand, parts_of, records_of, calls_of};
 ghost use Rattle.s4_counts.specs.Books.{AreInOrder, AllCount, counted_in};
-ghost use Rattle.s4_passes.specs.Calls.{call_of, calls_of as paired, last_call, receipts_of};
-ghost use Rattle.s4_passes.specs.Counts.{IsFresh, all_hits};
+ghost use Rattle.s4_passes.specs.Calls.{call_of, calls_of as paired, last_moment, none_dropped, receipts_of};
+ghost use Rattle.s4_passes.specs.Counts.{AddsCall, AreBefore, ClaimsNext, Forgets, IsFresh, KeepsCalls, all_hits};
 
 use crate::call::{Asked, Receipt};
+use crate::dropped::Dropped;
 use crate::list::Calls;
 use s4_counts::{Book, Ledger, Names, Token, audit_books, count_all};
 use s4_types::{Moment, NoMemory};
@@ -33,7 +34,7 @@ impl<N: Names> Model for Pass<N> {
     ghost view = { λ p. p.calls };
 
     ghost invariant = { λ p. (p.token.ledger ≡ N.ledger)
-        × IsCounted N.ledger.words p.token.hands p.calls.calls };
+        × IsCounted N.ledger.words p.token.hands p.calls };
 }
 
 impl<N: Names> Pass<N> {
@@ -41,8 +42,11 @@ impl<N: Names> Pass<N> {
     pub fn new(alloc: Global, number: u64, token: Token) -> Pass<N>
         requires ledger { token.ledger ≡ N.ledger }
         requires token { IsFresh token.hands }
+        requires few { N.ledger.words ≤ 16 }
         ensures number { result.number ≡ number }
         ensures calls { result.calls ≡ [] }
+        ensures claimed { result.claimed ≡ 0 }
+        ensures dropped { result.dropped ≡ none_dropped }
     {
         Pass {
             calls: Calls::new(alloc, number),
@@ -58,9 +62,9 @@ impl<N: Names> Pass<N> {
         self.calls.number()
     }
 
-    /// The moment of the last call, 0 where there is none.
+    /// The moment of the last call that there ever was, 0 where there was none.
     pub fn last(&self) -> Moment
-        ensures { result ≡ last_call 0 self.now.calls }
+        ensures { result ≡ last_moment self.now }
     {
         self.calls.last()
     }
@@ -80,11 +84,35 @@ impl<N: Names> Pass<N> {
         self.calls.sides()
     }
 
+    /// How many of the calls, from the first on, have claimed their records.
+    pub fn claimed(&self) -> usize
+        ensures claimed { result ≡ self.now.claimed }
+        ensures within { result ≤ length self.now.calls }
+    {
+        self.calls.claimed()
+    }
+
+    /// How many of the calls that have claimed their records are of moments before this one, where
+    /// their moments never go down.
+    pub fn claimed_before(&self, moment: Moment) -> usize
+        ensures within { result ≤ self.now.claimed }
+        ensures before { AreBefore moment
+            (take self.now.claimed (receipts_of self.now.calls)) result }
+    {
+        self.calls.claimed_before(moment)
+    }
+
+    /// What is kept of the calls that were dropped.
+    pub fn dropped(&self) -> &Dropped
+        ensures { result.now ≡ self.now.dropped }
+    {
+        self.calls.dropped()
+    }
+
     /// Makes room for one more call, or answers `NoMemory` where there was none and a growth was refused:
     /// then there is as much as before.
     pub fn reserve(&mut self) -> Result<(), NoMemory>
-        ensures calls { self.new.calls ≡ self.old.calls }
-        ensures number { self.new.number ≡ self.old.number }
+        ensures same { KeepsCalls self.old self.new }
         ensures room { OnOk result (0 < self.new.room) }
         ensures refused { OnErr result (self.new.room ≡ self.old.room) }
         ensures wanting { OnErr result (self.old.room ≡ 0) }
@@ -99,8 +127,7 @@ impl<N: Names> Pass<N> {
         requires ledger { ledger.now ≡ N.ledger }
         requires ordinary { is_wide asked.caller asked.request ≡ false }
         requires cell { receipt.cell ≡ book.old.cell }
-        ensures calls { self.new.calls ≡ self.old.calls ++ call_of asked receipt ∷ [] }
-        ensures number { self.new.number ≡ self.old.number }
+        ensures adds { AddsCall (call_of asked receipt) self.old self.new }
         ensures cell { book.new.cell ≡ book.old.cell }
         ensures records { book.new.records ≡ book.old.records + 1 }
     {
@@ -122,12 +149,30 @@ impl<N: Names> Pass<N> {
         requires wide { is_wide asked.caller asked.request ≡ true }
         requires order { AreInOrder books.old }
         requires all { length books.old ≡ N.ledger.words }
-        ensures calls { self.new.calls ≡ self.old.calls ++ call_of asked receipt ∷ [] }
-        ensures number { self.new.number ≡ self.old.number }
+        ensures adds { AddsCall (call_of asked receipt) self.old self.new }
         ensures books { AllCount books.old books.new }
     {
         count_all(books, ledger, &mut self.token);
         self.calls.add(asked, receipt);
+    }
+
+    /// The next call has claimed its record.
+    pub fn claim_next(&mut self)
+        requires { self.old.claimed < length self.old.calls }
+        ensures { ClaimsNext self.old self.new }
+    {
+        self.calls.claim_next();
+    }
+
+    /// Drops the first calls, so many, which have claimed their records; how many count in each cell is
+    /// kept. False, and all is as it was, where they can't be counted with those that were dropped
+    /// before.
+    pub fn forget(&mut self, count: usize) -> bool
+        requires { count ≤ self.old.claimed }
+        ensures { MatchBool result (Forgets count self.old self.new)
+            (KeepsCalls self.old self.new × (2 ^ 64 ≤ self.old.dropped.all + count)) }
+    {
+        self.calls.forget(count)
     }
 }
 

@@ -1,4 +1,5 @@
-pub mod Cutting
+mod Awaiting
 mod Beside
+mod Claims
 mod Enough
 mod Uncounted

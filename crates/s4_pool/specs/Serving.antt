@@ -9,7 +9,8 @@ use Rattle.s4_types.specs.Log.{Log}
 use Rattle.s4_cells.specs.Many.{AllAdd}
 use Rattle.s4_passes.specs.declared.call.Asked.{Asked}
 use Rattle.s4_passes.specs.declared.call.Receipt.{Receipt}
-use Rattle.s4_passes.specs.Calls.{Call, CallList, call_of, last_call}
+use Rattle.s4_passes.specs.Calls.{Call, CallList, call_of, last_moment}
+use Rattle.s4_passes.specs.Counts.{AddsCall, KeepsCalls}
 use Rattle.s4_closing.specs.Claims.{gone}
 
 -- what a caller asked, by its clock
@@ -19,20 +20,14 @@ asked caller clock request = record { caller = caller; clock = clock; request = 
 -- the pass has one call more: what was asked, with this reply, at a moment that is neither before the clock nor before the pass's last
 pub record Serves (old new : CallList) (caller : Caller) (clock : ℕ) (request : Request) (reply : Reply) : Type 0 where
   pub receipt : Receipt
-  pub calls : new.calls ≡ old.calls ++ call_of (asked caller clock request) receipt ∷ []
-  pub number : new.number ≡ old.number
+  pub adds : AddsCall (call_of (asked caller clock request) receipt) old new
   pub reply_is : receipt.reply ≡ reply
   pub clock_is : clock ≤ receipt.moment
-  pub later : last_call 0 old.calls ≤ receipt.moment
-
--- the pass has no further call
-pub record IsIdle (old new : CallList) : Type 0 where
-  pub calls : new.calls ≡ old.calls
-  pub number : new.number ≡ old.number
+  pub later : last_moment old ≤ receipt.moment
 
 -- the pass has the call, or it met want of memory and has none
 abbrev pub ServesUnlessRefused : CallList → CallList → Caller → ℕ → Request → Reply → Type 0
-ServesUnlessRefused old new caller clock request reply = MatchBool (is_no_memory reply) (IsIdle old new)
+ServesUnlessRefused old new caller clock request reply = MatchBool (is_no_memory reply) (KeepsCalls old new)
     (Serves old new caller clock request reply)
 
 -- the record that a call's receipt speaks of
@@ -48,7 +43,7 @@ record_of_call call = record {
 -- record that the cell ever had
 pub record Adds (cell : ℕ) (before after : Log) (old new : CallList) : Type 0 where
   pub call : Call
-  pub calls : new.calls ≡ old.calls ++ call ∷ []
+  pub adds : AddsCall call old new
   pub history : after.history ≡ before.history ++ record_of_call call ∷ []
   pub base : after.base ≡ before.base
   pub place : call.receipt.place ≡ gone before + length before.history
@@ -57,7 +52,7 @@ pub record Adds (cell : ℕ) (before after : Log) (old new : CallList) : Type 0 
 -- every cell and the pass have one more: the record stands in each cell, and the receipt names the first cell's
 pub record AddsToAll (before after : List Log) (old new : CallList) : Type 0 where
   pub call : Call
-  pub calls : new.calls ≡ old.calls ++ call ∷ []
+  pub adds : AddsCall call old new
   pub records : AllAdd (record_of_call call) before after
   pub place : (none : Log) → call.receipt.place ≡ gone (slice_index_or before 0 none) + length (slice_index_or before 0 none).history
   pub cell_is : call.receipt.cell ≡ 0

@@ -2,6 +2,7 @@
 //! (docs/ARCHITECTURE.md, "Fronts").
 #![tactic(auto)]
 
+mod claimed;
 mod closes;
 mod closing;
 mod front;
@@ -13,6 +14,7 @@ mod stepping;
 mod stretch;
 mod unlocked;
 
+pub use claimed::Claimed;
 pub use closing::{CloseFault, Closed, Left, Why};
 pub use front::Front;
 pub use gate::{Gate, OpenGate};

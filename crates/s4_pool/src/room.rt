@@ -5,12 +5,14 @@ ghost use Rattle.s4_types.specs.Kinds.{is_wide};
 ghost use Rattle.s4_types.specs.Limits.{data_asked, data_in, is_within_limits};
 ghost use Rattle.s4_types.specs.Play.{is_no_memory};
 ghost use Rattle.s4_pool.specs.Counts.{AreCounted, HaveWindow, IsRest};
-ghost use Rattle.s4_pool.specs.Serving.{Serves, IsIdle};
+ghost use Rattle.s4_passes.specs.Counts.{KeepsCalls};
+ghost use Rattle.s4_pool.specs.Serving.{Serves};
 
 use crate::locked::Locked;
 use crate::locks::MOST_CELLS;
 use crate::stepping::step_in_all;
-use s4_cells::{Cell, cut_all};
+use s4_cells::Cell;
+use s4_closing::cut_claimed;
 use s4_counts::{Book, Ledger, Names, Token};
 use s4_passes::Pass;
 use s4_types::{Caller, Moment, NoMemory, Reply, Request};
@@ -65,7 +67,7 @@ impl<N: Names> Room<N> {
         ensures asked { IfOk result (λ reply. data_in reply ≤ data_asked request.now) }
         ensures pass { IfOk result (λ reply.
             Serves pass.old pass.new caller clock request.now reply) }
-        ensures idle { OnErr result (IsIdle pass.old pass.new) }
+        ensures idle { OnErr result (KeepsCalls pass.old pass.new) }
     {
         let Room { cells, books, .. } = self;
         take_out(locks, cells, books);
@@ -82,7 +84,7 @@ impl<N: Names> Room<N> {
         told
     }
 
-    /// Cuts all cells, out of their locks, and puts them back.
+    /// Cuts all cells, out of their locks, where the records that go are claimed, and puts them back.
     pub fn cut(
         &mut self,
         alloc: Global,
@@ -96,7 +98,7 @@ impl<N: Names> Room<N> {
     {
         let Room { cells, books, .. } = self;
         take_out(locks, cells, books);
-        let cut = cut_all(alloc, cells.as_mut_slice(), moment);
+        let cut = cut_claimed(alloc, cells.as_mut_slice(), books.as_mut_slice(), moment);
         put_back(cells, books, locks);
         cut
     }

@@ -6,7 +6,8 @@ ghost use Rattle.s4_types.specs.Limits.{data_asked, data_in, is_within_limits};
 ghost use Rattle.s4_types.specs.Play.{is_no_memory, last_of};
 ghost use Rattle.s4_cells.specs.Many.{Each, AllStay};
 ghost use Rattle.s4_pool.specs.Counts.{AreCounted, HaveWindow};
-ghost use Rattle.s4_pool.specs.Serving.{Serves, IsIdle, Adds, AddsToAll};
+ghost use Rattle.s4_passes.specs.Counts.{KeepsCalls};
+ghost use Rattle.s4_pool.specs.Serving.{Serves, Adds, AddsToAll};
 
 use crate::locked::Locked;
 use s4_cells::{Cell, wide_with_copy};
@@ -35,7 +36,7 @@ pub fn step_in_cell<N: Names>(
     ensures pass { IfOk result (λ reply. Serves pass.old pass.new caller clock request.now reply) }
     ensures cell { IfOk result (λ reply.
         Adds held.old.book.cell held.old.cell held.new.cell pass.old pass.new) }
-    ensures idle { OnErr result (IsIdle pass.old pass.new) }
+    ensures idle { OnErr result (KeepsCalls pass.old pass.new) }
     ensures still { OnErr result (held.new.cell ≡ held.old.cell) }
     ensures number { held.new.book.cell ≡ held.old.book.cell }
 {
@@ -84,7 +85,7 @@ pub fn step_in_all<N: Names>(
     ensures limits { IfOk result (λ reply. IsTrue (is_within_limits caller.version reply)) }
     ensures asked { IfOk result (λ reply. data_in reply ≤ data_asked request.now) }
     ensures pass { IfOk result (λ reply. Serves pass.old pass.new caller clock request.now reply) }
-    ensures idle { OnErr result (IsIdle pass.old pass.new) }
+    ensures idle { OnErr result (KeepsCalls pass.old pass.new) }
     ensures cells { OnOk result (AddsToAll cells.old cells.new pass.old pass.new) }
     ensures still { OnErr result (AllStay cells.old cells.new) }
     ensures count { length cells.new ≡ length cells.old }

@@ -4,7 +4,7 @@ ghost use Rattle.std.specs.Prelude.{◌≡◌};
 
 use crate::given::{Ask, closed, closed_again, object, open_two};
 use s4_pool::{Blank, Cell, Front, Names, OpenGate, Pass};
-use s4_types::{Moment, Request};
+use s4_types::{Moment, NoMemory, Request};
 use std::alloc::Global;
 use std::marker::Brand;
 use std::process::Abort;
@@ -39,6 +39,21 @@ fn make_asks() -> Result<Asks, Fail> {
     })
 }
 
+// Has the pass's calls claim their records, cuts the front, and drops the calls whose records went.
+fn cut<N: Names, R: Wait>(
+    rt: &R,
+    front: &Front<OpenGate, N>,
+    pass: &mut Pass<N>,
+    tick: u64,
+) -> Result<(), NoMemory> {
+    let most = pass.receipts().len();
+    front.claim(rt, pass, Moment::new(tick.saturating_add(1)), most)?;
+    let at = front.cut(rt, Moment::new(tick))?;
+    let gone = pass.claimed_before(at);
+    pass.forget(gone);
+    Ok(())
+}
+
 // Makes a hundred calls, of either cell in turn, ten ticks after one another. Behind each twenty it makes
 // a call of both, and cuts the front.
 fn call_often<N: Names, R: Wait>(
@@ -58,7 +73,7 @@ fn call_often<N: Names, R: Wait>(
         let _reply = ask.serve_at(rt, front, &mut pass, tick);
         if number % 20 == 19 {
             let _reply = asks.both.serve_at(rt, front, &mut pass, tick);
-            let _cut = front.cut(rt, Moment::new(tick));
+            let _cut = cut(rt, front, &mut pass, tick);
         }
     }
     pass
@@ -94,12 +109,18 @@ fn called<N: Names + Send + Sync, R: Threads + Wait + Sync>(
     Ok((front, a, b))
 }
 
-// That each thread made 105 calls, and that there are two cells, each of which had a record of two times
-// 50 and two times 5 calls, and lost some by the cuts.
+// That each thread made 105 calls, of which some were dropped, and that there are two cells, each of which
+// had a record of two times 50 and two times 5 calls, and lost some by the cuts.
 fn check_counts<N: Names, R: Abort>(rt: &R, cells: &[Cell], passes: &[Pass<N>]) {
+    let mut most = 0;
     for pass in passes {
-        assert_eq!(rt; pass.receipts().len(), 105);
+        let dropped = pass.dropped();
+        let left = pass.receipts().len() as u64;
+        assert_eq!(rt; dropped.all().checked_add(left), Some(105));
+        most = most.max(dropped.in_cell(0)).max(dropped.in_cell(1));
+        assert_eq!(rt; pass.last().tick(), 990);
     }
+    assert!(rt; most > 0);
     assert_eq!(rt; cells.len(), 2);
     for cell in cells {
         assert_eq!(rt; cell.next_place(), 110);

@@ -6,7 +6,7 @@ use crate::calls::{Call, check_calls, is_set};
 use crate::given::{closed, receipt};
 use s4_cells::{Cell, cut_all};
 use s4_closing::{Verdict, reconcile};
-use s4_pool::{Blank, Front, Names, OpenGate, Pass, Stretch};
+use s4_pool::{Blank, Claimed, Front, Names, OpenGate, Pass, Stretch};
 use s4_types::{Moment, Record};
 use std::alloc::Global;
 use std::marker::Brand;
@@ -52,7 +52,20 @@ fn open_worked<N: Names, R: Abort + Wait>(
     Ok((front, passes))
 }
 
-// The same, cut as far as its horizons let it.
+// Has the calls of all passes claim their records.
+fn claim_all<N: Names, R: Abort + Wait>(
+    rt: &R,
+    front: &Front<OpenGate, N>,
+    passes: &mut [Pass<N>],
+) -> Result<(), Fail> {
+    for pass in passes {
+        assert_eq!(rt; front.claim(rt, pass, Moment::new(100), 100)?, Claimed::All);
+        assert_eq!(rt; pass.claimed(), pass.receipts().len());
+    }
+    Ok(())
+}
+
+// The same, whose calls have claimed their records, cut as far as its horizons let it.
 fn cut_front<N: Names, R: Abort + Wait>(
     rt: &R,
     alloc: Global,
@@ -61,7 +74,8 @@ fn cut_front<N: Names, R: Abort + Wait>(
     requires ledger { blank.ledger ≡ N.ledger }
     requires names { (N.ledger.words ≡ 2) × (N.window ≡ 100) × (N.passes ≡ 2) }
 {
-    let (front, passes) = open_worked(rt, alloc, blank)?;
+    let (front, mut passes) = open_worked(rt, alloc, blank)?;
+    claim_all(rt, &front, &mut passes)?;
     assert_eq!(rt; front.cut(rt, Moment::new(9))?, Moment::new(6));
     Ok((front, passes))
 }
@@ -114,6 +128,99 @@ fn check_cut<N: Names, R: Abort + Wait>(rt: &R, alloc: Global, blank: Blank) -> 
 fn a_cut_goes_no_further_than_asked(rt: HostRuntime) -> Result<(), Fail> {
     let blank = Blank::new(rt.alloc(), 2)?;
     check_cut::<Brand, HostRuntime>(&rt, rt.alloc(), blank)
+}
+
+// That a cut goes no further than calls have claimed their records, one after the other.
+fn check_claims<N: Names, R: Abort + Wait>(rt: &R, alloc: Global, blank: Blank) -> Result<(), Fail>
+    requires ledger { blank.ledger ≡ N.ledger }
+    requires names { (N.ledger.words ≡ 2) × (N.window ≡ 100) × (N.passes ≡ 2) }
+{
+    let (front, mut passes) = open_worked::<N, R>(rt, alloc, blank)?;
+    let end = Moment::new(9);
+    // Behind each claim of so many calls of a pass: what it is told, and where the front is cut.
+    let rows = [
+        (0, 9, 1, Claimed::Most, 5),
+        (0, 9, 2, Claimed::All, 5),
+        (1, 5, 9, Claimed::All, 5),
+        (1, 6, 1, Claimed::Most, 5),
+        (1, 6, 9, Claimed::All, 6),
+        (0, 9, 9, Claimed::All, 6),
+    ];
+    for (number, before, most, wanted, cut) in rows {
+        let pass = passes.get_mut(number).ok_or("a pass")?;
+        let told = front.claim(rt, pass, Moment::new(before), most)?;
+        assert_eq!(rt; told, wanted, "{most} of pass {number} before {before}");
+        assert_eq!(rt; front.cut(rt, end)?, Moment::new(cut));
+    }
+    closed(alloc, front, passes)?;
+    Ok(())
+}
+
+#[test]
+fn a_cut_waits_for_calls_to_claim_their_records(rt: HostRuntime) -> Result<(), Fail> {
+    let blank = Blank::new(rt.alloc(), 2)?;
+    check_claims::<Brand, HostRuntime>(&rt, rt.alloc(), blank)
+}
+
+// That calls whose records went may be dropped, stay counted, and leave their moment.
+fn check_dropped<N: Names, R: Abort + Wait>(rt: &R, alloc: Global, blank: Blank) -> Result<(), Fail>
+    requires ledger { blank.ledger ≡ N.ledger }
+    requires names { (N.ledger.words ≡ 2) × (N.window ≡ 100) × (N.passes ≡ 2) }
+{
+    let (front, mut passes) = cut_front::<N, R>(rt, alloc, blank)?;
+    // Of each pass: how many go, how many are left, how many of those that went were wide, and how many
+    // count in either cell.
+    for (number, gone, left, wide, first, second) in [(0, 1, 1, 0, 0, 1), (1, 2, 1, 1, 2, 1)] {
+        let pass = passes.get_mut(number).ok_or("a pass")?;
+        assert_eq!(rt; pass.claimed_before(Moment::new(6)), gone);
+        assert!(rt; pass.forget(gone));
+        assert_eq!(rt; pass.receipts().len(), left);
+        assert_eq!(rt; pass.claimed(), left);
+        let dropped = pass.dropped();
+        let told = (
+            dropped.all(),
+            dropped.wide(),
+            dropped.in_cell(0),
+            dropped.in_cell(1),
+        );
+        assert_eq!(rt; told, (gone as u64, wide, first, second));
+        assert_eq!(rt; dropped.last(), Moment::new(5));
+    }
+    check_calls(rt, &front, &mut passes, LATER)?;
+    let closed = closed(alloc, front, passes)?;
+    check_history(rt, closed.history.as_slice());
+    for cell in &closed.cells {
+        assert_eq!(rt; cell.gone(), 2);
+    }
+    Ok(())
+}
+
+#[test]
+fn calls_whose_records_went_are_dropped_and_stay_counted(rt: HostRuntime) -> Result<(), Fail> {
+    let blank = Blank::new(rt.alloc(), 2)?;
+    check_dropped::<Brand, HostRuntime>(&rt, rt.alloc(), blank)
+}
+
+// That a pass without calls left goes on at the moment of the last one that it dropped.
+fn check_emptied<N: Names, R: Abort + Wait>(rt: &R, alloc: Global, blank: Blank) -> Result<(), Fail>
+    requires ledger { blank.ledger ≡ N.ledger }
+    requires names { (N.ledger.words ≡ 2) × (N.window ≡ 100) × (N.passes ≡ 2) }
+{
+    let (front, mut passes) = cut_front::<N, R>(rt, alloc, blank)?;
+    for (number, last) in [(0, 9), (1, 8)] {
+        let pass = passes.get_mut(number).ok_or("a pass")?;
+        let all = pass.claimed();
+        assert!(rt; pass.forget(all));
+        assert_eq!(rt; pass.receipts().len(), 0);
+        assert_eq!(rt; pass.last(), Moment::new(last));
+    }
+    check_calls(rt, &front, &mut passes, &[Call(0, 8, 1, 3, (9, 0, 3))])
+}
+
+#[test]
+fn a_pass_that_dropped_all_calls_keeps_its_moment(rt: HostRuntime) -> Result<(), Fail> {
+    let blank = Blank::new(rt.alloc(), 2)?;
+    check_emptied::<Brand, HostRuntime>(&rt, rt.alloc(), blank)
 }
 
 // The place of the first record, and the moments of all.

@@ -9,7 +9,7 @@ use s4_run::RunFault;
 use s4_script::{Line, ReplyText};
 use s4_stream::{Hello, Logins};
 use s4_talk::{Answer, talk};
-use s4_types::{Caller, Moment, Reply, Request, Step};
+use s4_types::{Caller, Moment, NoMemory, Reply, Request, Step};
 use std::alloc::Global;
 use std::collections::BTreeSet;
 use std::marker::Brand;
@@ -20,8 +20,7 @@ const SECRET: [u8; 16] = [0, 1, 2, 3, 4, 5, 6, 7, 8, 9, 10, 11, 12, 13, 14, 15];
 
 const SECRET_TEXT: &str = "000102030405060708090a0b0c0d0e0f";
 
-/// Answers by a front, with one pass, at the moment that it is told, and cuts all cells behind each
-/// request. Its calls are those of the pass.
+/// Answers by a front, with one pass, at the moment that it is told. Its calls are those of the pass.
 #[derive(Drop)]
 pub struct Desk<'a, N: Names, R> {
     rt: &'a R,
@@ -48,11 +47,22 @@ impl<N: Names, R: Wait> Answer for Desk<'_, N, R> {
 
     fn answer(&mut self, caller: Caller, request: Request) -> Reply {
         let (rt, moment) = (self.rt, self.moment);
-        let reply = self
-            .front
-            .serve(rt, &mut self.pass, caller, moment, &request);
-        let _ = self.front.cut(rt, moment);
-        reply
+        self.front
+            .serve(rt, &mut self.pass, caller, moment, &request)
+    }
+}
+
+impl<N: Names, R: Wait> Desk<'_, N, R> {
+    /// Has all calls claim their records, cuts all cells as far as their horizons let it, and drops the
+    /// calls whose records went.
+    fn cut(&mut self) -> Result<(), NoMemory> {
+        let end = Moment::new(u64::MAX);
+        let count = self.pass.receipts().len();
+        self.front.claim(self.rt, &mut self.pass, end, count)?;
+        let cut = self.front.cut(self.rt, end)?;
+        let gone = self.pass.claimed_before(cut);
+        self.pass.forget(gone);
+        Ok(())
     }
 }
 
@@ -101,6 +111,7 @@ fn tell_by_front<N: Names, R: Wait>(
             ) => {
                 desk.moment = *moment;
                 let reply = heard(&mut desk, alloc, &logins, *caller, request)?;
+                desk.cut()?;
                 writeln!(told, "{}", ReplyText(&reply))?;
             }
             Line::Step(Step::Sweep { n }) => {

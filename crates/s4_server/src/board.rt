@@ -35,6 +35,12 @@ pub struct Board {
     /// Before this moment no record is missing in the journal, as far as that is known to last; the
     /// greatest moment where none is kept.
     pub kept: AtomicU64,
+    /// Calls of moments before this one are to claim their records.
+    pub due: AtomicU64,
+    /// The records before this moment went.
+    pub cut: AtomicU64,
+    /// A call has no record, or a record no call.
+    pub stray: AtomicBool,
 }
 
 impl Board {
@@ -62,6 +68,9 @@ impl Board {
             tally: Tally::new(alloc)?,
             notes,
             kept: AtomicU64::new(if keeps { 0 } else { u64::MAX }),
+            due: AtomicU64::new(0),
+            cut: AtomicU64::new(0),
+            stray: AtomicBool::new(false),
         })
     }
 }

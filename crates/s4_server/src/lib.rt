@@ -6,6 +6,7 @@ mod accepting;
 mod attempts;
 mod board;
 mod call_file;
+mod claims;
 mod clock;
 mod connection;
 mod conversation;

@@ -16,6 +16,7 @@ pub struct Post {
     greeting: AtomicU64,
     welcomed: AtomicU64,
     leaving: AtomicU64,
+    claimed: AtomicU64,
 }
 
 impl Post {
@@ -29,6 +30,7 @@ impl Post {
             greeting: AtomicU64::new(0),
             welcomed: AtomicU64::new(0),
             leaving: AtomicU64::new(0),
+            claimed: AtomicU64::new(0),
         })
     }
 
@@ -79,6 +81,11 @@ impl Post {
         }
     }
 
+    /// All of its calls of moments before this one have claimed their records.
+    pub fn claim_to(&self, moment: u64) {
+        self.claimed.store(moment, Ordering::SeqCst);
+    }
+
     /// Ends the worker's wait, or its next one.
     pub fn wake(&self) {
         // This fails only where the worker's counter of wakes is full, and then it is woken.
@@ -99,6 +106,13 @@ pub fn open(posts: &[Post]) -> u64 {
     posts
         .iter()
         .fold(0u64, |sum, post| sum.saturating_add(post.open()))
+}
+
+/// The greatest moment before which all calls of all workers have claimed their records.
+pub fn least_claimed(posts: &[Post]) -> u64 {
+    posts.iter().fold(u64::MAX, |least, post| {
+        least.min(post.claimed.load(Ordering::SeqCst))
+    })
 }
 
 /// Wakes all workers.

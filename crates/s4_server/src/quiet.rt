@@ -73,12 +73,21 @@ pub fn move_on<R: Wait, C: Ticks, G: Gate, N: Names>(
     }
     desk.connection = 0;
     for cell in 0..MOST_CELLS {
-        if quiet & bit(cell) != 0 {
+        if quiet & bit(cell) != 0 && !is_asked(shared, cell) {
             if let Some(range) = Principal::new(cell as u32) {
                 desk.answer(steward(), in_the_future(range));
             }
         }
     }
+}
+
+/// Whether the cell was asked meanwhile: as when a worker asked there while it was looked for.
+fn is_asked<R: Wait, C: Ticks, N: Names>(shared: &Shared<'_, R, C, N>, cell: usize) -> bool {
+    let now = shared.clock.moment().tick();
+    shared
+        .front
+        .measure(shared.rt, cell)
+        .is_none_or(|measure| measure.last.tick().saturating_add(LEAST) >= now)
 }
 
 /// Who asks there.

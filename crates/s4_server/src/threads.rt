@@ -4,6 +4,7 @@ ghost use Rattle.std.specs.Prelude.{◌≡◌};
 
 use crate::accepting::{Door, accept_all};
 use crate::board::Board;
+use crate::claims::Cutter;
 use crate::clock::Ticks;
 use crate::connection::Connection;
 use crate::keeper::Keeper;
@@ -15,7 +16,6 @@ use crate::workers::Worker;
 use s4_command::{Patience, Settings};
 use s4_jobs::{Jobs, Seat};
 use s4_pool::{Front, Names, OpenGate};
-use s4_types::Moment;
 use std::alloc::Global;
 use std::sync::Wait;
 use std::sync::atomic::{AtomicBool, Ordering};
@@ -29,7 +29,7 @@ const SWEPT: u64 = 256;
 /// How long it is swept in a round at most, in milliseconds, where there is always more to free.
 const SWEEPING: u64 = 10;
 
-/// How long a thread rests after each round, in milliseconds. So often it is looked for idle peers.
+/// How long a round of a thread takes at least, in milliseconds. So often it is looked for idle peers.
 const REST: u64 = 100;
 
 /// What the threads of a server share.
@@ -159,10 +159,10 @@ fn work_all<R: Threads + Wait + Clock + Sync, C: Ticks, N: Names + Send + Sync>(
 }
 
 /// Sweeps round by round, and once more at the end. At each round it tells the time, and has the
-/// workers look after their peers. Where the server cuts, the records that no reply needs any more
-/// are cut after each round, but none that its journal may lack; a cut that memory was refused for
-/// is made up for by the next one. And cells that nobody asks are found, which would hold it up.
-fn sweep_to_the_end<R: Wait + Clock, C: Ticks, N: Names>(
+/// workers look after their peers. Where the server cuts, cells that nobody asks are found, which
+/// would hold that up, and what calls have claimed is cut. Calls and records that don't match are told
+/// once.
+fn sweep_to_the_end<R: Wait + Clock + Eprint, C: Ticks, N: Names>(
     shared: &Shared<'_, R, C, N>,
     cells: usize,
     ended: &AtomicBool,
@@ -172,6 +172,8 @@ fn sweep_to_the_end<R: Wait + Clock, C: Ticks, N: Names>(
     if !shared.board.start.is_made(shared.rt) {
         return;
     }
+    let mut cutter = Cutter::new();
+    let mut told = false;
     for _ in shared.rt.forever() {
         let is_last = ended.load(Ordering::SeqCst);
         let now = shared.clock.moment().tick();
@@ -180,14 +182,26 @@ fn sweep_to_the_end<R: Wait + Clock, C: Ticks, N: Names>(
         sweep_all(shared, cells, now);
         if shared.cuts {
             find_quiet(shared, cells);
-            let kept = Moment::new(shared.board.kept.load(Ordering::SeqCst));
-            let _ = shared.front.cut(shared.rt, shared.clock.moment().min(kept));
+            cutter.cut(shared, cells, now);
         }
+        told = told || tell_stray(shared);
         if is_last {
             return;
         }
-        thread::sleep(shared.rt, Duration::from_millis(REST));
+        let passed = shared.clock.moment().tick().saturating_sub(now);
+        let rest = REST.saturating_sub(passed).max(SWEEPING);
+        thread::sleep(shared.rt, Duration::from_millis(rest));
     }
+}
+
+/// Says on standard error that calls and records don't match, where they don't, and whether it did.
+fn tell_stray<R: Eprint, C, N: Names>(shared: &Shared<'_, R, C, N>) -> bool {
+    let is_stray = shared.board.stray.load(Ordering::SeqCst);
+    if is_stray {
+        // Where this can't be written, nobody is told before the end.
+        let _ = eprintln!(shared.rt; "s4d: stray, and serves on");
+    }
+    is_stray
 }
 
 /// Sweeps the cells in turn, piece by piece, until there is no more to free or the time for that is

@@ -3,6 +3,7 @@
 ghost use Rattle.std.specs.Prelude.{◌≡◌};
 ghost use Rattle.s4_server.specs.Places.{AreOf};
 
+use crate::claims::claim_calls;
 use crate::clock::Ticks;
 use crate::connection::Connection;
 use crate::desk::Desk;
@@ -149,15 +150,21 @@ impl<R: Wait + Clock, C: Ticks, N: Names> Worker<'_, R, C, N> {
         let before = peers.len();
         let events = watch.wait(peers.patience());
         let now = shared.board.time.load(Ordering::SeqCst);
+        let calls = desk.pass.receipts().len();
         for event in events.iter() {
             if let Some(place) = place_of(event.token()) {
                 peers.give_turn(shared, desk, now, place, event.is_read_closed());
             }
         }
         peers.give_eager_turns(shared, desk, now);
-        if peers.look(shared, desk, now) {
+        let looks = peers.look(shared, desk, now);
+        if looks {
             post.show(&peers.states());
             move_on(shared, desk);
+        }
+        if shared.cuts {
+            let made = desk.pass.receipts().len().saturating_sub(calls);
+            claim_calls(shared, post, desk, made, looks);
         }
         if shared.board.over.load(Ordering::SeqCst) {
             peers.end(desk, now);

@@ -69,6 +69,8 @@ pub fn read_late<R: Net<Listener = TcpListener, Stream = TcpStream> + Clock>(
         thread::sleep(rt, Duration::from_millis(LATE));
         stream.write_all(said)?;
     }
+    // What is older than the window by then goes a round or three later.
+    thread::sleep(rt, Duration::from_millis(LATE));
     stream.shutdown(Shutdown::Write)?;
     let mut sent = Vec::new(alloc);
     stream.read_to_end(&mut sent)?;

@@ -15,7 +15,8 @@ loop-cell-preserved g c =
     let mine : (get_or c.loop-cell.books at none).cell ≡ at = so_far.0.cells at none ∙ c.requires.order at none c.loop-cell-test.true in (
       one_counts at c.args.books.now c.loop-cell.books c.count.new.self so_far.0 c.loop-cell-test.true
           (λ none. c.count.ensures.cell ∙ ap (λ (b : BookState). b.cell) (same none))
-          (λ none. c.count.ensures.records ∙ ap (λ (b : BookState). b.records + 1) (same none)),
+          (λ none. c.count.ensures.records ∙ ap (λ (b : BookState). b.records + 1) (same none))
+          (λ none. c.count.ensures.claims ∙ ap (λ (b : BookState). b.claims) (same none)),
       c.count.ensures.calls
           ∙ (ap (λ (n : ℕ). with_call_of n c.loop-cell.caller.hands) mine
           ∙ (ap (λ (hands : List Hand). with_call_of at hands) so_far.1 ∙ calls_more at c.args.caller.now.hands)),

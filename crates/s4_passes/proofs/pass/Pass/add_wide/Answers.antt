@@ -4,5 +4,5 @@ use Rattle.s4_passes.proofs.pass.Pass.add_wide.Goals as goal
 
 pub invariant_of-self : goal.invariant_of-self
 invariant_of-self g c =
-    let more = counted_all g.N.Names.ledger.words c.self.inside.token.hands c.self.inside.calls.calls (call_of c.args.asked c.args.receipt) c.requires.wide c.self.invariant.1 in
-    rw (c.count_all.ensures.calls, c.add.ensures.calls, c.requires.all) (c.count_all.ensures.ledger_of_caller, more)
+    let more = counted_all g.N.Names.ledger.words c.self.inside.token.hands (call_of c.args.asked c.args.receipt) c.self.inside.calls c.add.new.self c.requires.wide c.add.ensures c.self.invariant.1 in
+    rw (c.count_all.ensures.calls, c.requires.all) (c.count_all.ensures.ledger_of_caller, more)
