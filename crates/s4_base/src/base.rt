@@ -18,6 +18,7 @@ use crate::tables::Tables;
 use crate::{names, numbers};
 use s4_types::{Moment, Name, NoMemory, ObjectId, Purse, Record};
 use std::alloc::Global;
+use std::collections::VecDeque;
 use std::marker::Model;
 
 /// What the records before a moment leave (docs/MODEL.md, "Histories that are cut"): the objects
@@ -63,17 +64,22 @@ impl Base {
 
     /// What the base and the records before the moment leave, at any moment. The base itself stays
     /// as it is, also where memory is refused. This takes the time of a copy and of these records.
-    pub fn after(&self, alloc: Global, records: &[Record], cut: Moment) -> Result<Base, NoMemory>
+    pub fn after(
+        &self,
+        alloc: Global,
+        records: &VecDeque<Record>,
+        cut: Moment,
+    ) -> Result<Base, NoMemory>
         requires is_base { IsBase (base_of_lists self.now) }
-        requires order { InOrder (base_of_lists self.now).cut records.now }
-        requires counts { self.now.count + length records.now < 2 ^ 64 }
-        requires fits { CanFollowAll (base_of_lists self.now) records.now }
+        requires order { InOrder (base_of_lists self.now).cut records.now.items }
+        requires counts { self.now.count + length records.now.items < 2 ^ 64 }
+        requires fits { CanFollowAll (base_of_lists self.now) records.now.items }
         ensures { IfOk result (λ base. base_of_lists base
-            ≡ base_at (base_of_lists self.now) records.now cut) }
+            ≡ base_at (base_of_lists self.now) records.now.items cut) }
     {
         let early = count_before(records, cut);
         let mut base = self.copy()?;
-        base.tables.follow_all(alloc, &records[..early], cut)?;
+        base.tables.follow_first(alloc, records, early, cut)?;
         Ok(base)
     }
 
@@ -174,22 +180,23 @@ impl Base {
     pub fn follow_all(
         &mut self,
         alloc: Global,
-        records: &[Record],
+        records: &VecDeque<Record>,
         cut: Moment,
     ) -> Result<(), NoMemory>
         requires is_base { IsBase (base_of_lists self.old) }
-        requires order { InOrder (base_of_lists self.old).cut records.now }
-        requires last { UpTo cut records.now }
-        requires counts { self.old.count + length records.now < 2 ^ 64 }
-        requires fits { CanFollowAll (base_of_lists self.old) records.now }
+        requires order { InOrder (base_of_lists self.old).cut records.now.items }
+        requires last { UpTo cut records.now.items }
+        requires counts { self.old.count + length records.now.items < 2 ^ 64 }
+        requires fits { CanFollowAll (base_of_lists self.old) records.now.items }
         ensures ok { OnOk result (base_of_lists self.new
-            ≡ left (base_of_lists self.old) cut records.now) }
+            ≡ left (base_of_lists self.old) cut records.now.items) }
         ensures err { OnErr result
-            (HasBegun (base_of_lists self.old) (base_of_lists self.new) cut records.now) }
+            (HasBegun (base_of_lists self.old) (base_of_lists self.new) cut records.now.items) }
     {
         self.settle()?;
         let mut next = self.copy()?;
-        next.tables.follow_all(alloc, records, cut)?;
+        next.tables
+            .follow_first(alloc, records, records.len(), cut)?;
         *self = next;
         Ok(())
     }

@@ -6,7 +6,7 @@ mod base;
 mod bounds;
 mod change;
 mod follow;
-mod follow_all;
+mod follow_first;
 mod kept;
 mod keys;
 mod laws;

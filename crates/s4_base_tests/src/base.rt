@@ -13,6 +13,7 @@ use crate::values::{name, purse};
 use s4_base::{Base, count_before};
 use s4_types::{Moment, Record, Reply};
 use std::alloc::Global;
+use std::collections::VecDeque;
 use std::process::Abort;
 use std::test::Fail;
 
@@ -124,8 +125,9 @@ fn check_after(rt: &impl Abort, alloc: Global, base: &Base) -> Result<(), Fail>
     assert!(rt; base.count() < 9);
     assert!(rt; are_in_order(base.cut(), records.as_slice()));
     assert!(rt; are_plain(records.as_slice()));
-    check_left(rt, &base.after(alloc, records.as_slice(), Moment::new(30))?)?;
-    check_all(rt, &base.after(alloc, records.as_slice(), Moment::new(31))?)?;
+    let records = VecDeque::from_vec(records);
+    check_left(rt, &base.after(alloc, &records, Moment::new(30))?)?;
+    check_all(rt, &base.after(alloc, &records, Moment::new(31))?)?;
     check_followed(rt, base)
 }
 
@@ -164,8 +166,8 @@ fn check_cut(rt: &impl Abort, alloc: Global, base: &mut Base) -> Result<(), Fail
 // How many of the records at 5, 6, 6 and 8 are before a tick.
 const BEFORE: [(u64, usize); 6] = [(0, 0), (5, 0), (6, 1), (7, 3), (8, 3), (9, 4)];
 
-fn check_counts(rt: &impl Abort, records: &[Record])
-    requires { InOrder 0 records.now }
+fn check_counts(rt: &impl Abort, records: &VecDeque<Record>)
+    requires { InOrder 0 records.now.items }
 {
     for (tick, wanted) in BEFORE {
         let found = count_before(records, Moment::new(tick));
@@ -180,6 +182,6 @@ fn records_at_a_moment_are_not_before_it(rt: HostRuntime) -> Result<(), Fail> {
         records.push(windowed(tick, 10)?)?;
     }
     assert!(&rt; are_in_order(Moment::new(0), records.as_slice()));
-    check_counts(&rt, records.as_slice());
+    check_counts(&rt, &VecDeque::from_vec(records));
     Ok(())
 }

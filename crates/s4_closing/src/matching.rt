@@ -10,6 +10,7 @@ use s4_counts::Names;
 use s4_passes::{Asked, Pass, Receipt};
 use s4_types::{NoMemory, Record};
 use std::alloc::Global;
+use std::collections::VecDeque;
 
 /// Whether the record is that of the call.
 fn is_record_of(found: &Record, asked: &Asked, receipt: &Receipt) -> bool
@@ -22,9 +23,14 @@ fn is_record_of(found: &Record, asked: &Asked, receipt: &Receipt) -> bool
 }
 
 /// Whether the record at a place is that of the call.
-pub(crate) fn is_at(history: &[Record], place: usize, asked: &Asked, receipt: &Receipt) -> bool
+pub(crate) fn is_at(
+    history: &VecDeque<Record>,
+    place: usize,
+    asked: &Asked,
+    receipt: &Receipt,
+) -> bool
     ensures { IsTrue result ↔
-        (slice_get history.now place ≡ Some (record_of (call_of asked.now receipt.now))) }
+        (slice_get history.now.items place ≡ Some (record_of (call_of asked.now receipt.now))) }
 {
     match history.get(place) {
         Some(found) => is_record_of(found, asked, receipt),
@@ -91,10 +97,11 @@ fn claim_pass<N: Names>(
 }
 
 /// Whether each record that counts is claimed.
-fn are_claimed(history: &[Record], cell: usize, claimed: &[bool]) -> bool
-    requires { length claimed.now ≡ length history.now }
-    ensures { MatchBool result (AllClaimed (length history.now) history.now cell claimed.now)
-        (OneUnclaimed history.now cell claimed.now) }
+fn are_claimed(history: &VecDeque<Record>, cell: usize, claimed: &[bool]) -> bool
+    requires { length claimed.now ≡ length history.now.items }
+    ensures { MatchBool result
+        (AllClaimed (length history.now.items) history.now.items cell claimed.now)
+        (OneUnclaimed history.now.items cell claimed.now) }
 {
     for p in 0..history.len() {
         let needed = !history[p].is_wide() || cell == 0;

@@ -6,12 +6,13 @@ ghost use Rattle.s4_closing.specs.Order.{NoneWent};
 
 use s4_cells::Cell;
 use s4_types::Record;
+use std::collections::VecDeque;
 
 /// The place of the next wide record from `from` on.
-fn next_wide(history: &[Record], from: usize) -> Option<usize>
-    requires { from ≤ length history.now }
-    ensures { MatchOption result (wide_records (drop from history.now) ≡ [])
-        (λ j. IsNextWide history.now from j) }
+fn next_wide(history: &VecDeque<Record>, from: usize) -> Option<usize>
+    requires { from ≤ length history.now.items }
+    ensures { MatchOption result (wide_records (drop from history.now.items) ≡ [])
+        (λ j. IsNextWide history.now.items from j) }
 {
     for j in from..history.len() {
         if history[j].is_wide() {
@@ -22,10 +23,10 @@ fn next_wide(history: &[Record], from: usize) -> Option<usize>
 }
 
 /// The place behind the next wide record, if that is this one.
-fn go_past(found: &Record, history: &[Record], from: usize) -> Option<usize>
-    requires { from ≤ length history.now }
-    ensures { MatchOption result (IsNotNext history.now from found.now)
-        (λ y. IsPassed history.now from found.now y) }
+fn go_past(found: &Record, history: &VecDeque<Record>, from: usize) -> Option<usize>
+    requires { from ≤ length history.now.items }
+    ensures { MatchOption result (IsNotNext history.now.items from found.now)
+        (λ y. IsPassed history.now.items from found.now y) }
 {
     let j = next_wide(history, from)?;
     if !history[j].is_same(found) {
@@ -35,9 +36,9 @@ fn go_past(found: &Record, history: &[Record], from: usize) -> Option<usize>
 }
 
 /// Whether two histories have the same wide records.
-fn have_same(a: &[Record], b: &[Record]) -> bool
-    ensures { MatchBool result (wide_records a.now ≡ wide_records b.now)
-        (¬ (wide_records a.now ≡ wide_records b.now)) }
+fn have_same(a: &VecDeque<Record>, b: &VecDeque<Record>) -> bool
+    ensures { MatchBool result (wide_records a.now.items ≡ wide_records b.now.items)
+        (¬ (wide_records a.now.items ≡ wide_records b.now.items)) }
 {
     let mut j = 0;
     for i in 0..a.len() {

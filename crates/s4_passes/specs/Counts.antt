@@ -1,6 +1,5 @@
 -- Which calls count in a cell, and the token that counts them.
-use Rattle.std.specs.Prelude.{◌≡◌, ℕ, true, false, nat_lt, ◌+◌, ◌<◌, ◌≤◌, Bool, ◌||◌, ◌==◌, List, [], ◌∷◌, ◌++◌, length, count_by, take, drop}
-use Rattle.std.specs.List.Sorted.{IsPartitionedBy, IsPartitionPoint}
+use Rattle.std.specs.Prelude.{◌≡◌, ℕ, nat_lt, cond, ◌+◌, ◌<◌, ◌≤◌, Bool, ◌||◌, ◌==◌, List, [], ◌∷◌, ◌++◌, length, count_by, take, drop}
 use Rattle.s4_types.specs.Kinds.{is_wide}
 use Rattle.s4_counts.specs.declared.hand.Hand.{Hand}
 use Rattle.s4_counts.specs.Hands.{times}
@@ -27,13 +26,10 @@ abbrev pub all_hits : ℕ → List CallList → ℕ
 all_hits cell [] = 0
 all_hits cell (pass ∷ passes) = ever_in cell pass + all_hits cell passes
 
-abbrev pub is_before : ℕ → Receipt → Bool
-is_before moment receipt = nat_lt receipt.moment moment
-
--- so many of the receipts, the first ones, are before the moment, if it's the first ones that are
-abbrev pub AreBefore : ℕ → List Receipt → ℕ → Type 0
-AreBefore moment receipts count = IsPartitionedBy (is_before moment) receipts
-    → IsPartitionPoint (λ r. is_before moment r ≡ true) (λ r. is_before moment r ≡ false) receipts count
+-- how many of the receipts, from the first on until one isn't, are of moments before this one
+abbrev pub first_before : ℕ → List Receipt → ℕ
+first_before moment [] = 0
+first_before moment (receipt ∷ receipts) = cond (nat_lt receipt.moment moment) (first_before moment receipts + 1) 0
 
 -- these calls are counted with those that were dropped
 pub record Counts (calls : List Call) (old new : DroppedCalls) : Type 0 where

@@ -1,13 +1,15 @@
 //! A list of calls.
 
 ghost use Rattle.std.specs.Prelude.{◌≡◌, ℕ, ◌+◌, ◌<◌, ◌≤◌, ◌^◌, [], ◌∷◌, ◌++◌, OnOk, OnErr, MatchBool, length, take};
+ghost use Rattle.std.specs.VecDeque.{deque_len, deque_capacity};
 ghost use Rattle.s4_passes.specs.Calls.{call_of, calls_of, last_moment, none_dropped, receipts_of};
-ghost use Rattle.s4_passes.specs.Counts.{AddsCall, AreBefore, ClaimsNext, Counts, Forgets, KeepsCalls};
+ghost use Rattle.s4_passes.specs.Counts.{AddsCall, ClaimsNext, Counts, Forgets, KeepsCalls, first_before};
 
 use crate::call::{Asked, Receipt};
 use crate::dropped::Dropped;
 use s4_types::{Moment, NoMemory};
 use std::alloc::Global;
+use std::collections::VecDeque;
 use std::marker::Model;
 
 /// A list of calls with a number. Callers see what was asked and what was told of each call as one.
@@ -18,12 +20,13 @@ pub struct Calls {
     dropped: Dropped,
     last: Moment,
     claimed: usize,
-    asked: Vec<Asked>,
-    receipts: Vec<Receipt>,
+    asked: VecDeque<Asked>,
+    receipts: VecDeque<Receipt>,
 }
 
 impl Model for Calls {
-    ghost use Rattle.std.specs.Prelude.{◌≡◌, ◌≤◌, ℕ, ◌-◌, length, vec_len, vec_capacity, min};
+    ghost use Rattle.std.specs.Prelude.{◌≡◌, ◌≤◌, ℕ, ◌-◌, length, min};
+    ghost use Rattle.std.specs.VecDeque.{deque_len, deque_capacity};
     ghost use Rattle.s4_passes.specs.Calls.{CallList};
 
     ghost Value = { CallList };
@@ -35,8 +38,8 @@ impl Model for Calls {
       dropped = c.dropped;
       claimed = c.claimed;
       calls = calls_of c.asked.items c.receipts.items;
-      room = min (vec_capacity c.asked - vec_len c.asked)
-          (vec_capacity c.receipts - vec_len c.receipts);
+      room = min (deque_capacity c.asked - deque_len c.asked)
+          (deque_capacity c.receipts - deque_len c.receipts);
     } };
 
     ghost invariant = { λ c. (length c.asked.items ≡ length c.receipts.items)
@@ -57,8 +60,8 @@ impl Calls {
             dropped: Dropped::none(),
             last: Moment::new(0),
             claimed: 0,
-            asked: Vec::new(alloc),
-            receipts: Vec::new(alloc),
+            asked: VecDeque::new(alloc),
+            receipts: VecDeque::new(alloc),
         }
     }
 
@@ -77,18 +80,18 @@ impl Calls {
     }
 
     /// The receipts of the calls, in their order.
-    pub fn receipts(&self) -> &[Receipt]
-        ensures { result.now ≡ receipts_of self.now.calls }
+    pub fn receipts(&self) -> &VecDeque<Receipt>
+        ensures { result.now.items ≡ receipts_of self.now.calls }
     {
-        self.receipts.as_slice()
+        &self.receipts
     }
 
     /// What was asked, and the receipts: of each call at one place.
-    pub fn sides(&self) -> (&[Asked], &[Receipt])
-        ensures calls { calls_of result.0.now result.1.now ≡ self.now.calls }
-        ensures even { length result.0.now ≡ length result.1.now }
+    pub fn sides(&self) -> (&VecDeque<Asked>, &VecDeque<Receipt>)
+        ensures calls { calls_of result.0.now.items result.1.now.items ≡ self.now.calls }
+        ensures even { length result.0.now.items ≡ length result.1.now.items }
     {
-        (self.asked.as_slice(), self.receipts.as_slice())
+        (&self.asked, &self.receipts)
     }
 
     /// How many of the calls, from the first on, have claimed their records.
@@ -99,14 +102,14 @@ impl Calls {
         self.claimed
     }
 
-    /// How many of the calls that have claimed their records are of moments before this one, where
-    /// their moments never go down.
-    pub fn claimed_before(&self, moment: Moment) -> usize
+    /// How many of the first calls, at most so many, have claimed their records and are of moments
+    /// before this one: they are counted from the first on, until one isn't.
+    pub fn claimed_before(&self, moment: Moment, most: usize) -> usize
         ensures within { result ≤ self.now.claimed }
-        ensures before { AreBefore moment
-            (take self.now.claimed (receipts_of self.now.calls)) result }
+        ensures before { result
+            ≡ first_before moment (take most (take self.now.claimed (receipts_of self.now.calls))) }
     {
-        self.receipts[..self.claimed].partition_point(|receipt| receipt.moment < moment)
+        count_before(&self.receipts, moment, most.min(self.claimed))
     }
 
     /// What is kept of the calls that were dropped.
@@ -124,8 +127,8 @@ impl Calls {
         ensures refused { OnErr result (self.new.room ≡ self.old.room) }
         ensures wanting { OnErr result (self.old.room ≡ 0) }
     {
-        self.asked.reserve(1)?;
-        self.receipts.reserve(1)
+        make_room(&mut self.asked)?;
+        make_room(&mut self.receipts)
     }
 
     /// Adds a call, in the room for it. Takes no memory.
@@ -133,9 +136,9 @@ impl Calls {
         requires { 0 < self.old.room }
         ensures { AddsCall (call_of asked receipt) self.old self.new }
     {
-        self.asked.push_reserved(asked);
+        self.asked.push_back_reserved(asked);
         self.last = receipt.moment;
-        self.receipts.push_reserved(receipt);
+        self.receipts.push_back_reserved(receipt);
     }
 
     /// The next call has claimed its record.
@@ -164,12 +167,46 @@ impl Calls {
     }
 }
 
+/// How many of the first receipts, at most so many, are of moments before this one.
+fn count_before(receipts: &VecDeque<Receipt>, moment: Moment, most: usize) -> usize
+    requires { most ≤ length receipts.now.items }
+    ensures within { result ≤ most }
+    ensures before { result ≡ first_before moment (take most receipts.now.items) }
+{
+    for at in 0..most {
+        if receipts[at].moment >= moment {
+            return at;
+        }
+    }
+    most
+}
+
+/// Makes room for one more item.
+fn make_room<T>(list: &mut VecDeque<T>) -> Result<(), NoMemory>
+    ensures items { list.new.items ≡ list.old.items }
+    ensures ok { OnOk result (deque_len list.new < deque_capacity list.new) }
+    ensures err { OnErr result (deque_capacity list.new ≡ deque_capacity list.old) }
+    ensures wanting { OnErr result (deque_capacity list.old ≤ deque_len list.old) }
+{
+    let count = list.len();
+    if count < list.capacity() {
+        return Ok(());
+    }
+    list.reserve_exact(count.max(4))
+}
+
 /// Counts the first calls, so many, with those that were dropped.
-fn count_first(dropped: &mut Dropped, asked: &[Asked], receipts: &[Receipt], count: usize)
-    requires asked { count ≤ length asked.now }
-    requires receipts { count ≤ length receipts.now }
+fn count_first(
+    dropped: &mut Dropped,
+    asked: &VecDeque<Asked>,
+    receipts: &VecDeque<Receipt>,
+    count: usize,
+)
+    requires asked { count ≤ length asked.now.items }
+    requires receipts { count ≤ length receipts.now.items }
     requires room { dropped.old.all + count < 2 ^ 64 }
-    ensures { Counts (take count (calls_of asked.now receipts.now)) dropped.old dropped.new }
+    ensures { Counts (take count (calls_of asked.now.items receipts.now.items))
+        dropped.old dropped.new }
 {
     for at in 0..count {
         dropped.add(&asked[at], &receipts[at]);

@@ -5,7 +5,7 @@ ghost use Rattle.s4_types.specs.Kinds.{is_wide};
 ghost use Rattle.s4_counts.specs.Hands.{hand, parts_of, records_of, calls_of};
 ghost use Rattle.s4_counts.specs.Books.{AreInOrder, AllCount, counted_in};
 ghost use Rattle.s4_passes.specs.Calls.{call_of, calls_of as paired, last_moment, none_dropped, receipts_of};
-ghost use Rattle.s4_passes.specs.Counts.{AddsCall, AreBefore, ClaimsNext, Forgets, IsFresh, KeepsCalls, all_hits};
+ghost use Rattle.s4_passes.specs.Counts.{AddsCall, ClaimsNext, Forgets, IsFresh, KeepsCalls, all_hits, first_before};
 
 use crate::call::{Asked, Receipt};
 use crate::dropped::Dropped;
@@ -13,6 +13,7 @@ use crate::list::Calls;
 use s4_counts::{Book, Ledger, Names, Token, audit_books, count_all};
 use s4_types::{Moment, NoMemory};
 use std::alloc::Global;
+use std::collections::VecDeque;
 use std::marker::{Model, PhantomData};
 
 /// What a caller's calls are made with, one after the other: it keeps each of them, and counts it with
@@ -70,16 +71,16 @@ impl<N: Names> Pass<N> {
     }
 
     /// The receipts of the calls, in their order.
-    pub fn receipts(&self) -> &[Receipt]
-        ensures { result.now ≡ receipts_of self.now.calls }
+    pub fn receipts(&self) -> &VecDeque<Receipt>
+        ensures { result.now.items ≡ receipts_of self.now.calls }
     {
         self.calls.receipts()
     }
 
     /// What was asked, and the receipts: of each call at one place.
-    pub fn sides(&self) -> (&[Asked], &[Receipt])
-        ensures calls { paired result.0.now result.1.now ≡ self.now.calls }
-        ensures even { length result.0.now ≡ length result.1.now }
+    pub fn sides(&self) -> (&VecDeque<Asked>, &VecDeque<Receipt>)
+        ensures calls { paired result.0.now.items result.1.now.items ≡ self.now.calls }
+        ensures even { length result.0.now.items ≡ length result.1.now.items }
     {
         self.calls.sides()
     }
@@ -92,14 +93,14 @@ impl<N: Names> Pass<N> {
         self.calls.claimed()
     }
 
-    /// How many of the calls that have claimed their records are of moments before this one, where
-    /// their moments never go down.
-    pub fn claimed_before(&self, moment: Moment) -> usize
+    /// How many of the first calls, at most so many, have claimed their records and are of moments
+    /// before this one: they are counted from the first on, until one isn't.
+    pub fn claimed_before(&self, moment: Moment, most: usize) -> usize
         ensures within { result ≤ self.now.claimed }
-        ensures before { AreBefore moment
-            (take self.now.claimed (receipts_of self.now.calls)) result }
+        ensures before { result
+            ≡ first_before moment (take most (take self.now.claimed (receipts_of self.now.calls))) }
     {
-        self.calls.claimed_before(moment)
+        self.calls.claimed_before(moment, most)
     }
 
     /// What is kept of the calls that were dropped.

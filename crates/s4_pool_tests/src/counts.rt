@@ -49,7 +49,7 @@ fn cut<N: Names, R: Wait>(
     let most = pass.receipts().len();
     front.claim(rt, pass, Moment::new(tick.saturating_add(1)), most)?;
     let at = front.cut(rt, Moment::new(tick))?;
-    let gone = pass.claimed_before(at);
+    let gone = pass.claimed_before(at, most);
     pass.forget(gone);
     Ok(())
 }

@@ -172,7 +172,8 @@ fn check_dropped<N: Names, R: Abort + Wait>(rt: &R, alloc: Global, blank: Blank)
     // count in either cell.
     for (number, gone, left, wide, first, second) in [(0, 1, 1, 0, 0, 1), (1, 2, 1, 1, 2, 1)] {
         let pass = passes.get_mut(number).ok_or("a pass")?;
-        assert_eq!(rt; pass.claimed_before(Moment::new(6)), gone);
+        assert_eq!(rt; pass.claimed_before(Moment::new(6), 9), gone);
+        assert_eq!(rt; pass.claimed_before(Moment::new(6), 1), 1);
         assert!(rt; pass.forget(gone));
         assert_eq!(rt; pass.receipts().len(), left);
         assert_eq!(rt; pass.claimed(), left);

@@ -60,7 +60,7 @@ impl<N: Names, R: Wait> Desk<'_, N, R> {
         let count = self.pass.receipts().len();
         self.front.claim(self.rt, &mut self.pass, end, count)?;
         let cut = self.front.cut(self.rt, end)?;
-        let gone = self.pass.claimed_before(cut);
+        let gone = self.pass.claimed_before(cut, count);
         self.pass.forget(gone);
         Ok(())
     }

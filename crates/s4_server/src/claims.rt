@@ -13,11 +13,12 @@ use std::sync::atomic::Ordering;
 use std::thread;
 use std::time::{Clock, Duration, Instant};
 
-/// How many calls claim their records at a time, while others may wait for all cells.
+/// How many calls claim their records at a time, while others may wait for all cells; and how many are
+/// dropped at a time.
 const PIECE: usize = 256;
 
-/// How many pieces claim at a look, beside those for the calls that were made since: so a worker that
-/// is idle catches up.
+/// How many pieces claim and are dropped at a look, beside those for the calls that were made since: so
+/// a worker that is idle catches up.
 const CATCH_UP: usize = 32;
 
 /// Up to how many milliseconds behind the begin of a round it is cut, where there is always more.
@@ -123,8 +124,8 @@ fn due_in<R: Wait, C, N: Names>(shared: &Shared<'_, R, C, N>, cells: usize) -> u
     due
 }
 
-/// Has a worker's calls claim their records as far as they are to: twice as many as were made since the
-/// last time, and some more. At a look it drops those whose records went, and catches up.
+/// Has a worker's calls claim their records as far as they are to, and drops those whose records went:
+/// of either twice as many as were made since the last time, and some more. At a look it catches up.
 pub fn claim_calls<R: Wait, C, G: Gate, N: Names>(
     shared: &Shared<'_, R, C, N>,
     post: &Post,
@@ -132,13 +133,12 @@ pub fn claim_calls<R: Wait, C, G: Gate, N: Names>(
     made: usize,
     looks: bool,
 ) {
-    if looks {
-        let cut = shared.board.cut.load(Ordering::SeqCst);
-        forget_calls(&mut desk.pass, Moment::new(cut));
-    }
     let more = if looks { CATCH_UP } else { 1 };
+    let pieces = (made / PIECE).saturating_mul(2).saturating_add(more);
+    let cut = shared.board.cut.load(Ordering::SeqCst);
+    forget_calls(&mut desk.pass, Moment::new(cut), pieces);
     let due = shared.board.due.load(Ordering::SeqCst);
-    for _ in 0..(made / PIECE).saturating_mul(2).saturating_add(more) {
+    for _ in 0..pieces {
         match desk
             .front
             .claim(shared.rt, &mut desk.pass, Moment::new(due), PIECE)
@@ -158,12 +158,13 @@ pub fn claim_calls<R: Wait, C, G: Gate, N: Names>(
     }
 }
 
-/// Drops the calls whose records went with a cut at this moment, once they are as many as those that
-/// are left: so in all each call is moved once.
-fn forget_calls<N: Names>(pass: &mut Pass<N>, cut: Moment) {
-    let gone = pass.claimed_before(cut);
-    let left = pass.receipts().len().saturating_sub(gone);
-    if gone > 0 && left <= gone {
-        pass.forget(gone);
+/// Drops the first calls whose records went with a cut at this moment: at most so many pieces of them,
+/// so that nobody waits for long.
+fn forget_calls<N: Names>(pass: &mut Pass<N>, cut: Moment, pieces: usize) {
+    for _ in 0..pieces {
+        let gone = pass.claimed_before(cut, PIECE);
+        if gone == 0 || !pass.forget(gone) {
+            return;
+        }
     }
 }

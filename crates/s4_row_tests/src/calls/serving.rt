@@ -5,6 +5,7 @@ use crate::calls::case::Case;
 use crate::texts::invalid;
 use s4_pool::{Asked, Front, Names, OpenGate, Pass, Receipt};
 use s4_types::Reply;
+use std::collections::VecDeque;
 use std::io;
 use std::sync::Wait;
 
@@ -53,7 +54,7 @@ pub fn serve_one<N: Names, R: Wait>(
 /// That the receipt of a call stands behind so many others, and none behind it.
 fn check_receipts(
     case: &mut Case,
-    receipts: &[Receipt],
+    receipts: &VecDeque<Receipt>,
     before: usize,
     call: &Call,
 ) -> io::Result<()> {

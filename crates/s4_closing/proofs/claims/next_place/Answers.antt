@@ -8,7 +8,7 @@ use Rattle.s4_passes.specs.Calls.{Call, CallList, call_of, calls_of}
 use Rattle.s4_closing.specs.Claiming.{HasRecord, next_call}
 use Rattle.s4_closing.proofs.Claiming.{calls_more, calls_length}
 use Rattle.s4_closing.proofs.claims.next_place.Goals as goal
-use Rattle.s4_closing.proofs.claims.next_place.Goals.{then-at-asked-via-then-at-asked, then-at-asked-via-else-at-asked+then-at-receipts}
+use Rattle.s4_closing.proofs.claims.next_place.Goals.{then-at-len-via-then-at-len, then-at-len-via-else-at-len+then-at-len-2}
 
 -- the next call, by its place on both sides
 next_is : (xs : List Asked) (rs : List Receipt) (pass : CallList) (i : ℕ) (x : Asked) (r : Receipt) → calls_of xs rs ≡ pass.calls → i ≡ pass.claimed → i < length xs → i < length rs
@@ -28,24 +28,24 @@ next_within xs rs pass i call calls at even is =
 same_call : (a b : Call) → Some a ≡ Some b → a ≡ b
 same_call a b e = cc
 
-pub returns-then-at-asked : goal.returns-then-at-asked
-returns-then-at-asked g c = λ call is has.
-    let low = next_within c.sides.result.0.now c.sides.result.1.now c.args.pass.now c.claimed-at.result call c.sides.ensures.calls c.claimed-at.ensures.claimed c.sides.ensures.even is in
-    elim c.then-at-asked.branch [
-      | then-at-asked-via-then-at-asked w ↦ absurd (omega (arith, low, w.if-at-asked.true))
-      | then-at-asked-via-else-at-asked+then-at-receipts w ↦ absurd (omega (arith, low, w.if-at-receipts.true, c.sides.ensures.even))
+pub returns-then-at-len : goal.returns-then-at-len
+returns-then-at-len g c = λ call is has.
+    let low = next_within c.sides.result.0.now.items c.sides.result.1.now.items c.args.pass.now c.claimed-at.result call c.sides.ensures.calls c.claimed-at.ensures.claimed c.sides.ensures.even is in
+    elim c.then-at-len.branch [
+      | then-at-len-via-then-at-len w ↦ absurd (omega (arith, low, w.if-at-len.true, c.len.ensures))
+      | then-at-len-via-else-at-len+then-at-len-2 w ↦ absurd (omega (arith, low, w.if-at-len-2.true, w.len-else-at-len.ensures, c.sides.ensures.even))
     ]
 
 pub returns-then-not-has_record : goal.returns-then-not-has_record
 returns-then-not-has_record g c = λ call is has.
-    let mine = next_is c.sides.result.0.now c.sides.result.1.now c.args.pass.now c.claimed-at.result c.index-asked-at.result c.index-receipts-at.result c.sides.ensures.calls c.claimed-at.ensures.claimed
-    c.if-at-asked.false c.if-at-receipts.false c.index-asked-at.is c.index-receipts-at.is in
-    let same = same_call call (call_of c.index-asked-at.result c.index-receipts-at.result) (sym is ∙ mine) in
+    let mine = next_is c.sides.result.0.now.items c.sides.result.1.now.items c.args.pass.now c.claimed-at.result c.index.result.now c.index-2.result.now c.sides.ensures.calls c.claimed-at.ensures.claimed
+    (omega (arith, c.if-at-len.false, c.len.ensures)) (omega (arith, c.if-at-len-2.false, c.len-else-at-len.ensures)) c.index.ensures c.index-2.ensures in
+    let same = same_call call (call_of c.index.result.now c.index-2.result.now) (sym is ∙ mine) in
     c.if-not-has_record.ensures (subst (λ (d : Call). HasRecord c.args.n c.args.cell.now c.args.k d) same has)
 
 pub returns : goal.returns
 returns g c =
-    let mine = next_is c.sides.result.0.now c.sides.result.1.now c.args.pass.now c.claimed-at.result c.index-asked-at.result c.index-receipts-at.result c.sides.ensures.calls c.claimed-at.ensures.claimed
-    c.if-at-asked.false c.if-at-receipts.false c.index-asked-at.is c.index-receipts-at.is in
-    let place = c.index-receipts-at.is ∙ get_or_default c.sides.result.1.now c.claimed-at.result c.index-receipts-at.result c.index-receipts-at-2.result c.if-at-receipts.false in
-    (call_of c.index-asked-at.result c.index-receipts-at.result, mine, c.if-not-has_record.ensures, ap (λ (r : Receipt). r.place) place)
+    let mine = next_is c.sides.result.0.now.items c.sides.result.1.now.items c.args.pass.now c.claimed-at.result c.index.result.now c.index-2.result.now c.sides.ensures.calls c.claimed-at.ensures.claimed
+    (omega (arith, c.if-at-len.false, c.len.ensures)) (omega (arith, c.if-at-len-2.false, c.len-else-at-len.ensures)) c.index.ensures c.index-2.ensures in
+    let place = c.index-2.ensures ∙ get_or_default c.sides.result.1.now.items c.claimed-at.result c.index-2.result.now c.index-3.result.now (omega (arith, c.if-at-len-2.false, c.len-else-at-len.ensures)) ∙ sym c.index-3.ensures in
+    (call_of c.index.result.now c.index-2.result.now, mine, c.if-not-has_record.ensures, ap (λ (r : Receipt). r.place) place)

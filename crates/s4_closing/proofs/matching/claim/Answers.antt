@@ -24,7 +24,7 @@ returns-then-not-is_at c = λ before is rest.
 pub bounds-claimed-place : goal.bounds-claimed-place
 bounds-claimed-place c =
     let r = record_of (call_of c.args.asked.now c.args.receipt.now) in
-    let w = slice_get_within c.history.result.now c.in-Some.left r (c.if-not-is_at.ensures.0 refl) in
+    let w = slice_get_within c.history.result.now.items c.in-Some.left r (c.if-not-is_at.ensures.0 refl) in
     omega (arith, w, ap length c.history.ensures.value)
 
 pub returns-then-claimed-place : goal.returns-then-claimed-place
@@ -35,7 +35,7 @@ returns-then-claimed-place c = λ before is rest.
 pub bounds-claimed-place-2 : goal.bounds-claimed-place-2
 bounds-claimed-place-2 c =
     let r = record_of (call_of c.args.asked.now c.args.receipt.now) in
-    let w = slice_get_within c.history.result.now c.in-Some.left r (c.if-not-is_at.ensures.0 refl) in
+    let w = slice_get_within c.history.result.now.items c.in-Some.left r (c.if-not-is_at.ensures.0 refl) in
     omega (arith, w, ap length c.history.ensures.value)
 
 pub returns : goal.returns

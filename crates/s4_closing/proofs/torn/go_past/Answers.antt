@@ -7,18 +7,18 @@ use Rattle.s4_closing.proofs.torn.go_past.Goals as goal
 
 pub returns-then-not-is_same : goal.returns-then-not-is_same
 returns-then-not-is_same c =
-    let h = c.args.history.now in
+    let h = c.args.history.now.items in
     let j = c.in_ok-j.j in
-    let x = c.index-history-j.result in
+    let x = c.index.result.now in
     let is : IsNextWide h c.args.from j = c.in_ok-j.ensures in
-    let e : slice_get h j ≡ Some x = slice_get_read h (length h) j x refl (slice_get_within h j is.found is.is) c.index-history-j.is in
+    let e : slice_get h j ≡ Some x = slice_get_read h (length h) j x refl (slice_get_within h j is.found is.is) c.index.ensures in
     other_next h c.args.from j c.args.found.now x is e (λ s. true≢false (sym (c.if-not-is_same.ensures.1 s)))
 
 pub returns : goal.returns
 returns c =
-    let h = c.args.history.now in
+    let h = c.args.history.now.items in
     let j = c.in_ok-j.j in
-    let x = c.index-history-j.result in
+    let x = c.index.result.now in
     let is : IsNextWide h c.args.from j = c.in_ok-j.ensures in
-    let e : slice_get h j ≡ Some x = slice_get_read h (length h) j x refl (slice_get_within h j is.found is.is) c.index-history-j.is in
+    let e : slice_get h j ≡ Some x = slice_get_read h (length h) j x refl (slice_get_within h j is.found is.is) c.index.ensures in
     passed h c.args.from j c.args.found.now x is e (c.if-not-is_same.ensures.0 refl)

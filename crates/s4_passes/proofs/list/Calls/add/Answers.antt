@@ -7,7 +7,7 @@ pub invariant_of-self : goal.invariant_of-self
 invariant_of-self c =
     let asked = length-append c.self.inside.asked.items (c.args.asked ∷ []) in
     let told = length-append c.self.inside.receipts.items (c.args.receipt ∷ []) in
-    rw (c.push_reserved.ensures.items, c.push_reserved-2.ensures.items) (
+    rw (c.push_back_reserved.ensures.items, c.push_back_reserved-2.ensures.items) (
       omega (arith, asked, told, c.self.invariant.0),
       sym (last_receipt-push c.self.inside.dropped.last c.self.inside.receipts.items c.args.receipt),
       omega (arith, told, c.self.invariant.2),
@@ -16,7 +16,7 @@ invariant_of-self c =
 pub returns : goal.returns
 returns c = record {
   number = ap (λ (p : CallList). p.number) c.self.view_is;
-  calls = rw (c.push_reserved.ensures.items, c.push_reserved-2.ensures.items) (calls_of-push _ _ c.args.asked c.args.receipt c.self.invariant.0 ∙ ap (λ (p : CallList). p.calls ++ call_of c.args.asked c.args.receipt ∷ []) c.self.view_is);
+  calls = rw (c.push_back_reserved.ensures.items, c.push_back_reserved-2.ensures.items) (calls_of-push _ _ c.args.asked c.args.receipt c.self.invariant.0 ∙ ap (λ (p : CallList). p.calls ++ call_of c.args.asked c.args.receipt ∷ []) c.self.view_is);
   claimed = ap (λ (p : CallList). p.claimed) c.self.view_is;
   dropped = ap (λ (p : CallList). p.dropped) c.self.view_is;
 }

@@ -13,7 +13,7 @@ module _ (c : goal.After-self-1) where
   told_left = c.drop-2.ensures.items ∙ c.drain-2.ensures.kept
 
   counted : Counts (take c.args.count (calls_of c.self.inside.asked.items c.self.inside.receipts.items)) c.self.inside.dropped c.count_first.new.dropped
-  counted = rw (← c.deref.ensures.value, ← c.deref-2.ensures.value) c.count_first.ensures
+  counted = c.count_first.ensures
 
   few : c.args.count ≤ c.self.inside.claimed
   few = let low = ap (λ (p : CallList). p.claimed) c.self.view_is in omega (arith, low, c.requires)
