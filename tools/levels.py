@@ -142,9 +142,10 @@ def judge_times(runs, window):
         if len(p99) == 2 and p99[False]:
             ratio = p99[True] / p99[False]
             by_schedule = p99_scheduled[True] / p99_scheduled[False]
-            rows.append((f"p99 with --cut to without, {share_name(share)}", f"{ratio:.2f}; of requests each millisecond {by_schedule:.1f}"))
-            if ratio > MOST_P99:
-                wrong.append(f"{share_name(share)}: p99 is {ratio:.2f} times as great with --cut, at most {MOST_P99} wanted")
+            rows.append((f"p99 with --cut to without, {share_name(share)}", f"{ratio:.2f}; of requests each millisecond {by_schedule:.2f}"))
+            for which, found in (("p99", ratio), ("p99 of requests each millisecond", by_schedule)):
+                if found > MOST_P99:
+                    wrong.append(f"{share_name(share)}: {which} is {found:.2f} times as great with --cut, at most {MOST_P99} wanted")
     return rows, wrong
 
 

@@ -39,6 +39,14 @@ def cut_short(runs, second):
     return runs
 
 
+def standing_still(runs, seconds):
+    """The same, where the server with --cut at the full load stood still for so long once in ten seconds."""
+    for second in range(15, SECONDS, 10):
+        runs[1].whens.append(second)
+        runs[1].times.append(seconds)
+    return runs
+
+
 # What is planted in runs, and what has to be told of it; nothing of the first ones.
 RUNS = {
     "memory that is flat": (lambda: planted_runs(flat), None),
@@ -52,6 +60,7 @@ RUNS = {
     "a run that was ended behind two windows": (lambda: cut_short(planted_runs(flat), 40), "ended at 40 s"),
     "a p99 that is 2.1 times as great": (lambda: planted_runs(flat, 2.1), "full load: p99"),
     "a p99 that is 3 times as great at a tenth of the load": (lambda: planted_runs(flat, 1, 3), "a tenth of it: p99"),
+    "a server that stands still now and then": (lambda: standing_still(planted_runs(flat), 0.3), "full load: p99 of requests each millisecond"),
     "a run of which nothing was seen": (lambda: [Run(False, 1), Run(True, 1)], "too little"),
 }
 
