@@ -6,10 +6,12 @@ ghost use Rattle.s4_closing.specs.Claiming.{CantClaim, Claims};
 ghost use Rattle.s4_pool.specs.Claiming.{AwaitsClaimIn, ClaimAll, ClaimsMore, IsClaimedTo};
 
 use s4_cells::Cell;
-use s4_closing::claim_next;
+use s4_closing::{claim_next, cut_claimed};
 use s4_counts::{Book, Names};
 use s4_passes::Pass;
 use s4_types::{Moment, NoMemory};
+use std::alloc::Global;
+use std::slice;
 
 /// A cell with its book, which has as many records as the cell ever had.
 #[derive(Drop)]
@@ -68,6 +70,15 @@ impl<N: Names> Locked<N> {
     {
         let Locked { cell, book } = self;
         claim_next(cell, book, n, pass)
+    }
+
+    /// Cuts the cell at the least of the moment, of its horizon, and of the moment of its oldest record
+    /// that lacks its claim, and gives that moment. Where a growth was refused nothing changes.
+    pub fn cut(&mut self, alloc: Global, moment: Moment) -> Result<Moment, NoMemory>
+        ensures { IfOk result (λ at. at ≤ moment) }
+    {
+        let Locked { cell, book } = self;
+        cut_claimed(alloc, slice::from_mut(cell), slice::from_mut(book), moment)
     }
 
     /// Sweeps the cell.

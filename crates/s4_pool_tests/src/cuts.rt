@@ -162,6 +162,33 @@ fn a_cut_waits_for_calls_to_claim_their_records(rt: HostRuntime) -> Result<(), F
     check_claims::<Brand, HostRuntime>(&rt, rt.alloc(), blank)
 }
 
+// That cells are cut one by one, each no further than its calls have claimed their records and than its
+// horizon, and close once they are cut at one moment.
+fn check_one<N: Names, R: Abort + Wait>(rt: &R, alloc: Global, blank: Blank) -> Result<(), Fail>
+    requires ledger { blank.ledger ≡ N.ledger }
+    requires names { (N.ledger.words ≡ 2) × (N.window ≡ 100) × (N.passes ≡ 2) }
+{
+    let (front, mut passes) = open_worked::<N, R>(rt, alloc, blank)?;
+    assert_eq!(rt; front.cut_one(rt, 0, Moment::new(9))?, Moment::new(5));
+    assert_eq!(rt; front.cut_one(rt, 1, Moment::new(4))?, Moment::new(4));
+    claim_all(rt, &front, &mut passes)?;
+    assert_eq!(rt; front.cut_one(rt, 0, Moment::new(9))?, Moment::new(6));
+    check_calls(rt, &front, &mut passes, LATER)?;
+    assert_eq!(rt; front.cut(rt, Moment::new(6))?, Moment::new(6));
+    let closed = closed(alloc, front, passes)?;
+    check_history(rt, closed.history.as_slice());
+    for cell in &closed.cells {
+        assert_eq!(rt; cell.gone(), 2);
+    }
+    Ok(())
+}
+
+#[test]
+fn cells_are_cut_one_by_one(rt: HostRuntime) -> Result<(), Fail> {
+    let blank = Blank::new(rt.alloc(), 2)?;
+    check_one::<Brand, HostRuntime>(&rt, rt.alloc(), blank)
+}
+
 // That calls whose records went may be dropped, stay counted, and leave their moment.
 fn check_dropped<N: Names, R: Abort + Wait>(rt: &R, alloc: Global, blank: Blank) -> Result<(), Fail>
     requires ledger { blank.ledger ≡ N.ledger }

@@ -11,8 +11,9 @@ use std::process::Abort;
 use std::sync::Wait;
 use std::test::Fail;
 
-/// Principals in cells 0 to 3 of four, and how many values of their object are expired.
-const EXPIRED: [(u32, u64); 4] = [(4, 3), (5, 990), (6, 0), (7, 7)];
+/// Principals in cells 0 to 3 of four, and how many values of their object expire. The request that has
+/// them expire frees four of them.
+const EXPIRED: [(u32, u64); 4] = [(4, 7), (5, 994), (6, 0), (7, 11)];
 
 /// A sweep: of which cell, of how many values at most, and how many it frees.
 struct Sweep(usize, u64, u64);
@@ -88,9 +89,9 @@ fn write_all<N: Names, R: Wait>(
 // That each sweep frees what it has to free.
 fn check_sweeps<N: Names, R: Abort + Wait>(rt: &R, alloc: Global, blank: Blank) -> Result<(), Fail>
     requires ledger { blank.ledger ≡ N.ledger }
-    requires names { (N.ledger.words ≡ 4) × (N.window ≡ 10) × (N.passes ≡ 1) }
+    requires names { (N.ledger.words ≡ 4) × (N.window ≡ 1000) × (N.passes ≡ 1) }
 {
-    let (front, mut passes) = Front::<OpenGate, N>::open(alloc, 10, 4, 1, OpenGate, blank)?;
+    let (front, mut passes) = Front::<OpenGate, N>::open(alloc, 1000, 4, 1, OpenGate, blank)?;
     assert!(rt; write_all(rt, alloc, &front, &mut passes)?);
     for sweep in &SWEEPS {
         let (cell, most) = (sweep.0, sweep.1);

@@ -37,8 +37,10 @@ pub struct Board {
     pub kept: AtomicU64,
     /// Calls of moments before this one are to claim their records.
     pub due: AtomicU64,
-    /// The records before this moment went.
+    /// The records before this moment went, of all cells.
     pub cut: AtomicU64,
+    /// The greatest moment to which a cell was cut, or was to be.
+    pub ahead: AtomicU64,
     /// A call has no record, or a record no call.
     pub stray: AtomicBool,
 }
@@ -70,6 +72,7 @@ impl Board {
             kept: AtomicU64::new(if keeps { 0 } else { u64::MAX }),
             due: AtomicU64::new(0),
             cut: AtomicU64::new(0),
+            ahead: AtomicU64::new(0),
             stray: AtomicBool::new(false),
         })
     }

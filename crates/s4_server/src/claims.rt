@@ -1,6 +1,6 @@
 //! Calls that claim their records, so that both may go.
 
-ghost use Rattle.std.specs.Prelude.{◌≡◌, ◌+◌, ◌<◌, ◌≤◌};
+ghost use Rattle.std.specs.Prelude.{◌≡◌, ◌+◌, ◌-◌, ◌/◌, ◌<◌, ◌≤◌};
 
 use crate::clock::Ticks;
 use crate::desk::Desk;
@@ -24,14 +24,31 @@ const CATCH_UP: usize = 32;
 /// Up to how many milliseconds behind the begin of a round it is cut, where there is always more.
 const CUTTING: u64 = 90;
 
-/// How long a piece of a cut is to take, in microseconds: so long all requests wait for it.
+/// How long a piece of a cut is to take in a cell, in microseconds: so long its requests wait for it.
 const PAUSE: u64 = 100;
 
-/// Who cuts, piece by piece, so that nobody waits for all cells for long.
+/// Who cuts, cell by cell and piece by piece, so that nobody waits for long.
 #[derive(Drop)]
 pub struct Cutter {
     /// How far the next piece goes, in milliseconds of records.
     step: u64,
+}
+
+/// How many microseconds a piece took: in all cells, and in the one in which it took the longest.
+#[derive(Drop)]
+struct Took {
+    all: u64,
+    longest: u64,
+}
+
+impl Took {
+    /// How long to rest behind it, so that each cell is left to its requests at least half as long as
+    /// they waited. While the other cells are cut it is.
+    fn rest(&self) -> u64
+        ensures { result ≡ self.now.longest / 2 - (self.now.all - self.now.longest) }
+    {
+        (self.longest / 2).saturating_sub(self.all.saturating_sub(self.longest))
+    }
 }
 
 impl Cutter {
@@ -40,13 +57,11 @@ impl Cutter {
         Cutter { step: 1 }
     }
 
-    /// Cuts all cells as far as all workers' calls have claimed their records, in a round that began at
-    /// this moment, and says how far they are to claim them next. Between two pieces it rests half as
-    /// long as the last one took.
+    /// Cuts the cells as far as all workers' calls have claimed their records, in a round that began at
+    /// this moment, and says how far they are to claim them next.
     pub fn cut<R: Wait + Clock, C: Ticks, N: Names>(
         &mut self,
         shared: &Shared<'_, R, C, N>,
-        cells: usize,
         begun: u64,
     ) {
         let claimed = least_claimed(shared.posts);
@@ -58,40 +73,57 @@ impl Cutter {
             if passed >= CUTTING {
                 break;
             }
-            thread::sleep(shared.rt, Duration::from_micros(took / 2));
+            let rest = took.rest();
+            if rest > 0 {
+                thread::sleep(shared.rt, Duration::from_micros(rest));
+            }
         }
-        shared
-            .board
-            .due
-            .store(due_in(shared, cells), Ordering::SeqCst);
+        shared.board.due.store(due_in(shared), Ordering::SeqCst);
     }
 
-    /// Cuts one piece further, and tells how many microseconds that took; none where there is no more. A
-    /// cut that memory was refused for is made up for by the next round. A record that no call claimed
-    /// in time has none.
+    /// Cuts each cell one piece further, and tells how long that took; none where there is no more. A cut
+    /// that memory was refused for is made up for by the next round.
     fn cut_piece<R: Wait + Clock, C, N: Names>(
         &mut self,
         shared: &Shared<'_, R, C, N>,
         claimed: u64,
-    ) -> Option<u64> {
+    ) -> Option<Took> {
         let board = shared.board;
         let before = board.cut.load(Ordering::SeqCst);
         let end = before.saturating_add(self.step).min(claimed);
         if end <= before {
             return None;
         }
-        let begun = Instant::now(shared.rt).ok();
-        let cut = shared.front.cut(shared.rt, Moment::new(end)).ok()?;
-        board.cut.store(cut.tick(), Ordering::SeqCst);
-        if cut.tick() < end {
-            board.stray.store(true, Ordering::SeqCst);
-            return None;
+        board.ahead.store(end, Ordering::SeqCst);
+        let mut took = Took { all: 0, longest: 0 };
+        for cell in 0..shared.cells {
+            let begun = Instant::now(shared.rt).ok();
+            cut_cell(shared, cell, end)?;
+            let passed = begun.and_then(|begun| begun.elapsed(shared.rt).ok());
+            let passed = passed.map_or(0, microseconds);
+            took.all = took.all.saturating_add(passed);
+            took.longest = took.longest.max(passed);
         }
-        let took = begun.and_then(|begun| begun.elapsed(shared.rt).ok());
-        let took = took.map_or(0, microseconds);
-        self.step = step_after(end - before, took);
+        board.cut.store(end, Ordering::SeqCst);
+        self.step = step_after(end - before, took.longest);
         Some(took)
     }
+}
+
+/// Cuts a cell at this moment; none where memory was refused for that, or a record that no call claimed
+/// in time, and so has none, is in the way.
+fn cut_cell<R: Wait, C, N: Names>(shared: &Shared<'_, R, C, N>, cell: usize, end: u64) -> Option<()>
+    requires { cell < shared.now.front.now.cells }
+{
+    let cut = shared
+        .front
+        .cut_one(shared.rt, cell, Moment::new(end))
+        .ok()?;
+    if cut.tick() < end {
+        shared.board.stray.store(true, Ordering::SeqCst);
+        return None;
+    }
+    Some(())
 }
 
 /// The whole microseconds of a time, as far as they fit.
@@ -114,9 +146,9 @@ fn step_after(step: u64, took: u64) -> u64
 
 /// To which moment calls are to claim their records: the least of the cells' horizons, and of what the
 /// journal has.
-fn due_in<R: Wait, C, N: Names>(shared: &Shared<'_, R, C, N>, cells: usize) -> u64 {
+fn due_in<R: Wait, C, N: Names>(shared: &Shared<'_, R, C, N>) -> u64 {
     let mut due = shared.board.kept.load(Ordering::SeqCst);
-    for cell in 0..cells {
+    for cell in 0..shared.cells {
         if let Some(measure) = shared.front.measure(shared.rt, cell) {
             due = due.min(measure.horizon.tick());
         }

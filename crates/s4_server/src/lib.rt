@@ -27,6 +27,7 @@ mod record_file;
 mod server;
 mod start;
 mod status;
+mod sweeping;
 mod tables;
 mod tally;
 mod telling;

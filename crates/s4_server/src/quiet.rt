@@ -19,10 +19,10 @@ const PARTS: u64 = 20;
 const LEAST: u64 = 1000;
 
 /// Has a worker ask in each cell that is behind, since it would hold up what is cut.
-pub fn find_quiet<R: Wait, C, N: Names>(shared: &Shared<'_, R, C, N>, cells: usize) {
+pub fn find_quiet<R: Wait, C, N: Names>(shared: &Shared<'_, R, C, N>) {
     let mut newest = 0;
     let mut horizon = 0;
-    for cell in 0..cells {
+    for cell in 0..shared.cells {
         if let Some(measure) = shared.front.measure(shared.rt, cell) {
             newest = newest.max(measure.last.tick());
             horizon = horizon.max(measure.horizon.tick());
@@ -33,7 +33,7 @@ pub fn find_quiet<R: Wait, C, N: Names>(shared: &Shared<'_, R, C, N>, cells: usi
         return;
     }
     let mut quiet = 0;
-    for cell in 0..cells {
+    for cell in 0..shared.cells {
         let last = shared
             .front
             .measure(shared.rt, cell)

@@ -29,13 +29,14 @@ use s4_cells::Cell;
 use s4_closing::none_went;
 use s4_command::Settings;
 use s4_jobs::{Jobs, Seat};
-use s4_pool::{Blank, Closed, Front, Names, OpenGate, Pass};
+use s4_pool::{Blank, Closed, Front, Names, OpenGate, Pass, Why};
 use s4_stream::Logins;
-use s4_types::{Caller, Reply, Request};
+use s4_types::{Caller, Moment, NoMemory, Reply, Request};
 use std::alloc::Global;
 use std::marker::Model;
 use std::net::{Net, TcpListener};
 use std::sync::Wait;
+use std::sync::atomic::Ordering;
 use std::thread::Threads;
 use std::time::Clock;
 
@@ -185,6 +186,7 @@ impl<N: Names + Send + Sync> Server<N> {
             rt,
             alloc,
             front: &front,
+            cells: settings.cells,
             clock,
             upkeep,
             board: &board,
@@ -205,9 +207,10 @@ impl<N: Names + Send + Sync> Server<N> {
             return Err(ServerFault::NoMemory);
         }
         let passes = gather(alloc, workers)?;
+        align(rt, &front, &board)?;
         let closed = match front.close(alloc, passes) {
             Ok(closed) => closed,
-            Err(fault) => return Err(ServerFault::of(fault.why)),
+            Err(fault) => return Err(fault_of(&board, fault.why)),
         };
         let cells = closed.cells.as_slice();
         if !is_as_wanted(cells, settings.cuts) {
@@ -215,6 +218,25 @@ impl<N: Names + Send + Sync> Server<N> {
         }
         Ok(closed)
     }
+}
+
+/// Has all cells be cut at one moment: the greatest to which one of them was.
+fn align<R: Wait, N: Names>(
+    rt: &R,
+    front: &Front<OpenGate, N>,
+    board: &Board,
+) -> Result<(), NoMemory> {
+    let ahead = board.ahead.load(Ordering::SeqCst);
+    if ahead > 0 {
+        front.cut(rt, Moment::new(ahead))?;
+    }
+    Ok(())
+}
+
+/// Why the front isn't closed: where calls and records were found not to match before, that is told.
+fn fault_of(board: &Board, why: Why) -> ServerFault {
+    let is_stray = board.stray.load(Ordering::SeqCst);
+    ServerFault::of(if is_stray { Why::Stray } else { why })
 }
 
 /// Whether no record of any cell went, or records were to go.

@@ -194,7 +194,6 @@ impl Status {
     /// What the server tells now.
     pub fn now<R: Wait, C: Ticks, N: Names>(
         shared: &Shared<'_, R, C, N>,
-        cells: usize,
         keeper: Option<&Keeper>,
         resident_bytes: Option<u64>,
     ) -> Result<Status, NoMemory> {
@@ -214,7 +213,7 @@ impl Status {
                 None => None,
             },
         };
-        status.count_cells(shared, cells)?;
+        status.count_cells(shared)?;
         status.count_replies(&shared.board.tally);
         Ok(status)
     }
@@ -223,9 +222,8 @@ impl Status {
     fn count_cells<R: Wait, C, N: Names>(
         &mut self,
         shared: &Shared<'_, R, C, N>,
-        cells: usize,
     ) -> Result<(), NoMemory> {
-        for cell in 0..cells {
+        for cell in 0..shared.cells {
             if let Some(measure) = shared.front.measure(shared.rt, cell) {
                 self.records = self.records.saturating_add(measure.records);
                 self.values = self.values.saturating_add(measure.values);

@@ -44,7 +44,6 @@ impl<'a> Telling<'a> {
     pub fn tell<R: Wait + Eprint, C: Ticks, N: Names>(
         &mut self,
         shared: &Shared<'_, R, C, N>,
-        cells: usize,
         keeper: Option<&Keeper>,
     ) {
         let now = shared.board.time.load(Ordering::SeqCst);
@@ -58,7 +57,7 @@ impl<'a> Telling<'a> {
             return;
         }
         self.told = Some(now);
-        let written = self.write(shared, cells, keeper, path);
+        let written = self.write(shared, keeper, path);
         if written.is_err() && !self.failed {
             // Where this can't be written, nobody is told.
             let _ = eprintln!(shared.rt; "s4d: cannot write {path}");
@@ -71,13 +70,12 @@ impl<'a> Telling<'a> {
     fn write<R: Wait, C: Ticks, N: Names>(
         &self,
         shared: &Shared<'_, R, C, N>,
-        cells: usize,
         keeper: Option<&Keeper>,
         path: &str,
     ) -> io::Result<()> {
         let alloc = shared.alloc;
         let files = self.upkeep.files;
-        let status = Status::now(shared, cells, keeper, resident(files))?;
+        let status = Status::now(shared, keeper, resident(files))?;
         let text = serde_json::to_string(alloc, &status).map_err(|_| AllocError)?;
         let beside = beside(alloc, path)?;
         fs::write(files, beside.as_str(), text.as_str())?;

@@ -10,6 +10,7 @@ use crate::connection::Connection;
 use crate::keeper::Keeper;
 use crate::post::{Post, wake_all};
 use crate::quiet::find_quiet;
+use crate::sweeping::{SWEEPING, sweep_round};
 use crate::telling::Telling;
 use crate::upkeep::{Reloading, Upkeep};
 use crate::workers::Worker;
@@ -23,12 +24,6 @@ use std::thread;
 use std::thread::Threads;
 use std::time::{Clock, Duration};
 
-/// How many values of a cell are freed at a time, while its lock is held.
-const SWEPT: u64 = 256;
-
-/// How long it is swept in a round at most, in milliseconds, where there is always more to free.
-const SWEEPING: u64 = 10;
-
 /// How long a round of a thread takes at least, in milliseconds. So often it is looked for idle peers.
 const REST: u64 = 100;
 
@@ -38,6 +33,8 @@ pub struct Shared<'a, R, C, N: Names> {
     pub rt: &'a R,
     pub alloc: Global,
     pub front: &'a Front<OpenGate, N>,
+    /// How many cells the front has.
+    pub cells: usize,
     pub clock: &'a C,
     pub upkeep: &'a Upkeep<'a>,
     pub board: &'a Board,
@@ -48,6 +45,7 @@ pub struct Shared<'a, R, C, N: Names> {
     pub patience: Patience,
     /// Whether records that no reply needs any more are cut.
     pub cuts: bool,
+    pub ghost same: { cells ≡ front.now.cells },
 }
 
 /// How many threads a server has beside its workers: one that accepts, one that sweeps, and one
@@ -65,39 +63,30 @@ pub fn run_threads<R: Threads + Wait + Clock + Eprint + Sync, C: Ticks, N: Names
     reloading: Reloading<'_>,
     keeper: Option<Keeper>,
 )
-    requires cells { settings.now.cells ≡ shared.now.front.now.cells }
     requires seat { seat.queue ≡ jobs.now.queue }
 {
     let flag = AtomicBool::new(false);
     let ended = &flag;
-    let cells = settings.cells;
     thread::join(
         shared.rt,
         || -> ()
             requires { seat.queue ≡ jobs.now.queue }
         { serve_to_the_end(shared, settings, door, jobs, seat, workers, ended) },
-        || -> ()
-            requires { cells ≡ shared.now.front.now.cells }
-        { look_after(shared, cells, reloading, keeper, ended) },
+        || look_after(shared, reloading, keeper, ended),
     );
 }
 
 /// Sweeps in one thread, and looks after files in another.
 fn look_after<R: Threads + Wait + Clock + Eprint + Sync, C: Ticks, N: Names + Send + Sync>(
     shared: &Shared<'_, R, C, N>,
-    cells: usize,
     mut reloading: Reloading<'_>,
     mut keeper: Option<Keeper>,
     ended: &AtomicBool,
-)
-    requires { cells ≡ shared.now.front.now.cells }
-{
+) {
     thread::join(
         shared.rt,
-        || -> ()
-            requires { cells ≡ shared.now.front.now.cells }
-        { sweep_to_the_end(shared, cells, ended) },
-        || keep_to_the_end(shared, cells, &mut reloading, &mut keeper, ended),
+        || sweep_to_the_end(shared, ended),
+        || keep_to_the_end(shared, &mut reloading, &mut keeper, ended),
     );
 }
 
@@ -164,11 +153,8 @@ fn work_all<R: Threads + Wait + Clock + Sync, C: Ticks, N: Names + Send + Sync>(
 /// once.
 fn sweep_to_the_end<R: Wait + Clock + Eprint, C: Ticks, N: Names>(
     shared: &Shared<'_, R, C, N>,
-    cells: usize,
     ended: &AtomicBool,
-)
-    requires { cells ≡ shared.now.front.now.cells }
-{
+) {
     if !shared.board.start.is_made(shared.rt) {
         return;
     }
@@ -179,10 +165,10 @@ fn sweep_to_the_end<R: Wait + Clock + Eprint, C: Ticks, N: Names>(
         let now = shared.clock.moment().tick();
         shared.board.time.store(now, Ordering::SeqCst);
         wake_all(shared.posts);
-        sweep_all(shared, cells, now);
+        sweep_round(shared, now);
         if shared.cuts {
-            find_quiet(shared, cells);
-            cutter.cut(shared, cells, now);
+            find_quiet(shared);
+            cutter.cut(shared, now);
         }
         told = told || tell_stray(shared);
         if is_last {
@@ -204,28 +190,10 @@ fn tell_stray<R: Eprint, C, N: Names>(shared: &Shared<'_, R, C, N>) -> bool {
     is_stray
 }
 
-/// Sweeps the cells in turn, piece by piece, until there is no more to free or the time for that is
-/// over.
-fn sweep_all<R: Wait, C: Ticks, N: Names>(shared: &Shared<'_, R, C, N>, cells: usize, begun: u64)
-    requires { cells ≡ shared.now.front.now.cells }
-{
-    for _ in shared.rt.forever() {
-        let mut most = 0;
-        for cell in 0..cells {
-            most = shared.front.sweep(shared.rt, cell, SWEPT).max(most);
-        }
-        let passed = shared.clock.moment().tick().saturating_sub(begun);
-        if most < SWEPT || passed >= SWEEPING {
-            return;
-        }
-    }
-}
-
 /// Looks after the server's files, round by round, until the end: whether it is to end, whether the
 /// logins have changed, its journal, and what is told of it.
 fn keep_to_the_end<R: Wait + Clock + Eprint, C: Ticks, N: Names>(
     shared: &Shared<'_, R, C, N>,
-    cells: usize,
     reloading: &mut Reloading<'_>,
     keeper: &mut Option<Keeper>,
     ended: &AtomicBool,
@@ -241,9 +209,9 @@ fn keep_to_the_end<R: Wait + Clock + Eprint, C: Ticks, N: Names>(
         }
         reload(shared, reloading);
         if let Some(keeper) = keeper {
-            keeper.keep(shared, cells, is_last);
+            keeper.keep(shared, is_last);
         }
-        telling.tell(shared, cells, keeper.as_ref());
+        telling.tell(shared, keeper.as_ref());
         if is_last {
             return;
         }

@@ -1,0 +1,13 @@
+use Rattle.std.proofs.Common.{arith}
+use Rattle.std.proofs.lemmas.Result.{IfOk-weaker}
+use Rattle.s4_closing.specs.Claiming.{least_unclaimed}
+use Rattle.s4_closing.proofs.Unclaimed.{least_below, least_most}
+use Rattle.s4_pool.proofs.locked.Locked.cut.Goals as goal
+
+pub returns : goal.returns
+returns g c =
+    let cells = c.from_mut.result.now in
+    let books = c.from_mut-2.result.now in
+    IfOk-weaker c.cut_claimed.result _ _
+    (λ at e. omega (arith, e, least_below (least_unclaimed c.args.moment cells books) cells, least_most c.args.moment cells books))
+    c.cut_claimed.ensures.least
