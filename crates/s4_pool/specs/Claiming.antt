@@ -1,9 +1,10 @@
 -- How far the calls of a pass have claimed their records.
-use Rattle.std.specs.Prelude.{◌≡◌, ℕ, ◌+◌, ◌<◌, ◌≤◌, true, false, Some, slice_get}
+use Rattle.std.specs.Prelude.{◌≡◌, ℕ, ◌+◌, ◌<◌, ◌≤◌, ◌||◌, nat_lt, true, false, Some, slice_get}
 use Rattle.s4_types.specs.Log.{Log}
 use Rattle.s4_counts.specs.Books.{BookState}
 use Rattle.s4_counts.specs.Claims.{is_claimed}
 use Rattle.s4_passes.specs.Calls.{Call, CallList}
+use Rattle.s4_closing.specs.Claims.{gone}
 use Rattle.s4_closing.specs.Claiming.{HasRecord, next_call}
 use Rattle.s4_pool.specs.declared.claimed.Claimed.{Claimed}
 use Rattle.s4_pool.specs.declared.claimed.Claimed.TheVariants.{All, Most, Stray}
@@ -22,6 +23,12 @@ pub record ClaimAll (n : ℕ) (cell : Log) (old new : BookState) (before after :
   pub each : (i : ℕ) (call : Call) → before.claimed ≤ i → i < after.claimed → slice_get before.calls i ≡ Some call
       → HasRecord n cell old.cell call × (is_claimed old.claims call.receipt.place ≡ false) × (is_claimed new.claims call.receipt.place ≡ true)
   pub kept : (p : ℕ) → is_claimed old.claims p ≡ true → is_claimed new.claims p ≡ true
+
+-- the book of a cell that was cut is as it was, but that it isn't asked for claims of the records that went any more
+pub record ForgetsClaims (cell : Log) (old new : BookState) : Type 0 where
+  pub cell_is : new.cell ≡ old.cell
+  pub records : new.records ≡ old.records
+  pub claims : (p : ℕ) → is_claimed new.claims p ≡ (is_claimed old.claims p || nat_lt p (gone cell))
 
 -- no call before the moment hasn't claimed its record, where their moments never go down
 abbrev pub IsClaimedTo : ℕ → CallList → Type 0

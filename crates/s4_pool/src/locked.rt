@@ -1,9 +1,12 @@
 //! A cell as it lies under its lock.
 
-ghost use Rattle.std.specs.Prelude.{◌≡◌, ◌+◌, ◌<◌, ◌≤◌, true, false, length, IfOk, OnErr, MatchBool, MatchOption};
+ghost use Rattle.std.specs.Prelude.{◌≡◌, ◌+◌, ◌<◌, ◌≤◌, true, false, length, min, IfOk, OnErr, MatchBool, MatchOption};
+ghost use Rattle.s4_types.specs.Log.{horizon_in};
+ghost use Rattle.s4_state.specs.CutLog.{IsCut};
+ghost use Rattle.s4_drive.specs.Alike.{AnswersAlike};
 ghost use Rattle.s4_cells.specs.Counts.{count_of};
-ghost use Rattle.s4_closing.specs.Claiming.{CantClaim, Claims};
-ghost use Rattle.s4_pool.specs.Claiming.{AwaitsClaimIn, ClaimAll, ClaimsMore, IsClaimedTo};
+ghost use Rattle.s4_closing.specs.Claiming.{CantClaim, Claims, unclaimed};
+ghost use Rattle.s4_pool.specs.Claiming.{AwaitsClaimIn, ClaimAll, ClaimsMore, ForgetsClaims, IsClaimedTo};
 
 use s4_cells::Cell;
 use s4_closing::{claim_next, cut_claimed};
@@ -73,9 +76,16 @@ impl<N: Names> Locked<N> {
     }
 
     /// Cuts the cell at the least of the moment, of its horizon, and of the moment of its oldest record
-    /// that lacks its claim, and gives that moment. Where a growth was refused nothing changes.
+    /// that lacks its claim, and gives that moment. It goes on as the uncut one would, and isn't asked
+    /// for claims of the records that went any more. Where a growth was refused no record went.
     pub fn cut(&mut self, alloc: Global, moment: Moment) -> Result<Moment, NoMemory>
-        ensures { IfOk result (λ at. at ≤ moment) }
+        ensures least { IfOk result (λ at.
+            at ≡ min (unclaimed moment self.old.cell self.old.book) (horizon_in self.old.cell)) }
+        ensures bound { IfOk result (λ at. at ≤ moment) }
+        ensures cut { IfOk result (λ at. IsCut at self.old.cell self.new.cell) }
+        ensures replies { AnswersAlike self.old.cell self.new.cell }
+        ensures claims { ForgetsClaims self.new.cell self.old.book self.new.book }
+        ensures err { OnErr result (self.new.cell ≡ self.old.cell) }
     {
         let Locked { cell, book } = self;
         cut_claimed(alloc, slice::from_mut(cell), slice::from_mut(book), moment)

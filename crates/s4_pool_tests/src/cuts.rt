@@ -7,7 +7,7 @@ use crate::given::{closed, receipt};
 use s4_cells::{Cell, cut_all};
 use s4_closing::{Verdict, reconcile};
 use s4_pool::{Blank, Claimed, Front, Names, OpenGate, Pass, Stretch};
-use s4_types::{Moment, Record};
+use s4_types::Moment;
 use std::alloc::Global;
 use std::marker::Brand;
 use std::process::Abort;
@@ -80,8 +80,16 @@ fn cut_front<N: Names, R: Abort + Wait>(
     Ok((front, passes))
 }
 
-// That the history has the three records that are left, in their order.
-fn check_history<R: Abort>(rt: &R, history: &[Record]) {
+// That the front, whose oldest two records of each cell went, is closed with the three that are left, in
+// their order.
+fn check_closed<N: Names, R: Abort>(
+    rt: &R,
+    alloc: Global,
+    front: Front<OpenGate, N>,
+    passes: Vec<Pass<N>>,
+) -> Result<(), Fail> {
+    let closed = closed(alloc, front, passes)?;
+    let history = closed.history.as_slice();
     let moments = [8, 9, 9];
     let callers = [8, 7, 7];
     assert_eq!(rt; history.len(), 3);
@@ -89,6 +97,10 @@ fn check_history<R: Abort>(rt: &R, history: &[Record]) {
         assert_eq!(rt; history[i].moment.tick(), moments[i]);
         assert_eq!(rt; history[i].caller.who.number(), callers[i]);
     }
+    for cell in &closed.cells {
+        assert_eq!(rt; cell.gone(), 2);
+    }
+    Ok(())
 }
 
 // That calls behind a cut have the places that follow, and that what is left is closed.
@@ -98,12 +110,7 @@ fn check_places<N: Names, R: Abort + Wait>(rt: &R, alloc: Global, blank: Blank) 
 {
     let (front, mut passes) = cut_front::<N, R>(rt, alloc, blank)?;
     check_calls(rt, &front, &mut passes, LATER)?;
-    let closed = closed(alloc, front, passes)?;
-    check_history(rt, closed.history.as_slice());
-    for cell in &closed.cells {
-        assert_eq!(rt; cell.gone(), 2);
-    }
-    Ok(())
+    check_closed(rt, alloc, front, passes)
 }
 
 #[test]
@@ -175,12 +182,7 @@ fn check_one<N: Names, R: Abort + Wait>(rt: &R, alloc: Global, blank: Blank) -> 
     assert_eq!(rt; front.cut_one(rt, 0, Moment::new(9))?, Moment::new(6));
     check_calls(rt, &front, &mut passes, LATER)?;
     assert_eq!(rt; front.cut(rt, Moment::new(6))?, Moment::new(6));
-    let closed = closed(alloc, front, passes)?;
-    check_history(rt, closed.history.as_slice());
-    for cell in &closed.cells {
-        assert_eq!(rt; cell.gone(), 2);
-    }
-    Ok(())
+    check_closed(rt, alloc, front, passes)
 }
 
 #[test]
@@ -215,12 +217,7 @@ fn check_dropped<N: Names, R: Abort + Wait>(rt: &R, alloc: Global, blank: Blank)
         assert_eq!(rt; dropped.last(), Moment::new(5));
     }
     check_calls(rt, &front, &mut passes, LATER)?;
-    let closed = closed(alloc, front, passes)?;
-    check_history(rt, closed.history.as_slice());
-    for cell in &closed.cells {
-        assert_eq!(rt; cell.gone(), 2);
-    }
-    Ok(())
+    check_closed(rt, alloc, front, passes)
 }
 
 #[test]

@@ -1,6 +1,6 @@
 //! Calls that claim their records, so that both may go.
 
-ghost use Rattle.std.specs.Prelude.{◌≡◌, ◌+◌, ◌-◌, ◌/◌, ◌<◌, ◌≤◌};
+ghost use Rattle.std.specs.Prelude.{◌≡◌, ◌+◌, ◌-◌, ◌*◌, ◌/◌, ◌<◌, ◌≤◌, max, min};
 
 use crate::clock::Ticks;
 use crate::desk::Desk;
@@ -14,18 +14,21 @@ use std::thread;
 use std::time::{Clock, Duration, Instant};
 
 /// How many calls claim their records at a time, while others may wait for all cells; and how many are
-/// dropped at a time.
-const PIECE: usize = 256;
-
-/// How many pieces claim and are dropped at a look, beside those for the calls that were made since: so
-/// a worker that is idle catches up.
-const CATCH_UP: usize = 32;
+/// dropped at a time. So long a worker's connections wait for what is made up for while they ask nothing.
+const PIECE: usize = 128;
 
 /// Up to how many milliseconds behind the begin of a round it is cut, where there is always more.
 const CUTTING: u64 = 90;
 
 /// How long a piece of a cut is to take in a cell, in microseconds: so long its requests wait for it.
 const PAUSE: u64 = 100;
+
+/// How many microseconds a millisecond of records is to take, rests and all: so a cut goes at twice the
+/// pace of the clock.
+const PACE: u64 = 500;
+
+/// How many times as long as a piece took it is rested behind it at most.
+const RESTS: u64 = 9;
 
 /// Who cuts, cell by cell and piece by piece, so that nobody waits for long.
 #[derive(Drop)]
@@ -42,12 +45,15 @@ struct Took {
 }
 
 impl Took {
-    /// How long to rest behind it, so that each cell is left to its requests at least half as long as
-    /// they waited. While the other cells are cut it is.
-    fn rest(&self) -> u64
-        ensures { result ≡ self.now.longest / 2 - (self.now.all - self.now.longest) }
+    /// How many microseconds to rest behind it, where it is so many ahead of its pace. Who rests a good
+    /// deal is seldom stopped while it holds a lock. And each cell is left to its requests at least half
+    /// as long as they waited: while the other cells are cut it is.
+    fn rest(&self, ahead: u64) -> u64
+        ensures { result ≡ max (min ahead (9 * self.now.all))
+            (self.now.longest / 2 - (self.now.all - self.now.longest)) }
     {
-        (self.longest / 2).saturating_sub(self.all.saturating_sub(self.longest))
+        let left = (self.longest / 2).saturating_sub(self.all.saturating_sub(self.longest));
+        ahead.min(self.all.saturating_mul(RESTS)).max(left)
     }
 }
 
@@ -65,6 +71,8 @@ impl Cutter {
         begun: u64,
     ) {
         let claimed = least_claimed(shared.posts);
+        let from = shared.board.cut.load(Ordering::SeqCst);
+        let start = Instant::now(shared.rt).ok();
         for _ in shared.rt.forever() {
             let Some(took) = self.cut_piece(shared, claimed) else {
                 break;
@@ -73,7 +81,9 @@ impl Cutter {
             if passed >= CUTTING {
                 break;
             }
-            let rest = took.rest();
+            let went = shared.board.cut.load(Ordering::SeqCst).saturating_sub(from);
+            let wanted = went.saturating_mul(PACE);
+            let rest = took.rest(wanted.saturating_sub(since(shared.rt, start)));
             if rest > 0 {
                 thread::sleep(shared.rt, Duration::from_micros(rest));
             }
@@ -99,8 +109,7 @@ impl Cutter {
         for cell in 0..shared.cells {
             let begun = Instant::now(shared.rt).ok();
             cut_cell(shared, cell, end)?;
-            let passed = begun.and_then(|begun| begun.elapsed(shared.rt).ok());
-            let passed = passed.map_or(0, microseconds);
+            let passed = since(shared.rt, begun);
             took.all = took.all.saturating_add(passed);
             took.longest = took.longest.max(passed);
         }
@@ -126,9 +135,13 @@ fn cut_cell<R: Wait, C, N: Names>(shared: &Shared<'_, R, C, N>, cell: usize, end
     Some(())
 }
 
-/// The whole microseconds of a time, as far as they fit.
-fn microseconds(time: Duration) -> u64 {
-    u64::try_from(time.as_micros()).unwrap_or(u64::MAX)
+/// How many whole microseconds have passed since then, as far as they fit; 0 where that can't be told.
+fn since<R: Clock>(rt: &R, begun: Option<Instant>) -> u64 {
+    let passed = begun.and_then(|begun| begun.elapsed(rt).ok());
+    passed.map_or(
+        0,
+        |time| u64::try_from(time.as_micros()).unwrap_or(u64::MAX),
+    )
 }
 
 /// How far the next piece goes, where one that went so far took so many microseconds.
@@ -157,46 +170,54 @@ fn due_in<R: Wait, C, N: Names>(shared: &Shared<'_, R, C, N>) -> u64 {
 }
 
 /// Has a worker's calls claim their records as far as they are to, and drops those whose records went:
-/// of either twice as many as were made since the last time, and some more. At a look it catches up.
+/// of either twice as many as were made since the last time, and a piece more where it `rests`. Tells
+/// whether there may be more of them.
 pub fn claim_calls<R: Wait, C, G: Gate, N: Names>(
     shared: &Shared<'_, R, C, N>,
     post: &Post,
     desk: &mut Desk<'_, R, C, G, N>,
     made: usize,
-    looks: bool,
-) {
-    let more = if looks { CATCH_UP } else { 1 };
-    let pieces = (made / PIECE).saturating_mul(2).saturating_add(more);
+    rests: bool,
+) -> bool {
+    let more = if rests { PIECE } else { 0 };
+    let most = made.saturating_mul(2).saturating_add(more);
     let cut = shared.board.cut.load(Ordering::SeqCst);
-    forget_calls(&mut desk.pass, Moment::new(cut), pieces);
+    let has_more = forget_calls(&mut desk.pass, Moment::new(cut), most);
     let due = shared.board.due.load(Ordering::SeqCst);
-    for _ in 0..pieces {
+    let mut left = most;
+    for _ in 0..most.div_ceil(PIECE) {
+        let piece = left.min(PIECE);
+        left -= piece;
         match desk
             .front
-            .claim(shared.rt, &mut desk.pass, Moment::new(due), PIECE)
+            .claim(shared.rt, &mut desk.pass, Moment::new(due), piece)
         {
             Ok(Claimed::Most) => {}
             Ok(Claimed::All) => {
                 post.claim_to(due);
-                return;
+                return has_more;
             }
             Ok(Claimed::Stray) => {
                 shared.board.stray.store(true, Ordering::SeqCst);
-                return;
+                return has_more;
             }
             // The next time makes up for it.
-            Err(_) => return,
+            Err(_) => return has_more,
         }
     }
+    true
 }
 
-/// Drops the first calls whose records went with a cut at this moment: at most so many pieces of them,
-/// so that nobody waits for long.
-fn forget_calls<N: Names>(pass: &mut Pass<N>, cut: Moment, pieces: usize) {
-    for _ in 0..pieces {
-        let gone = pass.claimed_before(cut, PIECE);
+/// Drops the first calls whose records went with a cut at this moment: at most so many, in pieces. Tells
+/// whether there may be more of them.
+fn forget_calls<N: Names>(pass: &mut Pass<N>, cut: Moment, most: usize) -> bool {
+    let mut left = most;
+    for _ in 0..most.div_ceil(PIECE) {
+        let gone = pass.claimed_before(cut, left.min(PIECE));
         if gone == 0 || !pass.forget(gone) {
-            return;
+            return false;
         }
+        left = left.saturating_sub(gone);
     }
+    true
 }

@@ -210,7 +210,7 @@ impl<N: Names + Send + Sync> Server<N> {
         align(rt, &front, &board)?;
         let closed = match front.close(alloc, passes) {
             Ok(closed) => closed,
-            Err(fault) => return Err(fault_of(&board, fault.why)),
+            Err(fault) => return Err(why_open(&board, fault.why)),
         };
         let cells = closed.cells.as_slice();
         if !is_as_wanted(cells, settings.cuts) {
@@ -234,7 +234,7 @@ fn align<R: Wait, N: Names>(
 }
 
 /// Why the front isn't closed: where calls and records were found not to match before, that is told.
-fn fault_of(board: &Board, why: Why) -> ServerFault {
+fn why_open(board: &Board, why: Why) -> ServerFault {
     let is_stray = board.stray.load(Ordering::SeqCst);
     ServerFault::of(if is_stray { Why::Stray } else { why })
 }

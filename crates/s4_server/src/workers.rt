@@ -20,7 +20,11 @@ use s4_types::NoMemory;
 use std::alloc::Global;
 use std::sync::Wait;
 use std::sync::atomic::Ordering;
-use std::time::Clock;
+use std::time::{Clock, Duration};
+
+/// How many milliseconds a worker waits that has calls left to look after: so it is seldom in others'
+/// way.
+const PAUSE: u64 = 1;
 
 /// A worker's place: where it takes connections, where it waits for what their peers say, and where
 /// it answers their requests.
@@ -33,6 +37,8 @@ pub struct Worker<'a, R, C, N: Names> {
     post: &'a Post,
     watch: Watch,
     peers: Peers,
+    /// Whether calls are left that are to claim their records, or to be dropped.
+    behind: bool,
     desk: Desk<'a, R, C, OpenGate, N>,
     pub ghost same: { seat.queue ≡ jobs.now.queue },
 }
@@ -69,6 +75,7 @@ pub fn staff<'a, R, C, N: Names>(
                 post,
                 watch,
                 peers: Peers::new(shared.alloc),
+                behind: false,
                 desk,
             })?;
         }
@@ -118,6 +125,7 @@ impl<R: Wait + Clock, C: Ticks, N: Names> Worker<'_, R, C, N> {
                 watch,
                 peers,
                 desk,
+                ..
             } = &mut *self;
             if let Some(connection) = jobs.take(shared.rt, seat) {
                 *taken = taken.wrapping_add(1);
@@ -138,19 +146,32 @@ impl<R: Wait + Clock, C: Ticks, N: Names> Worker<'_, R, C, N> {
         }
     }
 
+    /// How long it waits for what is told: not for long where calls are left to be looked after.
+    fn patience(&self) -> Option<Duration> {
+        let most = self.peers.patience();
+        if self.behind {
+            most.or(Some(Duration::from_millis(PAUSE)))
+        } else {
+            most
+        }
+    }
+
     /// Waits until something is told, and serves whom it is told of.
     fn go_round(&mut self, shared: &Shared<'_, R, C, N>) {
+        let patience = self.patience();
         let Worker {
             post,
             watch,
             peers,
+            behind,
             desk,
             ..
         } = self;
         let before = peers.len();
-        let events = watch.wait(peers.patience());
+        let events = watch.wait(patience);
         let now = shared.board.time.load(Ordering::SeqCst);
         let calls = desk.pass.receipts().len();
+        let rests = events.is_empty();
         for event in events.iter() {
             if let Some(place) = place_of(event.token()) {
                 peers.give_turn(shared, desk, now, place, event.is_read_closed());
@@ -164,7 +185,7 @@ impl<R: Wait + Clock, C: Ticks, N: Names> Worker<'_, R, C, N> {
         }
         if shared.cuts {
             let made = desk.pass.receipts().len().saturating_sub(calls);
-            claim_calls(shared, post, desk, made, looks);
+            *behind = claim_calls(shared, post, desk, made, rests || looks);
         }
         if shared.board.over.load(Ordering::SeqCst) {
             peers.end(desk, now);

@@ -1,11 +1,11 @@
-use Rattle.std.proofs.Common.{arith}
+use Rattle.std.proofs.Common.{◌≡◌, ◌<◌, ℕ, arith, refl}
 use Rattle.std.proofs.lemmas.Result.{IfOk-weaker}
 use Rattle.s4_closing.specs.Claiming.{least_unclaimed}
 use Rattle.s4_closing.proofs.Unclaimed.{least_below, least_most}
 use Rattle.s4_pool.proofs.locked.Locked.cut.Goals as goal
 
-pub returns : goal.returns
-returns g c =
+pub returns-clause-bound : goal.returns-clause-bound
+returns-clause-bound g c =
     let cells = c.from_mut.result.now in
     let books = c.from_mut-2.result.now in
     IfOk-weaker c.cut_claimed.result _ _
