@@ -21,6 +21,7 @@ mod notes;
 mod opening;
 mod peer;
 mod peers;
+mod places;
 mod post;
 mod quiet;
 mod record_file;

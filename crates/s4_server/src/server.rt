@@ -13,22 +13,18 @@ ghost use Rattle.s4_pool.specs.Counts.{NoneUncounted};
 ghost use Rattle.s4_pool.specs.Numbers.{HasAll};
 ghost use Rattle.s4_server.specs.Setup.{CarriesOut, IsNamed};
 
-use crate::accepting::Door;
 use crate::board::Board;
 use crate::clock::Ticks;
-use crate::connection::Connection;
 use crate::fault::ServerFault;
 use crate::keeper::Keeper;
 use crate::notes::note_passes;
+use crate::places::Places;
 use crate::post::Post;
-use crate::threads::{Shared, run_threads};
+use crate::threads::Shared;
 use crate::upkeep::{Reloading, Upkeep};
-use crate::watch::Watch;
-use crate::workers::{gather, staff};
 use s4_cells::Cell;
 use s4_closing::none_went;
 use s4_command::Settings;
-use s4_jobs::{Jobs, Seat};
 use s4_pool::{Blank, Closed, Front, Names, OpenGate, Pass, Why};
 use s4_stream::Logins;
 use s4_types::{Caller, Moment, NoMemory, Reply, Request};
@@ -40,9 +36,6 @@ use std::sync::atomic::Ordering;
 use std::thread::Threads;
 use std::time::Clock;
 
-/// How many connections wait for a worker at most; a further one waits to be accepted.
-const WAITING: usize = 64;
-
 /// A server that is set up, and accepts nothing yet. Callers see its settings, and its first pass.
 #[derive(Drop)]
 pub struct Server<N: Names> {
@@ -50,20 +43,12 @@ pub struct Server<N: Names> {
     settings: Settings,
     front: Front<OpenGate, N>,
     passes: Vec<Pass<N>>,
-    jobs: Jobs<Connection>,
-    /// The seat of the one who accepts.
-    seat: Seat<Connection>,
-    /// The seats of the workers.
-    seats: Vec<Seat<Connection>>,
-    watches: Vec<Watch>,
     posts: Vec<Post>,
-    /// Over the listener.
-    outer: Watch,
+    places: Places,
 }
 
 impl<N: Names> Model for Server<N> {
     ghost use Rattle.std.specs.Prelude.{◌≡◌, length};
-    ghost use Rattle.s4_server.specs.Places.{AreOf};
     ghost use Rattle.s4_server.specs.Setup.{Setup, first_of};
 
     ghost Value = { Setup };
@@ -73,9 +58,7 @@ impl<N: Names> Model for Server<N> {
     ghost invariant = { λ s. (s.front.window ≡ s.settings.window)
         × (s.front.cells ≡ s.settings.cells)
         × (s.front.passes ≡ s.settings.workers)
-        × (length s.passes.items ≡ s.settings.workers)
-        × (s.seat.queue ≡ s.jobs.queue)
-        × AreOf s.jobs.queue s.seats.items };
+        × (length s.passes.items ≡ s.settings.workers) };
 }
 
 impl<N: Names + Send + Sync> Server<N> {
@@ -99,20 +82,14 @@ impl<N: Names + Send + Sync> Server<N> {
             ..
         } = settings;
         let (front, passes) = Front::open(alloc, window, cells, workers, OpenGate, blank)?;
-        let (jobs, mut seats) = Jobs::open(alloc, WAITING, workers + 1)?;
-        let seat = seats.remove(0);
-        let (outer, watches, posts) = open_watches(net, alloc, workers)?;
+        let (places, posts) = Places::open(net, alloc, &settings)?;
         Ok(Server {
             alloc,
             settings,
             front,
             passes,
-            jobs,
-            seat,
-            seats,
-            watches,
             posts,
-            outer,
+            places,
         })
     }
 
@@ -172,12 +149,8 @@ impl<N: Names + Send + Sync> Server<N> {
             settings,
             front,
             passes,
-            jobs,
-            seat,
-            seats,
-            watches,
             posts,
-            outer,
+            places,
         } = self;
         let now = clock.moment().tick();
         let board = Board::new(alloc, logins, settings.workers, now, keeper.is_some())?;
@@ -195,18 +168,9 @@ impl<N: Names + Send + Sync> Server<N> {
             patience: settings.patience,
             cuts: settings.cuts,
         };
-        let mut workers = staff(&shared, &jobs, seats, passes, watches)?;
-        let door = Door::new(listener, outer, posts.as_slice(), settings.open, &board);
         let table = board.tables.newest(rt)?.logins;
         let reloading = Reloading::new(alloc, upkeep, table, now);
-        let serving = workers.as_mut_slice();
-        run_threads(
-            &shared, &settings, door, &jobs, seat, serving, reloading, keeper,
-        );
-        if board.start.has_failed() {
-            return Err(ServerFault::NoMemory);
-        }
-        let passes = gather(alloc, workers)?;
+        let passes = places.serve(&shared, &settings, listener, passes, reloading, keeper)?;
         align(rt, &front, &board)?;
         let closed = match front.close(alloc, passes) {
             Ok(closed) => closed,
@@ -249,26 +213,4 @@ fn is_as_wanted(cells: &[Cell], cuts: bool) -> bool
 /// The port at which it is listened; 0 where that can't be told.
 fn port_of(listener: &TcpListener) -> u16 {
     listener.local_addr().map_or(0, |address| address.port())
-}
-
-/// A watch over a listener, and a watch and a post for each worker.
-fn open_watches<N: Net>(
-    net: &N,
-    alloc: Global,
-    workers: u64,
-) -> Result<(Watch, Vec<Watch>, Vec<Post>), ServerFault> {
-    let (outer, _) = open_watch(net, alloc)?;
-    let mut watches = Vec::new(alloc);
-    let mut posts = Vec::new(alloc);
-    for _ in 0..workers {
-        let (watch, post) = open_watch(net, alloc)?;
-        watches.push(watch)?;
-        posts.push(post)?;
-    }
-    Ok((outer, watches, posts))
-}
-
-/// A watch and its post.
-fn open_watch<N: Net>(net: &N, alloc: Global) -> Result<(Watch, Post), ServerFault> {
-    Watch::open(net, alloc).map_err(ServerFault::of_watch)
 }
