@@ -1,4 +1,4 @@
-use Rattle.std.proofs.Common.{◌≡◌, ◌<◌, ℕ, arith, refl}
+use Rattle.std.proofs.Common.{arith}
 use Rattle.std.proofs.lemmas.Result.{IfOk-weaker}
 use Rattle.s4_closing.specs.Claiming.{least_unclaimed}
 use Rattle.s4_closing.proofs.Unclaimed.{least_below, least_most}
