@@ -23,8 +23,8 @@ const CUTTING: u64 = 90;
 /// How long a piece of a cut is to take in a cell, in microseconds: so long its requests wait for it.
 const PAUSE: u64 = 100;
 
-/// How many microseconds a millisecond of records is to take, rests and all: so a cut goes at twice the
-/// pace of the clock.
+/// How many microseconds a millisecond of records is to take, rests and all, where it isn't late: so a
+/// cut goes at twice the pace of the clock.
 const PACE: u64 = 500;
 
 /// How many times as long as a piece took it is rested behind it at most.
@@ -35,6 +35,10 @@ const RESTS: u64 = 9;
 pub struct Cutter {
     /// How far the next piece goes, in milliseconds of records.
     step: u64,
+    /// Up to which moment calls had claimed their records in the last round.
+    claimed: u64,
+    /// Whether they had claimed further before it was cut up to the moment before.
+    late: bool,
 }
 
 /// How many microseconds a piece took: in all cells, and in the one in which it took the longest.
@@ -60,7 +64,11 @@ impl Took {
 impl Cutter {
     /// One who hasn't cut yet.
     pub fn new() -> Cutter {
-        Cutter { step: 1 }
+        Cutter {
+            step: 1,
+            claimed: 0,
+            late: false,
+        }
     }
 
     /// Cuts the cells as far as all workers' calls have claimed their records, in a round that began at
@@ -72,6 +80,10 @@ impl Cutter {
     ) {
         let claimed = least_claimed(shared.posts);
         let from = shared.board.cut.load(Ordering::SeqCst);
+        if claimed > self.claimed {
+            self.late = from < self.claimed;
+            self.claimed = claimed;
+        }
         let start = Instant::now(shared.rt).ok();
         for _ in shared.rt.forever() {
             let Some(took) = self.cut_piece(shared, claimed) else {
@@ -81,14 +93,28 @@ impl Cutter {
             if passed >= CUTTING {
                 break;
             }
-            let went = shared.board.cut.load(Ordering::SeqCst).saturating_sub(from);
-            let wanted = went.saturating_mul(PACE);
-            let rest = took.rest(wanted.saturating_sub(since(shared.rt, start)));
+            let rest = took.rest(self.ahead(shared, from, start));
             if rest > 0 {
                 thread::sleep(shared.rt, Duration::from_micros(rest));
             }
         }
         shared.board.due.store(due_in(shared), Ordering::SeqCst);
+    }
+
+    /// How many microseconds it is ahead of its pace, where it began at this moment then; 0 where it is
+    /// late.
+    fn ahead<R: Wait + Clock, C, N: Names>(
+        &self,
+        shared: &Shared<'_, R, C, N>,
+        from: u64,
+        start: Option<Instant>,
+    ) -> u64 {
+        if self.late {
+            return 0;
+        }
+        let went = shared.board.cut.load(Ordering::SeqCst).saturating_sub(from);
+        went.saturating_mul(PACE)
+            .saturating_sub(since(shared.rt, start))
     }
 
     /// Cuts each cell one piece further, and tells how long that took; none where there is no more. A cut
