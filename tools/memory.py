@@ -257,9 +257,9 @@ def faults_of_end(lines, requests, own, cuts):
         yield f"it counts {sum(counted)} records, and at its end writes {lines[-1]!r}"
 
 
-def end_server(run, server, load):
-    """Ends a server behind its load, and notes what is wrong with what it told of itself."""
-    replies, status = load.prepared + load.replies(), server.next_status()
+def end_server(run, server, replies):
+    """Ends a server that made so many replies to its load, and notes what is wrong with what it told of itself."""
+    status = server.next_status()
     own = own_requests(status, run.cuts)
     run.wrong += [f"{run.name}: {why}" for why in faults_of_status(status, replies, run.cuts)]
     lines, took = server.end()
@@ -270,6 +270,17 @@ def end_server(run, server, load):
     run.notes.append(f"{run.name}: it ended within {took:.1f} s: {', '.join(lines)}; {own} requests of its own")
 
 
+def go_through(plan, run, server, load, seconds):
+    """Goes through a run, from the begin of its load to the end, and tells how many requests were carried out."""
+    processes, before = [server.process.pid, *load.process_ids()], time.monotonic()
+    all_before, own_before = machine_time(), list(map(processor_time, processes))
+    Watch(plan, run, server, load, seconds).go()
+    own, lasted = [after - its for after, its in zip(map(processor_time, processes), own_before)], time.monotonic() - before
+    run.used = Used(own[0] / lasted, sum(own[1:]) / lasted, max(0, machine_time() - all_before - sum(own)) / lasted)
+    run.whens, run.times = load.end()
+    return load.prepared + load.replies()
+
+
 def run_server(plan, cuts, share, rate, seconds):
     """A server under a load, from its start to its end."""
     run = Run(cuts, share)
@@ -277,13 +288,7 @@ def run_server(plan, cuts, share, rate, seconds):
         print(f"{run.name}: load average {os.getloadavg()[0]:.1f}", flush=True)
     try:
         with Server(plan, cuts) as server, Load(server.address, plan.shape, rate) as load:
-            processes, before = [server.process.pid, *load.process_ids()], time.monotonic()
-            all_before, own_before = machine_time(), list(map(processor_time, processes))
-            Watch(plan, run, server, load, seconds).go()
-            own, lasted = [after - its for after, its in zip(map(processor_time, processes), own_before)], time.monotonic() - before
-            run.used = Used(own[0] / lasted, sum(own[1:]) / lasted, max(0, machine_time() - all_before - sum(own)) / lasted)
-            run.whens, run.times = load.end()
-            end_server(run, server, load)
+            end_server(run, server, go_through(plan, run, server, load, seconds))
     except (Wrong, ConnectionError) as why:
         run.wrong.append(f"{run.name}: {why}")
     return run

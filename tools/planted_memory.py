@@ -3,6 +3,7 @@ import random
 from dataclasses import replace
 
 from examples import client as it
+from tools.falling import judge_fall
 from tools.levels import judge
 from tools.loads import SMALL, VERSION, Batch, Wrong, shape_of
 from tools.memory import BUDGET, CELLS, IDLE, WINDOW, Plan, Run, Sample, faults_of_end, faults_of_status, run_server
@@ -62,6 +63,24 @@ RUNS = {
     "a p99 that is 3 times as great at a tenth of the load": (lambda: planted_runs(flat, 1, 3), "a tenth of it: p99"),
     "a server that stands still now and then": (lambda: standing_still(planted_runs(flat), 0.3), "full load: p99 of requests each millisecond"),
     "a run of which nothing was seen": (lambda: [Run(False, 1), Run(True, 1)], "too little"),
+}
+
+
+def planted_fall(left):
+    """Runs of a load that fell to a tenth of it, and the records of how many seconds of that are left at each second."""
+    full, lesser = Run(True, 1), Run(True, 0.1)
+    for second in range(23):
+        full.samples.append(Sample(second, BASE, RATE * second, RATE * min(second, 10), None))
+        lesser.samples.append(Sample(second, BASE, RATE // 10 * second, int(RATE / 10 * left(second)), None))
+    return full, lesser
+
+
+# What is planted in runs of a load that falls, and what has to be told of it.
+FALLS = {
+    "records that go within a window": (lambda: planted_fall(lambda second: max(110 - 10 * second, 11)), None),
+    "records that stay for two windows": (lambda: planted_fall(lambda second: max(110 - 5 * second, 11)), "stay"),
+    "records that stay": (lambda: planted_fall(lambda second: 110), "stay"),
+    "a fall of which nothing was seen": (lambda: (Run(True, 1), Run(True, 0.1)), "too little"),
 }
 
 # What a server tells behind a load, where 500 replies came: whether it cuts, and what has to be told.
@@ -132,6 +151,8 @@ def cases(program):
     """All that is planted: its name, what is told, and what has to be told, or none where nothing may be."""
     for name, (plant, wanted) in RUNS.items():
         yield name, judge(plant(), WINDOW)[1], wanted
+    for name, (plant, wanted) in FALLS.items():
+        yield name, judge_fall(*plant(), WINDOW)[1], wanted
     for name, (status, cuts, wanted) in STATUSES.items():
         yield name, list(faults_of_status(status, 500, cuts)), wanted
     for name, (lines, own, cuts, wanted) in ENDS.items():

@@ -1,212 +1,82 @@
 //! Calls that claim their records, so that both may go.
 
-ghost use Rattle.std.specs.Prelude.{◌≡◌, ◌+◌, ◌-◌, ◌*◌, ◌/◌, ◌<◌, ◌≤◌, max, min};
+ghost use Rattle.std.specs.Prelude.{◌≡◌, ◌-◌, ◌*◌, ◌<◌, ◌≤◌, ◌^◌, max, min};
 
 use crate::clock::Ticks;
 use crate::desk::Desk;
-use crate::post::{Post, least_claimed};
+use crate::post::Post;
 use crate::threads::Shared;
 use s4_pool::{Claimed, Gate, Names, Pass};
 use s4_types::Moment;
 use std::sync::Wait;
 use std::sync::atomic::Ordering;
-use std::thread;
-use std::time::{Clock, Duration, Instant};
 
 /// How many calls claim their records at a time, while others may wait for all cells; and how many are
-/// dropped at a time. So long a worker's connections wait for what is made up for while they ask nothing.
+/// dropped at a time. So many are looked after in each millisecond at least, whatever is asked.
 const PIECE: usize = 128;
 
-/// Up to how many milliseconds behind the begin of a round it is cut, where there is always more.
-const CUTTING: u64 = 90;
-
-/// How long a piece of a cut is to take in a cell, in microseconds: so long its requests wait for it.
-const PAUSE: u64 = 100;
-
-/// How many microseconds a millisecond of records is to take, rests and all, where it isn't late: so a
-/// cut goes at twice the pace of the clock.
-const PACE: u64 = 500;
-
-/// How many times as long as a piece took it is rested behind it at most.
-const RESTS: u64 = 9;
-
-/// Who cuts, cell by cell and piece by piece, so that nobody waits for long.
+/// Who has a worker's calls claim their records, and drops those whose records went.
 #[derive(Drop)]
-pub struct Cutter {
-    /// How far the next piece goes, in milliseconds of records.
-    step: u64,
-    /// Up to which moment calls had claimed their records in the last round.
-    claimed: u64,
-    /// Whether they had claimed further before it was cut up to the moment before.
-    late: bool,
+pub struct Claimant {
+    /// The millisecond in which it last looked after them.
+    looked: u64,
+    /// Whether calls were left then that are to claim their records, or to be dropped.
+    behind: bool,
 }
 
-/// How many microseconds a piece took: in all cells, and in the one in which it took the longest.
-#[derive(Drop)]
-struct Took {
-    all: u64,
-    longest: u64,
-}
+impl Claimant {
+    /// One for a worker that has made no calls.
+    pub fn new() -> Claimant {
+        Claimant {
+            looked: 0,
+            behind: false,
+        }
+    }
 
-impl Took {
-    /// How many microseconds to rest behind it, where it is so many ahead of its pace. Who rests a good
-    /// deal is seldom stopped while it holds a lock. And each cell is left to its requests at least half
-    /// as long as they waited: while the other cells are cut it is.
-    fn rest(&self, ahead: u64) -> u64
-        ensures { result ≡ max (min ahead (9 * self.now.all))
-            (self.now.longest / 2 - (self.now.all - self.now.longest)) }
+    /// Whether calls were left that are to claim their records, or to be dropped.
+    pub fn is_behind(&self) -> bool
+        ensures { result ≡ self.now.behind }
     {
-        let left = (self.longest / 2).saturating_sub(self.all.saturating_sub(self.longest));
-        ahead.min(self.all.saturating_mul(RESTS)).max(left)
-    }
-}
-
-impl Cutter {
-    /// One who hasn't cut yet.
-    pub fn new() -> Cutter {
-        Cutter {
-            step: 1,
-            claimed: 0,
-            late: false,
-        }
+        self.behind
     }
 
-    /// Cuts the cells as far as all workers' calls have claimed their records, in a round that began at
-    /// this moment, and says how far they are to claim them next.
-    pub fn cut<R: Wait + Clock, C: Ticks, N: Names>(
+    /// Looks after a worker's calls, which made so many since the last time.
+    pub fn look<R: Wait, C: Ticks, G: Gate, N: Names>(
         &mut self,
         shared: &Shared<'_, R, C, N>,
-        begun: u64,
+        post: &Post,
+        desk: &mut Desk<'_, R, C, G, N>,
+        made: usize,
     ) {
-        let claimed = least_claimed(shared.posts);
-        let from = shared.board.cut.load(Ordering::SeqCst);
-        if claimed > self.claimed {
-            self.late = from < self.claimed;
-            self.claimed = claimed;
-        }
-        let start = Instant::now(shared.rt).ok();
-        for _ in shared.rt.forever() {
-            let Some(took) = self.cut_piece(shared, claimed) else {
-                break;
-            };
-            let passed = shared.clock.moment().tick().saturating_sub(begun);
-            if passed >= CUTTING {
-                break;
-            }
-            let rest = took.rest(self.ahead(shared, from, start));
-            if rest > 0 {
-                thread::sleep(shared.rt, Duration::from_micros(rest));
-            }
-        }
-        shared.board.due.store(due_in(shared), Ordering::SeqCst);
+        let now = desk.clock.moment().tick();
+        let most = self.most(made, now);
+        self.looked = now;
+        self.behind = claim_calls(shared, post, desk, most);
     }
 
-    /// How many microseconds it is ahead of its pace, where it began at this moment then; 0 where it is
-    /// late.
-    fn ahead<R: Wait + Clock, C, N: Names>(
-        &self,
-        shared: &Shared<'_, R, C, N>,
-        from: u64,
-        start: Option<Instant>,
-    ) -> u64 {
-        if self.late {
-            return 0;
-        }
-        let went = shared.board.cut.load(Ordering::SeqCst).saturating_sub(from);
-        went.saturating_mul(PACE)
-            .saturating_sub(since(shared.rt, start))
-    }
-
-    /// Cuts each cell one piece further, and tells how long that took; none where there is no more. A cut
-    /// that memory was refused for is made up for by the next round.
-    fn cut_piece<R: Wait + Clock, C, N: Names>(
-        &mut self,
-        shared: &Shared<'_, R, C, N>,
-        claimed: u64,
-    ) -> Option<Took> {
-        let board = shared.board;
-        let before = board.cut.load(Ordering::SeqCst);
-        let end = before.saturating_add(self.step).min(claimed);
-        if end <= before {
-            return None;
-        }
-        board.ahead.store(end, Ordering::SeqCst);
-        let mut took = Took { all: 0, longest: 0 };
-        for cell in 0..shared.cells {
-            let begun = Instant::now(shared.rt).ok();
-            cut_cell(shared, cell, end)?;
-            let passed = since(shared.rt, begun);
-            took.all = took.all.saturating_add(passed);
-            took.longest = took.longest.max(passed);
-        }
-        board.cut.store(end, Ordering::SeqCst);
-        self.step = step_after(end - before, took.longest);
-        Some(took)
-    }
-}
-
-/// Cuts a cell at this moment; none where memory was refused for that, or a record that no call claimed
-/// in time, and so has none, is in the way.
-fn cut_cell<R: Wait, C, N: Names>(shared: &Shared<'_, R, C, N>, cell: usize, end: u64) -> Option<()>
-    requires { cell < shared.now.front.now.cells }
-{
-    let cut = shared
-        .front
-        .cut_one(shared.rt, cell, Moment::new(end))
-        .ok()?;
-    if cut.tick() < end {
-        shared.board.stray.store(true, Ordering::SeqCst);
-        return None;
-    }
-    Some(())
-}
-
-/// How many whole microseconds have passed since then, as far as they fit; 0 where that can't be told.
-fn since<R: Clock>(rt: &R, begun: Option<Instant>) -> u64 {
-    let passed = begun.and_then(|begun| begun.elapsed(rt).ok());
-    passed.map_or(
-        0,
-        |time| u64::try_from(time.as_micros()).unwrap_or(u64::MAX),
-    )
-}
-
-/// How far the next piece goes, where one that went so far took so many microseconds.
-fn step_after(step: u64, took: u64) -> u64
-    ensures some { 0 < step → 0 < result }
-    ensures quick { took < 100 → step ≤ result }
-    ensures slow { 100 ≤ took → result ≤ step + 1 }
-{
-    if took < PAUSE {
-        step.saturating_mul(2)
-    } else {
-        (step.saturating_mul(PAUSE) / took).max(1)
-    }
-}
-
-/// To which moment calls are to claim their records: the least of the cells' horizons, and of what the
-/// journal has.
-fn due_in<R: Wait, C, N: Names>(shared: &Shared<'_, R, C, N>) -> u64 {
-    let mut due = shared.board.kept.load(Ordering::SeqCst);
-    for cell in 0..shared.cells {
-        if let Some(measure) = shared.front.measure(shared.rt, cell) {
-            due = due.min(measure.horizon.tick());
+    /// How many calls to look after: twice as many as were made since the last time, and a piece at
+    /// least where that was in another millisecond. So those of a load that fell are looked after too.
+    fn most(&self, made: usize, now: u64) -> usize
+        ensures again { now ≤ self.now.looked → result ≡ min (made * 2) (2 ^ 64 - 1) }
+        ensures anew { self.now.looked < now → result ≡ max (min (made * 2) (2 ^ 64 - 1)) 128 }
+    {
+        let twice = made.saturating_mul(2);
+        if now > self.looked {
+            twice.max(PIECE)
+        } else {
+            twice
         }
     }
-    due
 }
 
 /// Has a worker's calls claim their records as far as they are to, and drops those whose records went:
-/// of either twice as many as were made since the last time, and a piece more where it `rests`. Tells
-/// whether there may be more of them.
-pub fn claim_calls<R: Wait, C, G: Gate, N: Names>(
+/// of either at most so many, in pieces. Tells whether there may be more of them.
+fn claim_calls<R: Wait, C, G: Gate, N: Names>(
     shared: &Shared<'_, R, C, N>,
     post: &Post,
     desk: &mut Desk<'_, R, C, G, N>,
-    made: usize,
-    rests: bool,
+    most: usize,
 ) -> bool {
-    let more = if rests { PIECE } else { 0 };
-    let most = made.saturating_mul(2).saturating_add(more);
     let cut = shared.board.cut.load(Ordering::SeqCst);
     let has_more = forget_calls(&mut desk.pass, Moment::new(cut), most);
     let due = shared.board.due.load(Ordering::SeqCst);

@@ -10,6 +10,7 @@ mod claims;
 mod clock;
 mod connection;
 mod conversation;
+mod cutting;
 mod desk;
 mod ending;
 mod event;

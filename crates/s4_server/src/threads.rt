@@ -4,9 +4,9 @@ ghost use Rattle.std.specs.Prelude.{◌≡◌};
 
 use crate::accepting::{Door, accept_all};
 use crate::board::Board;
-use crate::claims::Cutter;
 use crate::clock::Ticks;
 use crate::connection::Connection;
+use crate::cutting::Cutter;
 use crate::keeper::Keeper;
 use crate::post::{Post, wake_all};
 use crate::quiet::find_quiet;

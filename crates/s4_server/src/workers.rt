@@ -3,7 +3,7 @@
 ghost use Rattle.std.specs.Prelude.{◌≡◌};
 ghost use Rattle.s4_server.specs.Places.{AreOf};
 
-use crate::claims::claim_calls;
+use crate::claims::Claimant;
 use crate::clock::Ticks;
 use crate::connection::Connection;
 use crate::desk::Desk;
@@ -22,9 +22,9 @@ use std::sync::Wait;
 use std::sync::atomic::Ordering;
 use std::time::{Clock, Duration};
 
-/// How many milliseconds a worker waits that has calls left to look after: so it is seldom in others'
-/// way.
-const PAUSE: u64 = 1;
+/// How many milliseconds a worker waits at most that has calls left to look after: so it is seldom in
+/// others' way.
+const NAP: u64 = 1;
 
 /// A worker's place: where it takes connections, where it waits for what their peers say, and where
 /// it answers their requests.
@@ -37,8 +37,7 @@ pub struct Worker<'a, R, C, N: Names> {
     post: &'a Post,
     watch: Watch,
     peers: Peers,
-    /// Whether calls are left that are to claim their records, or to be dropped.
-    behind: bool,
+    claimant: Claimant,
     desk: Desk<'a, R, C, OpenGate, N>,
     pub ghost same: { seat.queue ≡ jobs.now.queue },
 }
@@ -75,7 +74,7 @@ pub fn staff<'a, R, C, N: Names>(
                 post,
                 watch,
                 peers: Peers::new(shared.alloc),
-                behind: false,
+                claimant: Claimant::new(),
                 desk,
             })?;
         }
@@ -149,8 +148,8 @@ impl<R: Wait + Clock, C: Ticks, N: Names> Worker<'_, R, C, N> {
     /// How long it waits for what is told: not for long where calls are left to be looked after.
     fn patience(&self) -> Option<Duration> {
         let most = self.peers.patience();
-        if self.behind {
-            most.or(Some(Duration::from_millis(PAUSE)))
+        if self.claimant.is_behind() {
+            most.or(Some(Duration::from_millis(NAP)))
         } else {
             most
         }
@@ -163,7 +162,7 @@ impl<R: Wait + Clock, C: Ticks, N: Names> Worker<'_, R, C, N> {
             post,
             watch,
             peers,
-            behind,
+            claimant,
             desk,
             ..
         } = self;
@@ -171,21 +170,19 @@ impl<R: Wait + Clock, C: Ticks, N: Names> Worker<'_, R, C, N> {
         let events = watch.wait(patience);
         let now = shared.board.time.load(Ordering::SeqCst);
         let calls = desk.pass.receipts().len();
-        let rests = events.is_empty();
         for event in events.iter() {
             if let Some(place) = place_of(event.token()) {
                 peers.give_turn(shared, desk, now, place, event.is_read_closed());
             }
         }
         peers.give_eager_turns(shared, desk, now);
-        let looks = peers.look(shared, desk, now);
-        if looks {
+        if peers.look(shared, desk, now) {
             post.show(&peers.states());
             move_on(shared, desk);
         }
         if shared.cuts {
             let made = desk.pass.receipts().len().saturating_sub(calls);
-            *behind = claim_calls(shared, post, desk, made, rests || looks);
+            claimant.look(shared, post, desk, made);
         }
         if shared.board.over.load(Ordering::SeqCst) {
             peers.end(desk, now);
