@@ -6,33 +6,35 @@ import subprocess
 from dataclasses import dataclass
 from pathlib import Path
 
+from tools import kit, libraries
 from tools.edits import Unusable, read_edit
 
 TRIED = "wrong-bodies.tried"
 # The rule by which edits are judged: a new number has all crates tried again.
-RULE = 1
+RULE = 2
 PARTS = ("src", "specs", "proofs")
 
 
 @dataclass(frozen=True)
 class Tried:
-    """A line of the file of results: what was tried of a crate."""
+    """A line of the file of results: what was tried of a crate, over which files and which statements below it."""
 
     own: str
-    whole: str
+    below: str
+    stated: str
     refused: int
     date: str
     seconds: int
 
     def line(self, name):
-        return f"{name} own={self.own} whole={self.whole} refused={self.refused} tried={self.date} seconds={self.seconds}"
+        return f"{name} own={self.own} below={self.below} stated={self.stated} refused={self.refused} tried={self.date} seconds={self.seconds}"
 
 
 class Repository:
     """The crates of a checkout, and what was tried of them."""
 
-    def __init__(self, root):
-        self.root, self.crates = Path(root), {}
+    def __init__(self, root, is_after_ci=False):
+        self.root, self.crates, self.is_after_ci = Path(root).resolve(), {}, is_after_ci
         for line in (self.root / "crates.txt").read_text(encoding="utf-8").split("\n"):
             head, found, below = line.partition("#")[0].partition(":")
             if found:
@@ -66,10 +68,43 @@ class Repository:
     def own_sum(self, name):
         return self.sum_of(name, (*PARTS, "wrong"))
 
-    def whole_sum(self, name):
-        """A sum of all that the check of a crate's wrong bodies reads."""
-        read = (RULE, self.kit, self.own_sum(name), [self.sum_of(it, PARTS) for it in self.below(name)])
+    def below_sum(self, name):
+        """A sum of the files that the check of a crate's wrong bodies reads beside its own."""
+        read = (RULE, self.kit, [self.sum_of(it, PARTS) for it in self.below(name)])
         return hashlib.sha256(repr(read).encode()).hexdigest()[:16]
+
+    @functools.cache
+    def is_left(self, name):
+        """Whether an `rt ci` that passed for these files has left the libraries below a crate. Whoever says so has called it just now, where no library without
+        a stamp stood before: it puts those back."""
+        return self.is_after_ci and kit.are_left(self.root, name)
+
+    @functools.cache
+    def statements_of(self, name):
+        """A sum of what the library of a crate states, or none where it isn't of statements alone."""
+        library = kit.library_of(self.root, name)
+        return libraries.stated_sum(library) if libraries.holds_statements(library, name) else None
+
+    def stated_sum(self, name):
+        """A sum of what is stated below a crate, or '-' where the libraries don't tell."""
+        sums = [self.statements_of(it) for it in self.below(name)] if self.is_left(name) else [None]
+        return "-" if None in sums else hashlib.sha256(repr((RULE, self.kit, sums)).encode()).hexdigest()[:16]
+
+    def clear(self):
+        """Removes the libraries that `rt ci` left, so that the next one leaves its own."""
+        for name in self.crates:
+            place = kit.library_of(self.root, name).parent
+            if place.is_dir() and not (place / "stamp").exists():
+                shutil.rmtree(place)
+
+    def words(self, name):
+        """The words of a check of a crate over what `rt ci` left."""
+        return kit.words_of(self.root, name)
+
+    def functions(self, name):
+        """The functions of a crate whose library stands there, as a check names them."""
+        library = kit.library_of(self.root, name)
+        return libraries.functions_in(library, name) if library.is_dir() else []
 
     def edits(self, name):
         """A crate's edits, and of each file that holds none why."""
@@ -95,11 +130,28 @@ class Repository:
             name, *words = line.partition("#")[0].split() or [""]
             said = dict(it.partition("=")[::2] for it in words)
             if name and said:
-                found[name] = Tried(said["own"], said["whole"], int(said["refused"]), said["tried"], int(said["seconds"]))
+                found[name] = Tried(said["own"], said["below"], said["stated"], int(said["refused"]), said["tried"], int(said["seconds"]))
         return found
 
+    def seconds_of(self, name):
+        """The seconds that a crate's edits took last."""
+        found = self.tried().get(name)
+        return found.seconds if found else 0
+
+    def is_changed(self, name):
+        """Whether a crate was changed since its edits were tried."""
+        found = self.tried().get(name)
+        return not found or found.own != self.own_sum(name)
+
+    def is_due(self, name):
+        """Whether a crate's edits are to be tried: it was changed since they were, or what is stated below it."""
+        if self.is_changed(name):
+            return True
+        found = self.tried()[name]
+        return found.below != self.below_sum(name) and (found.stated == "-" or found.stated != self.stated_sum(name))
+
     def keep(self, found):
-        head = "# What ./wrong-bodies tried: sums of each crate and of all that its check reads, how many edits were refused, when, and in how many seconds.\n"
+        head = "# What ./wrong-bodies tried: sums of each crate, of the files below it and of what is stated there, how many edits were refused, when, and in how many seconds.\n"
         lines = [found[it].line(it) for it in self.with_edits() if it in found]
         (self.root / TRIED).write_text(head + "".join(f"{it}\n" for it in lines), encoding="utf-8")
 

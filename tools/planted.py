@@ -52,6 +52,15 @@ impl From<Number> for u8 {
         it.0
     }
 }
+
+mod inner {
+    /// A third of a number.
+    pub fn third(y: u8) -> u8
+        ensures { result ≡ y / 3 }
+    {
+        y / 3
+    }
+}
 """
 
 # Each edit that is planted, as old and new text, and how what is said of it begins.
@@ -60,9 +69,11 @@ PLANTS = {
     "wrong_in_a_caller": ("half(half(x))", "half(x)", "refused: fn planted::quarter: no proof"),
     "right": ("half(x) + half(y)", "half(y) + half(x)", "NOT REFUSED"),
     "wrong_in_a_method": ("        x\n", "        x / 2\n", "refused: fn planted::Number::new: no proof"),
+    # (of modules inside a file the paths aren't known)
+    "wrong_where_no_name_is_known": ("        y / 3\n", "        y / 4\n", "refused: alone: src/lib.rt"),
     "wrong_in_an_impl": ("        it.0\n", "        it.0 / 2\n", "refused: fn planted::U8FromNumber::from: no proof"),
     "unreadable": ("half(half(x))", "half(half(z))", "BAD EDIT"),
-    "not_there": ("x / 7", "x / 8", "BAD EDIT"),
+    "not_there": ("x / 9", "x / 8", "BAD EDIT"),
 }
 
 
@@ -80,16 +91,26 @@ def planted(room):
     return Repository(room)
 
 
-def self_test():
-    """Tries what is planted. Returns whether each edit comes out as it should."""
-    with tempfile.TemporaryDirectory(prefix="wrong-bodies-") as room:
-        repository, said = planted(Path(room)), []
-        said += repository.edits("planted")[1]
-        try_crates(repository, ["planted"], 1, said.append)
+def said_of(repository):
+    """What is said of the planted edits, and their trials."""
+    said = list(repository.edits("planted")[1])
+    trials = try_crates(repository, ["planted"], 1, said.append)
+    return said, trials["planted"]
+
+
+def faults_in(said):
+    """What is said of planted edits that shouldn't be."""
     faults = []
     for name, (_, _, wanted) in PLANTS.items():
         line = next((it for it in said if f"/{name}" in it), "nothing is said of it")
         if f": {wanted}" not in line:
             faults.append(f"wrong-bodies: of the planted edit {name} is said: {line}")
+    return faults
+
+
+def self_test():
+    """Tries what is planted. Returns whether each edit comes out as it should."""
+    with tempfile.TemporaryDirectory(prefix="wrong-bodies-") as room:
+        faults = faults_in(said_of(planted(Path(room)))[0])
     print("\n".join(faults) or f"wrong-bodies: {len(PLANTS)} planted edits come out as they should, one right body as not refused")
     return not faults

@@ -1,36 +1,25 @@
 """Tries the edits of crates."""
-import os
-import shutil
-import signal
 import tempfile
 from dataclasses import dataclass, field
 from pathlib import Path
 
+from tools.checkers import OverLibraries, OverProofs
 from tools.crates import copied
 from tools.edits import Unusable
-from tools.functions import places_of
+from tools.functions import module_of, places_of
 from tools.lanes import Lanes
-from tools.reports import LIMITS, UNREAD, run_check
-
-
-def link_or_copy(one, other):
-    """Gives what is proved a second name (a check replaces such a file, and writes into none), and copies anything else."""
-    if str(one).endswith(".oantt"):
-        os.link(one, other)
-    else:
-        shutil.copy2(one, other)
+from tools.reports import LIMITS, UNREAD
 
 
 @dataclass
 class Trials:
-    """The tries of one crate's edits, in a copy of the crate and those below it."""
+    """The tries of one crate's edits, in a copy of the crate."""
 
     crate: str
     folder: Path
     edits: list
-    is_below: bool
+    checker: object
     say: object
-    seconds_first: float = 0.0
     seconds: float = 0.0
     checks: int = 0
     refused: set = field(default_factory=set)
@@ -40,44 +29,19 @@ class Trials:
         """How many edits aren't refused, as far as is known."""
         return len(self.edits) - len(self.refused)
 
-    def take_over(self, kept, below):
-        """Gives the copies what is made already: of the crates below by their own trials, and of this one where it was checked before. A
-        library is only read, or made anew as a whole, so all of its files get second names: copies would fill a disk."""
-        for name, trials in below.items():
-            made = trials.as_it_stands() / "rlib"
-            if made.is_dir():
-                shutil.copytree(made, self.folder.parent / name / "out" / "rlib", copy_function=os.link)
-        if kept.is_dir():
-            shutil.copytree(kept, self.folder / "out", copy_function=link_or_copy)
-
-    def as_it_stands(self):
-        """The folder of what was made of the crate before its edits, which change `out`, were tried."""
-        return self.folder / ("out-begun" if self.edits else "out")
+    @property
+    def seconds_first(self):
+        return self.checker.seconds_first
 
     def begin(self):
-        """Proves the crate as it stands, over which its edits are tried, and builds it for those above it."""
-        report, self.seconds_first = run_check(self.folder, "lib" if self.is_below else "check")
-        if report.is_proved and self.edits:
-            shutil.copytree(self.folder / "out", self.as_it_stands(), copy_function=link_or_copy)
-        elif not report.is_proved:
-            self.say(f"{self.crate}: it isn't proved as it stands: {report.first_complaint()}")
-        return report.is_proved
+        """Has the crate proved as it stands."""
+        why = self.checker.begin(sum(not self.modules(it) and places_of(it, self.folder) is None for it in self.edits))
+        if why:
+            self.say(f"{self.crate}: it isn't proved as it stands: {why}")
+        return why is None
 
-    def check(self, texts):
-        """Checks the crate with these texts in the place of its own, over what was proved of it at first."""
-        was = {file: (self.folder / file).read_text(encoding="utf-8") for file in texts}
-        shutil.rmtree(self.folder / "out")
-        shutil.copytree(self.as_it_stands(), self.folder / "out", copy_function=link_or_copy)
-        try:
-            for file, text in texts.items():
-                (self.folder / file).write_text(text, encoding="utf-8")
-            report, seconds = run_check(self.folder)
-            if report.status == -signal.SIGKILL:
-                # (most likely for memory)
-                report, seconds = run_check(self.folder)
-        finally:
-            for file, text in was.items():
-                (self.folder / file).write_text(text, encoding="utf-8")
+    def check(self, texts, functions=()):
+        report, seconds = self.checker.check(texts, functions)
         self.seconds += seconds
         self.checks += 1
         return report
@@ -113,25 +77,64 @@ class Trials:
         left, most = list(self.edits), len(self.edits)
         while left:
             texts, taken = self.chosen(left, most)
-            report = self.check(texts)
-            told = {it: why for it, places in taken.items() if report.is_refused and places for why in [self.reason(report, places)] if why}
-            for edit, why in told.items():
-                self.told(edit, why)
+            told = self.tried(texts, taken)
             if not told and len(taken) == 1:
                 told = taken
-                self.judge_alone(next(iter(taken)), report)
+                self.alone(next(iter(taken)), texts)
             # (where a round tells nothing, half of it is tried, and at last an edit alone)
             most = len(self.edits) if told else max(1, len(taken) // 2)
             left = [it for it in left if it not in told]
+
+    def tried(self, texts, taken):
+        """Checks a round's functions, says what refuses its edits, and returns those that are told."""
+        places = {it for each in taken.values() for it in each or ()}
+        if not places:
+            return {}
+        report = self.check(texts, [self.name_of(it) for it in places])
+        self.newest = report
+        told = {it: why for it, each in taken.items() if report.is_refused for why in [self.reason(report, each)] if why}
+        for edit, why in told.items():
+            self.told(edit, why)
+        return told
+
+    def name_of(self, place):
+        """The path by which a check names a function. A method may stand in another module than its type, by which it is named."""
+        known = getattr(self.checker, "functions", [])
+        same = [it for it in known if it.split("::")[-2:] == place.path.split("::")[-2:]]
+        return place.path if place.path in known or len(same) != 1 else same[0]
 
     @staticmethod
     def reason(report, places):
         return next((why for why in map(report.against, sorted(places, key=lambda it: it.path)) if why), None)
 
-    def judge_alone(self, edit, report):
-        """Says what the check of one edit alone comes to."""
+    def alone(self, edit, texts):
+        """Tries an edit that its functions don't tell, or that lies in none: by the modules of its files, and at last by the whole check."""
+        if self.checker.tells_all and self.places[edit]:
+            self.judge(edit, self.newest)
+            return
+        if not self.checker.tells_all and self.modules(edit):
+            report = self.check(texts, self.modules(edit))
+            why = report.is_refused and not self.unread(edit, report) and report.against_any()
+            if why:
+                self.told(edit, f"alone: {why}")
+                return
+        self.judge(edit, self.check(texts))
+
+    def modules(self, edit):
+        """The modules of the files that an edit changes; none where one of them is the crate's root, or none of code."""
+        found = {"::".join([self.crate, *module_of(it.file)]) for it in edit.changes if it.file.startswith("src/")}
+        is_known = self.crate not in found and all(it.file.startswith("src/") for it in edit.changes)
+        return sorted(found) if is_known else []
+
+    @staticmethod
+    def unread(edit, report):
+        """What of the edited files can't be read, if anything."""
         files = {it.file for it in edit.changes}
-        unread = next((text for file, _, text in report.texts if file in files and text.startswith("error: ") and UNREAD.search(text)), None)
+        return next((text for file, _, text in report.texts if file in files and text.startswith("error: ") and UNREAD.search(text)), None)
+
+    def judge(self, edit, report):
+        """Says what the whole check of one edit alone comes to."""
+        unread = self.unread(edit, report)
         if report.is_proved:
             self.miss(edit, "NOT REFUSED: the crate is still proved with this edit")
         elif any(LIMITS.search(it) for it in report.lines) and not report.is_refused:
@@ -147,11 +150,13 @@ class Trials:
 def try_crates(repository, names, jobs, say, ended=lambda trials: None):
     """Tries the edits of these crates, side by side, each crate in a copy of its own, and calls `ended` with the trials of each that is
     done. Returns all trials."""
-    needed = dict.fromkeys(below for it in names for below in [*repository.below(it), it])
+    left = {it for it in names if repository.is_left(it)}
+    needed = dict.fromkeys(below for it in names for below in [*(() if it in left else repository.below(it)), it])
     trials = {}
 
     def begin(it):
-        it.take_over(repository.folder(it.crate) / "out", {below: trials[below] for below in repository.below(it.crate)})
+        if it.crate not in left:
+            it.checker.take_over(repository.folder(it.crate) / "out", {below: trials[below].checker for below in repository.below(it.crate)})
         return it.begin()
 
     def run(done, it):
@@ -164,11 +169,14 @@ def try_crates(repository, names, jobs, say, ended=lambda trials: None):
         lanes = Lanes(jobs)
         for name in needed:
             edits = repository.edits(name)[0] if name in names else []
-            is_below = any(name in repository.below(it) for it in needed)
             folder = copied(repository, name, Path(room) / name)
-            it = trials[name] = Trials(name, folder, edits, is_below, say)
-            first = [("first", below) for below in repository.below(name)]
+            if name in left:
+                checker = OverLibraries(folder, repository.words(name), repository.functions(name))
+            else:
+                checker = OverProofs(name, folder, bool(edits), any(name in repository.below(it) for it in needed))
+            it = trials[name] = Trials(name, folder, edits, checker, say)
+            first = [] if name in left else [("first", below) for below in repository.below(name)]
             lanes.add(("first", name), first, (0, -repository.height(name)), lambda done, it=it: begin(it))
-            lanes.add(("edits", name), [("first", name)], (1, -len(edits)), lambda done, it=it: run(done, it))
+            lanes.add(("edits", name), [("first", name)], (1, -repository.seconds_of(name), -len(edits)), lambda done, it=it: run(done, it))
         lanes.run()
     return trials

@@ -1,0 +1,112 @@
+"""What is planted, tried over what `rt ci` left, and over libraries that it didn't leave; and what changes the sum of what is stated."""
+import shutil
+import subprocess
+import tempfile
+from pathlib import Path
+
+from tools.checkers import OverLibraries
+from tools.crates import Repository
+from tools.planted import faults_in, planted, said_of
+
+LOW = """\
+//! A small crate that the other one stands on.
+#![tactic(auto)]
+
+ghost use Rattle.std.specs.Prelude.{◌≡◌};
+ghost use Rattle.low.specs.Kept.{kept};
+
+/// What was given.
+pub fn same(x: u8) -> u8
+    ensures { result ≡ kept x }
+{
+    x
+}
+
+/// The first of two.
+pub fn first<T: Copy>(x: T, _y: T) -> T
+    ensures { result ≡ x }
+{
+    x
+}
+
+/// A number with a name.
+#[derive(Clone, Copy)]
+pub struct Small {
+    pub number: u8,
+}
+"""
+KEPT = """\
+use Rattle.std.specs.Prelude.{ℕ, ◌+◌}
+
+abbrev pub kept : ℕ → ℕ
+kept n = n
+"""
+# What is changed in the lower crate, as file, old and new texts, and whether something else is stated then.
+CHANGES = {
+    "a comment, a body or a generic body": ("src/lib.rt", (("//! A small", "//! One small"), ("{\n    x\n}", "{\n    let y = x;\n    y\n}")), False),
+    "a clause": ("src/lib.rt", (("ensures { result ≡ x }", "ensures { x ≡ result }"),), True),
+    "a definition": ("specs/Kept.antt", (("kept n = n", "kept n = n + 0"),), True),
+    "a type": ("src/lib.rt", (("pub number: u8,", "pub number: u16,"),), True),
+}
+
+
+def stand_on_low(room):
+    """The planted repository, with one more crate, on which the planted one stands."""
+    planted(room)
+    (room / ".git").mkdir()
+    folder = room / "crates" / "low"
+    for it in ("src", "specs"):
+        (folder / it).mkdir(parents=True)
+    (folder / "src" / "lib.rt").write_text(LOW, encoding="utf-8")
+    (folder / "specs" / "Kept.antt").write_text(KEPT, encoding="utf-8")
+    (folder / "specs" / "Lib.antt").write_text("pub mod Kept\n", encoding="utf-8")
+    (room / "crates.txt").write_text("low:\nplanted: low\n", encoding="utf-8")
+
+
+def after_ci(room, *words):
+    """The repository once `rt ci` passed, which puts back what stood there."""
+    for it in room.glob("crates/*/out/rlib"):
+        shutil.rmtree(it)
+    ran = subprocess.run(["rt", "ci", *words], cwd=room, capture_output=True, text=True)
+    if ran.returncode:
+        raise RuntimeError(f"rt ci fails on what is planted: {ran.stdout[-2000:]}")
+    return Repository(room, is_after_ci=True)
+
+
+def faults_of_sums(room, stated):
+    """Which changes of the lower crate don't change what is stated as they should."""
+    faults, source = [], room / "crates" / "low"
+    for name, (file, pairs, is_stated) in CHANGES.items():
+        was = text = (source / file).read_text(encoding="utf-8")
+        for old, new in pairs:
+            text = text.replace(old, new)
+        (source / file).write_text(text, encoding="utf-8")
+        if (after_ci(room).stated_sum("planted") != stated) != is_stated:
+            faults.append(f"wrong-bodies: {name} of the crate below {'does not change' if is_stated else 'changes'} the sum of what is stated")
+        (source / file).write_text(was, encoding="utf-8")
+    return faults
+
+
+def self_test():
+    """Tries what is planted over libraries. Returns whether all comes out as it should."""
+    with tempfile.TemporaryDirectory(prefix="wrong-bodies-") as both:
+        room, other = Path(both) / "room", Path(both) / "other"
+        room.mkdir()
+        stand_on_low(room)
+        shutil.copytree(room, other)
+        repository = after_ci(room)
+        said, trials = said_of(repository)
+        faults = faults_in(said)
+        if not isinstance(trials.checker, OverLibraries):
+            faults.append("wrong-bodies: the libraries that rt ci left aren't taken")
+        stated = repository.stated_sum("planted")
+        if after_ci(other, "--anew").stated_sum("planted") != stated:
+            faults.append("wrong-bodies: the same crates made again, in another folder, have another sum of what is stated")
+        (other / "crates" / "low" / "out" / "rlib" / "stamp").write_text("of other files", encoding="utf-8")
+        said, trials = said_of(Repository(other, is_after_ci=True))
+        faults += faults_in(said)
+        if isinstance(trials.checker, OverLibraries):
+            faults.append("wrong-bodies: a library of other files is taken")
+        faults += faults_of_sums(room, stated)
+    print("\n".join(faults) or f"wrong-bodies: so they do over what rt ci left; {len(CHANGES)} changes below change what is stated, or don't, as they should")
+    return not faults
