@@ -1,6 +1,11 @@
-"""The worked rows of crates/s4_row_tests/data that the program runs without a fault."""
+"""The worked rows of tests/rows, and those among them that the program runs without a fault."""
 from dataclasses import dataclass
 from pathlib import Path
+
+# Where the rows stand, and where their texts do: those of cases of calls beside the program that makes these, those of examples as they are
+# shown.
+ROWS = "tests/rows"
+PLACES = (ROWS, "crates/s4_row_tests/data", "examples")
 
 
 @dataclass(frozen=True)
@@ -22,12 +27,12 @@ class Row:
 
 
 class Shelf:
-    """The texts of rows: files, or sections of rows.cases."""
+    """The texts of a checkout's rows: files, or sections of rows.cases."""
 
-    def __init__(self, folder):
-        self.folder, self.cases = Path(folder), {}
-        file, name = self.folder / "rows.cases", None
-        for line in file.read_text(encoding="utf-8").split("\n")[:-1] if file.is_file() else []:
+    def __init__(self, root):
+        self.places, self.cases = [Path(root) / it for it in PLACES], {}
+        name = None
+        for line in (Path(root) / ROWS / "rows.cases").read_text(encoding="utf-8").split("\n")[:-1]:
             if line.startswith("--- "):
                 name = line[4:]
                 self.cases[name] = ""
@@ -39,11 +44,11 @@ class Shelf:
         it = f"{name}.{kind}"
         if it in self.cases:
             return self.cases[it].encode()
-        return (self.folder / it).read_bytes() if (self.folder / it).is_file() else None
+        return next((place.joinpath(it).read_bytes() for place in self.places if place.joinpath(it).is_file()), None)
 
     def row(self, line):
         """The row of a line of the index; none where it isn't one script, strike or list of arrivals, or is to have a fault."""
-        kind, name, *more = line.split()
+        kind, name, *more = line
         if kind == "serials":
             return serials(name)
         if kind not in ("script", "strike", "arrivals") or self.text(name, "stderr") is not None:
@@ -62,11 +67,13 @@ def serials(name):
     return Row("serials", name, ("run",), given, wanted)
 
 
-def rows_of(folder):
-    """The rows of the folder, in the order of its index."""
-    shelf, found = Shelf(folder), []
-    for line in (Path(folder) / "rows.index").read_text(encoding="utf-8").split("\n"):
-        row = shelf.row(line) if line and not line.startswith("#") else None
-        if row:
-            found.append(row)
-    return found
+def index_of(root):
+    """The lines of the index of a checkout's rows, each as its words."""
+    lines = (Path(root) / ROWS / "rows.index").read_text(encoding="utf-8").split("\n")
+    return [line.split() for line in lines if line and not line.startswith("#")]
+
+
+def rows_of(root):
+    """The rows of a checkout that the program runs without a fault, in the order of their index."""
+    shelf = Shelf(root)
+    return [row for row in map(shelf.row, index_of(root)) if row]

@@ -1,39 +1,31 @@
-//! Nothing but a test, in two parts: the rows that stand as files in the folder `data`, where it runs,
-//! and calls of the library that can want memory. For each it writes whether all was as expected, or
-//! what was not. Without an argument it has both parts. With the argument `calls` it makes these calls
-//! alone, and with `calls NAME` those of one case.
+//! Nothing but a test. `calls` makes calls of the library that can want memory, and tells of each case
+//! whether all was as expected, or what was not; with a name it makes those of that case alone. That is
+//! done without an argument too.
+//!
+//! The other words have it tell what a script or arrivals on standard input are told in ways that the
+//! program s4d doesn't have (`ways`). The tests of the program compare that with what is wanted.
 #![tactic(auto)]
 
-mod arrivals;
-mod between;
 mod calls;
-mod conversations;
-mod cuts;
-mod examples;
-mod made;
-mod rows;
-mod scripts;
-mod strikes;
-mod telling;
 mod texts;
+mod ways;
 
-use crate::texts::Shelf;
-use std::io::ErrorKind;
-use std::{env, fs, io};
+use std::{env, io};
 
 fn main(rt: HostRuntime) -> io::Result<()> {
     let words: Vec<String> = env::args(&rt)?.collect(rt.alloc())?;
-    let cases = fs::read_to_string(&rt, "rows.cases")?;
-    let shelf = Shelf {
-        rt: &rt,
-        cases: cases.as_str(),
-    };
-    match words.get(1) {
-        None => {
-            rows::run_all(shelf, &rt)?;
-            calls::make_all(shelf, &rt, None)
-        }
-        Some(part) if part.as_str() == "calls" => calls::make_all(shelf, &rt, words.get(2)),
-        Some(_) => Err(io::Error::from(ErrorKind::InvalidInput)),
+    match word(&words, 1) {
+        "" | "calls" => calls::make_all(&rt, &rt, word(&words, 2)),
+        "hall" => ways::halls::tell(&rt, word(&words, 2), word(&words, 3)),
+        "strike" => ways::strikes::tell(&rt, word(&words, 2)),
+        _ => ways::scripts::tell(&rt, &rt, words.get(1..).unwrap_or_default()),
+    }
+}
+
+/// The argument of that place, or an empty one.
+fn word(words: &[String], place: usize) -> &str {
+    match words.get(place) {
+        Some(word) => word.as_str(),
+        None => "",
     }
 }

@@ -1,6 +1,6 @@
 //! What is asked in the cases, as lines of scripts say it, and whether a reply is what a line says.
 
-use crate::texts::invalid;
+use crate::texts::{invalid, well};
 use s4_pool::Asked;
 use s4_script::{Line, ReplyText, parse_line};
 use s4_types::{Refusal, Reply, Step, WireVersion};
@@ -9,8 +9,7 @@ use std::io;
 
 /// Who asks in a line, at which moment, and for what.
 pub fn asked(alloc: Global, line: &str) -> io::Result<Asked> {
-    let line = parse_line(WireVersion::One, alloc, line.as_bytes()).map_err(|_| invalid())?;
-    asked_in(&line)
+    asked_in(&well(parse_line(WireVersion::One, alloc, line.as_bytes()))?)
 }
 
 /// The same of a line that is read.

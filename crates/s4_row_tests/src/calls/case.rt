@@ -1,15 +1,13 @@
 //! A case, and where the calls that it is about begin and end.
 
-use crate::telling::word_of;
-use crate::texts::Shelf;
 use std::alloc::Global;
 use std::io;
 
 /// A case that is carried out, and what came of it so far.
 #[derive(Drop)]
 pub struct Case<'a> {
-    pub shelf: Shelf<'a>,
-    name: &'a str,
+    pub rt: &'a HostRuntime,
+    name: &'static str,
     /// Whether it is about the calls that come now.
     pub is_marking: bool,
     /// How many of its calls told by a reply that there was no memory, and how many by an error.
@@ -20,9 +18,9 @@ pub struct Case<'a> {
 }
 
 impl<'a> Case<'a> {
-    pub fn new(shelf: Shelf<'a>, name: &'a str) -> Case<'a> {
+    pub fn new(rt: &'a HostRuntime, name: &'static str) -> Case<'a> {
         Case {
-            shelf,
+            rt,
             name,
             is_marking: true,
             replies: 0,
@@ -32,20 +30,20 @@ impl<'a> Case<'a> {
     }
 
     pub fn alloc(&self) -> Global {
-        self.shelf.rt.alloc()
+        self.rt.alloc()
     }
 
     /// Marks on standard error that the call begins: `tools/refuse.c` counts and refuses what comes
     /// up to its end, and nothing else.
     pub fn begins(&self) {
         if self.is_marking {
-            let _ = eprintln!(self.shelf.rt; "the call begins");
+            let _ = eprintln!(self.rt; "the call begins");
         }
     }
 
     pub fn ends(&self) {
         if self.is_marking {
-            let _ = eprintln!(self.shelf.rt; "the call ends");
+            let _ = eprintln!(self.rt; "the call ends");
         }
     }
 
@@ -63,18 +61,20 @@ impl<'a> Case<'a> {
     pub fn check(&mut self, holds: bool, what: &str) {
         if !holds {
             self.is_same = false;
-            let _ = println!(self.shelf.rt; "{}: {what}", self.name);
+            let _ = println!(self.rt; "{}: {what}", self.name);
         }
     }
 
     /// Tells what came of it, and returns whether all was as expected.
     pub fn tell(&self) -> io::Result<bool> {
-        println!(self.shelf.rt;
-            "{}: {}, without memory: {} replies, {} errors",
-            self.name,
-            word_of(self.is_same),
-            self.replies,
-            self.errors
+        let word = if self.is_same {
+            "as expected"
+        } else {
+            "NOT as expected"
+        };
+        println!(self.rt;
+            "{}: {word}, without memory: {} replies, {} errors",
+            self.name, self.replies, self.errors
         )?;
         Ok(self.is_same)
     }

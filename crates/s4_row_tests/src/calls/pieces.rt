@@ -3,7 +3,7 @@
 
 use crate::calls::asked::asked;
 use crate::calls::case::Case;
-use crate::texts::invalid;
+use crate::texts::{invalid, text, well};
 use s4_session::{Event, FeedError, Hall, Logins, Session};
 use s4_types::{Caller, Moment, WireVersion};
 use std::alloc::Global;
@@ -45,8 +45,8 @@ const ROWS: [Row; 4] = [
 const NO_MEMORY: &[u8] = b"\x00\x00\x00\x02\x08\x10";
 
 fn logins(case: &Case) -> io::Result<Logins> {
-    let text = case.shelf.text("seven", "logins")?;
-    Logins::read(case.alloc(), &text).map_err(|_| invalid())
+    let text = text(case.rt, "seven", "logins")?;
+    well(Logins::read(case.alloc(), &text))
 }
 
 /// Feeds a session with the stream. Where there is no memory for a piece, the same piece gives the
@@ -142,7 +142,7 @@ fn hear(
         }
         heard => heard,
     };
-    heard.map_err(|_| invalid())
+    well(heard)
 }
 
 /// Gives a fresh hall the stream, a frame at a time.

@@ -3,8 +3,8 @@
 
 use crate::calls::asked::{asked_in, is_no_memory, text_of};
 use crate::calls::case::Case;
-use crate::scripts;
-use crate::texts::{Shelf, Texts, invalid};
+use crate::texts::{invalid, text};
+use crate::ways::scripts::Script;
 use s4_arena::Arena;
 use s4_drive::Drive;
 use s4_pool::Asked;
@@ -13,48 +13,50 @@ use s4_store::{PlainStore, Store};
 use s4_types::{Moment, Principal, Purse, PurseNo, Reply, Version};
 use std::io;
 
-/// The script of a row, what its lines ask for, and what is replied.
+/// The script of a row, and what is replied.
 #[derive(Drop)]
 struct Row {
-    window: u64,
-    lines: Vec<Line>,
-    texts: Texts,
+    script: Script,
+    replies: Vec<u8>,
 }
 
 impl Row {
-    fn read(shelf: &Shelf, name: &str) -> io::Result<Row> {
-        let texts = shelf.texts(name, "script")?;
-        let (opening, lines) = scripts::read(shelf.rt.alloc(), &texts)?;
+    fn read(rt: &HostRuntime, name: &str) -> io::Result<Row> {
         Ok(Row {
-            window: opening.window,
-            lines,
-            texts,
+            script: Script::read(rt.alloc(), &text(rt, name, "script")?)?,
+            replies: text(rt, name, "expected")?,
         })
     }
 }
 
 pub fn over_plain_store(case: &mut Case, name: &str) -> io::Result<()> {
-    let row = Row::read(&case.shelf, name)?;
+    let row = Row::read(case.rt, name)?;
     let store = PlainStore::new(case.alloc());
-    give_all(case, &mut Drive::new(case.alloc(), store, row.window), &row)
+    give_all(
+        case,
+        &mut Drive::new(case.alloc(), store, row.script.window),
+        &row,
+    )
 }
 
 pub fn over_arena(case: &mut Case, name: &str) -> io::Result<()> {
-    let row = Row::read(&case.shelf, name)?;
+    let row = Row::read(case.rt, name)?;
     let store = Arena::new(case.alloc());
-    give_all(case, &mut Drive::new(case.alloc(), store, row.window), &row)
+    give_all(
+        case,
+        &mut Drive::new(case.alloc(), store, row.script.window),
+        &row,
+    )
 }
 
 /// Gives a drive the requests of a row, and compares its replies.
 fn give_all<S: Store<Version>>(case: &mut Case, drive: &mut Drive<S>, row: &Row) -> io::Result<()> {
     let mut told = String::new(case.alloc());
-    for line in &row.lines {
+    for line in &row.script.lines {
         give(case, drive, line, &mut told)?;
     }
-    case.check(
-        told.as_bytes() == row.texts.output.as_slice(),
-        "other replies",
-    );
+    let is_same = told.as_bytes() == row.replies.as_slice();
+    case.check(is_same, "other replies");
     Ok(())
 }
 

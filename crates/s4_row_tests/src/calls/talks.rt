@@ -3,8 +3,8 @@
 
 use crate::calls::asked::asked;
 use crate::calls::case::Case;
-use crate::conversations::Desk;
-use crate::texts::invalid;
+use crate::texts::well;
+use crate::ways::conversations::Desk;
 use s4_pool::{Front, Names, OpenGate, Pass};
 use s4_stream::Logins;
 use s4_talk::{Answer, Talking, TurnEnd};
@@ -96,7 +96,7 @@ pub fn talk<N: Names, R: Wait>(
     pass: Pass<N>,
     peer: Peer,
 ) -> io::Result<()> {
-    let logins = Logins::read(case.alloc(), LOGINS).map_err(|_| invalid())?;
+    let logins = well(Logins::read(case.alloc(), LOGINS))?;
     let mut desk = Desk::new(rt, front, pass);
     for line in ["0 7 create 0", "0 7 truncate 7.0.1 65536"] {
         make(case, &mut desk, line)?;

@@ -1,0 +1,16 @@
+//! What a call says, and what it is answered.
+
+/// The secret of principal 7.
+pub const SECRET: [u8; 16] = [0, 1, 2, 3, 4, 5, 6, 7, 8, 9, 10, 11, 12, 13, 14, 15];
+
+/// Principal 7 says as client 1 who it is, and asks for a Create in purse 0.
+pub const CALL: &[u8] = b"\x00\x00\x00\x1a\x00\x01\x00\x00\x00\x07\x00\x00\x00\x01\
+    \x00\x01\x02\x03\x04\x05\x06\x07\x08\x09\x0a\x0b\x0c\x0d\x0e\x0f\x00\x00\x00\x02\x01\x00";
+
+/// It is welcomed, and the object 7.0.1 was made.
+pub const ANSWER: &[u8] =
+    b"\x00\x00\x00\x02\x10\x01\x00\x00\x00\x09\x01\x00\x00\x00\x07\x00\x00\x00\x01";
+
+/// The same, and a byte behind it.
+pub const ANSWER_AND_MORE: &[u8] =
+    b"\x00\x00\x00\x02\x10\x01\x00\x00\x00\x09\x01\x00\x00\x00\x07\x00\x00\x00\x01\x00";

@@ -1,4 +1,0 @@
-use Rattle.s4_row_tests.proofs.conversations.tell_conversations.Given as goal
-
-abbrev pub ghosts-tell_by_front : goal.ghosts-tell_by_front
-ghosts-tell_by_front g a = record { ledger = a.blank.ledger; window = a.window; passes = 1 }

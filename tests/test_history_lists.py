@@ -1,0 +1,100 @@
+"""Lists and sums of journals, among them one that another program made (docs/JOURNAL.md), as `s4d history` tells them."""
+import unittest
+
+from tests.journals import RECORDS, Chain, Kept, create, creation, header, journal, made, object_of, record, setting
+
+# A header, a block of cell 3 and one of cell 0, and their sums.
+JOURNAL = bytes.fromhex(
+    "5334444a524e4c31000000000000000a000000040000000000000005"
+    "0000018bcfe568000000000000000000"
+    "6c2f04c8ada88c19995a3a636afc5692138689a8b5e2c134d761efaf30d3047e"
+    "0000002c0000000300000001000000000000000700000007000000010100000002010000000009010000000700000001"
+    "613e5ff0fb1635697f02e4c1441785855daa150c5e0fa60c126da7acf68a9d7e"
+    "0000002d000000000000000100000000000000090000000800000002020000000902000000070000000100000003080104"
+    "51c9db83fe05feaba7112cb302f711fb35d84691e20854680749080a3625751d"
+)
+# Where the header and its sum end, and where the first block ends.
+FRONT, FIRST = 76, 156
+# The lines of the records in both blocks.
+FIRST_LINE, SECOND_LINE = "3 0 7 7 1 create 0 -> made 7.0.1\n", "0 0 9 8 2 delete 7.0.1 -> denied delete\n"
+
+
+def changed(place):
+    """The journal with another byte at that place."""
+    it = bytearray(JOURNAL)
+    it[place] ^= 1
+    return it
+
+
+class Lists(unittest.TestCase):
+    def setUp(self):
+        self.kept = Kept(JOURNAL)
+        self.addCleanup(self.kept.room.cleanup)
+
+    def listed(self, records, *flags):
+        """The lines of what stands in the bytes, or else its fault."""
+        self.kept.write(RECORDS, records)
+        told = self.kept.tell("list", *flags)
+        return told.fault or told.text
+
+    def tallied(self, records):
+        """How many blocks there are, their last sum, and where they are torn."""
+        self.kept.write(RECORDS, records)
+        lines = self.kept.check().lines
+        return [line.removeprefix("start 2 ") for line in lines if line.startswith(("start 2 blocks ", "start 2 torn "))]
+
+    def test_what_makes_journals_here_makes_that_of_another_program(self):
+        front, first = header(4, first=5, wall=1700000000000)
+        chain = Chain(first)
+        one = chain.batch(3, record(7, 7, create(), made(7), client=1))
+        two = chain.batch(0, record(9, 8, b"\x02" + object_of(7), b"\x08\x01\x04", client=2, version=2))
+        self.assertEqual(front + first + one + two, JOURNAL)
+        self.assertEqual(len(front + first + one), FIRST)
+
+    def test_a_journal_is_listed(self):
+        self.assertEqual(self.listed(JOURNAL), FIRST_LINE + SECOND_LINE)
+
+    def test_a_span_of_moments_is_listed(self):
+        self.assertEqual(self.listed(JOURNAL, "--from", 8, "--to", 9), SECOND_LINE)
+
+    def test_a_journal_is_tallied(self):
+        self.assertEqual(len(JOURNAL), 237)
+        self.assertEqual(self.tallied(JOURNAL), [f"blocks 2 sum {JOURNAL[205:].hex()}"])
+        self.assertEqual(self.tallied(JOURNAL + b"\x00"), [f"blocks 2 sum {JOURNAL[205:].hex()}", "torn 237 238"])
+
+    def test_a_journal_is_cut_anywhere(self):
+        # Of the first bytes, however many, the records are listed whose blocks lie wholly in them.
+        for length in range(len(JOURNAL)):
+            told, tallied = self.listed(JOURNAL[:length]), self.tallied(JOURNAL[:length])
+            if length < FRONT:
+                self.assertEqual((told, tallied), ("start 2: no journal", []), length)
+                continue
+            self.assertEqual(told, "" if length < FIRST else FIRST_LINE, length)
+            end = FRONT if length < FIRST else FIRST
+            self.assertEqual(tallied[1:], [] if length == end else [f"torn {end} {length}"], length)
+
+    def test_a_journal_is_changed_anywhere(self):
+        # Wherever a byte is changed, the journal isn't whole with all of its records.
+        for place in range(len(JOURNAL)):
+            told, tallied = self.listed(changed(place)), self.tallied(changed(place))
+            front = FRONT if place < FIRST else FIRST
+            if told == "start 2: no journal":
+                self.assertLess(place, FRONT)
+            elif told != f"start 2: byte {front}: no block":
+                self.assertNotIn(":", told, place)
+                self.assertEqual(tallied[1:], [f"torn {front} {len(JOURNAL)}"], place)
+
+    def test_batches_have_places(self):
+        # The first cell has four records, and then two and two; the second one has none but the last.
+        four = (0, *(creation(5, 2, serial=serial) for serial in range(1, 5)))
+        two, third = (0, creation(5, 2, serial=5), setting(6)), (0, creation(7, 2, serial=6), setting(8))
+        records, _ = journal(2, four, two, third, (1, creation(5, 7)))
+        places = [line.split(" ")[:2] for line in self.listed(records).splitlines()]
+        self.assertEqual(places, [["0", str(place)] for place in range(8)] + [["1", "0"]])
+        # There is no third cell.
+        records, _ = journal(2, two, (2, creation(5, 2)))
+        self.assertEqual(self.listed(records), "start 2: no cell 2")
+
+
+if __name__ == "__main__":
+    unittest.main()

@@ -1,0 +1,51 @@
+"""Starts that servers begin in a folder of journals."""
+import tempfile
+import unittest
+from pathlib import Path
+
+from tests.program import run
+from tests.peers import address
+from tests.serving import LOGINS, Server
+
+FOLDER = "a new one/journals"
+
+
+class Starts(unittest.TestCase):
+    def check(self, room, journal, fault):
+        """That a server that is to keep this journal doesn't start."""
+        Path(room, "logins").write_text(LOGINS)
+        ran = run(["serve", address(), "logins", "--journal", journal], folder=room)
+        self.assertEqual((ran.status, ran.out, ran.err), (1, b"", f"s4d: {fault}\n".encode()))
+
+    def begin(self, room, number):
+        """A server that begins the start of that number."""
+        server = Server("--journal", Path(room, FOLDER), tells=False, connections=0)
+        self.addCleanup(server.kill)
+        self.assertEqual(sorted(it.name for it in Path(room, FOLDER).iterdir()), [*map(str, range(1, number + 1)), "lock"])
+        return server
+
+    def test_starts_are_begun_one_after_the_other(self):
+        with tempfile.TemporaryDirectory() as room:
+            first = self.begin(room, 1)
+            self.check(room, FOLDER, f"another server keeps its journal in {FOLDER}")
+            first.kill()
+            # As if it had ended before it had a header.
+            records = Path(room, FOLDER, "1", "records")
+            records.write_bytes(b"")
+            self.begin(room, 2).kill()
+            self.assertEqual(records.read_bytes(), b"")
+            Path(room, FOLDER, "2", "records").write_bytes(bytes(76))
+            self.check(room, FOLDER, "start 2: no journal")
+
+    def test_a_folder_of_another_is_left_as_it_is(self):
+        with tempfile.TemporaryDirectory() as room:
+            Path(room, "mine").mkdir()
+            Path(room, "mine", "letter").write_text("hello")
+            self.check(room, "mine", "no folder of journals: mine")
+            self.check(room, "mine/letter", "cannot write mine/letter")
+            self.assertEqual([it.name for it in Path(room, "mine").iterdir()], ["letter"])
+            self.assertEqual(Path(room, "mine", "letter").read_text(), "hello")
+
+
+if __name__ == "__main__":
+    unittest.main()
