@@ -122,14 +122,22 @@ def dig(folder, function):
 
 
 def checked(folder, texts, check):
-    """Checks a crate with these texts in the place of its own, once more where the check was killed, most likely for memory. Returns the report and the seconds
-    of processor time."""
-    was = {file: (folder / file).read_text(encoding="utf-8") for file in texts}
+    """Checks a crate with these texts in the place of its own, or beside them, once more where the check was killed, most likely for memory. Returns the report
+    and the seconds of processor time."""
+    was = {file: (folder / file).read_text(encoding="utf-8") if (folder / file).is_file() else None for file in texts}
     try:
-        for file, text in texts.items():
-            (folder / file).write_text(text, encoding="utf-8")
+        put(folder, texts)
         report, seconds = check(folder)
         return check(folder) if report.status == -signal.SIGKILL else (report, seconds)
     finally:
-        for file, text in was.items():
-            (folder / file).write_text(text, encoding="utf-8")
+        put(folder, was)
+
+
+def put(folder, texts):
+    """Writes these texts, and removes the files that have none."""
+    for file, text in texts.items():
+        if text is None:
+            (folder / file).unlink(missing_ok=True)
+            continue
+        (folder / file).parent.mkdir(parents=True, exist_ok=True)
+        (folder / file).write_text(text, encoding="utf-8")

@@ -8,6 +8,7 @@ from pathlib import Path
 
 from tools import kit, libraries
 from tools.edits import Unusable, read_edit
+from tools.functions import traits_of
 
 TRIED = "wrong-bodies.tried"
 # The rule by which edits are judged: a new number has all crates tried again.
@@ -102,9 +103,12 @@ class Repository:
         return kit.words_of(self.root, name)
 
     def functions(self, name):
-        """The functions of a crate whose library stands there, as a check names them."""
+        """The functions of a crate whose library stands there, as a check names them: those that have a proof."""
         library = kit.library_of(self.root, name)
-        return libraries.functions_in(library, name) if library.is_dir() else []
+        files = {str(it.relative_to(self.folder(name))): it.read_text(encoding="utf-8") for it in self.files(name, ("src",)) if it.suffix == ".rt"}
+        traits = {it for file, text in files.items() for it in traits_of(name, file, text)}
+        found = libraries.functions_in(library, name) if library.is_dir() else []
+        return [it for it in found if it.rpartition("::")[0] not in traits]
 
     def edits(self, name):
         """A crate's edits, and of each file that holds none why."""

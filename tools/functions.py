@@ -10,12 +10,13 @@ TRAIT = re.compile(r"( *)(?:pub(?:\([^)]*\))? )?(?:unsafe )?trait (\w+)")
 
 @dataclass(frozen=True)
 class Function:
-    """A function of a crate: its path as the check prints it, and its rows in its file."""
+    """A function of a crate: its path as the check prints it, its rows in its file, and whether it is of a trait."""
 
     path: str
     file: str
     first: int
     last: int
+    is_of_trait: bool = False
 
 
 def outside(text):
@@ -87,12 +88,18 @@ def functions_of(crate, file, text):
         owners = [it for it in owners if row <= it[1]]
         impl, trait, function = IMPL.fullmatch(line), TRAIT.match(line), FUNCTION.match(line)
         if impl or trait:
-            name = owner_of(head_at(lines, row).strip().removeprefix("unsafe ").removeprefix("impl")) if impl else trait[2]
-            owners.append((name, end_of(lines, row, (impl or trait)[1])))
+            head = head_at(lines, row).strip()
+            name = owner_of(head.removeprefix("unsafe ").removeprefix("impl")) if impl else trait[2]
+            owners.append((name, end_of(lines, row, (impl or trait)[1]), bool(trait) or " for " in head))
         elif function:
             names = [crate, *module_of(file), *[it[0] for it in owners], function[2]]
-            found.append(Function("::".join(names), file, row, end_of(lines, row, function[1])))
+            found.append(Function("::".join(names), file, row, end_of(lines, row, function[1]), any(it[2] for it in owners)))
     return found
+
+
+def traits_of(crate, file, text):
+    """The paths of the traits that a file declares."""
+    return ["::".join([crate, *module_of(file), it[2]]) for it in map(TRAIT.match, text.split("\n")) if it]
 
 
 def places_of(edit, folder):

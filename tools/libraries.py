@@ -25,7 +25,7 @@ def members(path):
 
 
 def functions_in(library, crate):
-    """The paths of a crate's functions, without closures, drops and cycles of calls."""
+    """The paths of a crate's functions, and of those that its traits declare, without closures, drops and cycles of calls."""
     code = re.compile(rf"(?:part/)?Rattle-{crate}-proofs\.([\w.]+)\.Code\.oantt")
     found = (code.fullmatch(name) for name, _ in members(library / "toolchain" / "checked.a"))
     return sorted(f"{crate}::{it[1].replace('.', '::')}" for it in found if it and "fn" not in it[1].split("."))

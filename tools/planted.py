@@ -66,8 +66,10 @@ mod inner {
 # Each edit that is planted, as old and new text, and how what is said of it begins.
 PLANTS = {
     "wrong_in_a_callee": ("    x / 2\n", "    x / 3\n", "refused: fn planted::half: no proof"),
+    "wrong_in_another_way": ("    x / 2\n", "    x / 4\n", "refused: fn planted::half: no proof"),
     "wrong_in_a_caller": ("half(half(x))", "half(x)", "refused: fn planted::quarter: no proof"),
     "right": ("half(x) + half(y)", "half(y) + half(x)", "NOT REFUSED"),
+    "right_in_another_way": ("half(x) + half(y)", "half(x) + y / 2", "NOT REFUSED"),
     "wrong_in_a_method": ("        x\n", "        x / 2\n", "refused: fn planted::Number::new: no proof"),
     # (of modules inside a file the paths aren't known)
     "wrong_where_no_name_is_known": ("        y / 3\n", "        y / 4\n", "refused: alone: src/lib.rt"),

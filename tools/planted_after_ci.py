@@ -63,11 +63,11 @@ def stand_on_low(room):
     (room / "crates.txt").write_text("low:\nplanted: low\n", encoding="utf-8")
 
 
-def after_ci(room, *words):
+def after_ci(room):
     """The repository once `rt ci` passed, which puts back what stood there."""
     for it in room.glob("crates/*/out/rlib"):
         shutil.rmtree(it)
-    ran = subprocess.run(["rt", "ci", *words], cwd=room, capture_output=True, text=True)
+    ran = subprocess.run(["rt", "ci"], cwd=room, capture_output=True, text=True)
     if ran.returncode:
         raise RuntimeError(f"rt ci fails on what is planted: {ran.stdout[-2000:]}")
     return Repository(room, is_after_ci=True)
@@ -100,7 +100,7 @@ def self_test():
         if not isinstance(trials.checker, OverLibraries):
             faults.append("wrong-bodies: the libraries that rt ci left aren't taken")
         stated = repository.stated_sum("planted")
-        if after_ci(other, "--anew").stated_sum("planted") != stated:
+        if after_ci(other).stated_sum("planted") != stated:
             faults.append("wrong-bodies: the same crates made again, in another folder, have another sum of what is stated")
         (other / "crates" / "low" / "out" / "rlib" / "stamp").write_text("of other files", encoding="utf-8")
         said, trials = said_of(Repository(other, is_after_ci=True))

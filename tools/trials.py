@@ -1,14 +1,25 @@
 """Tries the edits of crates."""
+import re
 import tempfile
 from dataclasses import dataclass, field
 from pathlib import Path
 
 from tools.checkers import OverLibraries, OverProofs
+from tools.copies import MARK, copy_of, found, with_copy
 from tools.crates import copied
 from tools.edits import Unusable
 from tools.functions import module_of, places_of
 from tools.lanes import Lanes
 from tools.reports import LIMITS, UNREAD
+
+
+@dataclass
+class Round:
+    """Edits that are tried in one check: in which functions each lies, the texts that they make, and the copies of functions that some are made in."""
+
+    taken: dict = field(default_factory=dict)
+    texts: dict = field(default_factory=dict)
+    copies: dict = field(default_factory=dict)
 
 
 @dataclass
@@ -53,49 +64,83 @@ class Trials:
     def miss(self, edit, why):
         self.say(f"{edit}: {why}")
 
-    def chosen(self, left, most):
-        """The edits of a round, that lie in functions of their own, with the texts that they make; or one alone."""
-        texts, taken, used = {}, {}, set()
+    def chosen(self, left, most, has_copies):
+        """The edits of a round, that lie in functions of their own or in copies of these; or one alone."""
+        chosen, used = Round(), set()
         for edit in left:
             places = self.places[edit]
-            if len(taken) == most or (taken and (places is None or places & used)):
+            if len(chosen.taken) == most or (chosen.taken and places is None):
                 continue
+            copy = None
+            if places and places & used:
+                copy = self.copied(edit, len(chosen.copies) + 1) if has_copies else None
+                if not copy:
+                    continue
             try:
-                texts = edit.applied(self.folder, texts)
+                chosen.texts = self.with_copy(edit, copy, chosen.texts) if copy else edit.applied(self.folder, chosen.texts)
             except Unusable:
                 # (another edit of this round stands in its way)
                 continue
-            taken[edit] = places
+            chosen.taken[edit] = places
+            if copy:
+                chosen.copies[edit] = copy
             if places is None:
                 break
             used |= places
-        return texts, taken
+        return chosen
+
+    def copied(self, edit, number):
+        """A copy of the function that an edit changes, where it changes one and that can be copied."""
+        places = self.places[edit]
+        place = next(iter(places))
+        is_known = len(places) == 1 and self.name_of(place) in getattr(self.checker, "functions", [])
+        return copy_of(edit, place, self.name_of(place), self.folder, number) if is_known else None
+
+    def with_copy(self, edit, copy, texts):
+        """The texts with a copy, and with its written proof."""
+        place = next(iter(self.places[edit]))
+        text = texts.get(place.file) or (self.folder / place.file).read_text(encoding="utf-8")
+        return {**texts, **copy.proofs, place.file: with_copy(copy, place, edit.crate, text)}
 
     def run(self):
         """Tries all edits."""
         self.places = {it: places_of(it, self.folder) for it in self.edits}
-        left, most = list(self.edits), len(self.edits)
+        left, most, has_copies = list(self.edits), len(self.edits), not self.checker.tells_all
         while left:
-            texts, taken = self.chosen(left, most)
-            told = self.tried(texts, taken)
-            if not told and len(taken) == 1:
-                told = taken
-                self.alone(next(iter(taken)), texts)
+            chosen = self.chosen(left, most, has_copies)
+            told = self.tried(chosen)
+            if not told and chosen.copies:
+                # (it may be that a copy can't be read)
+                has_copies = False
+                continue
+            if not told and len(chosen.taken) == 1:
+                told = chosen.taken
+                self.alone(next(iter(told)), chosen.texts)
             # (where a round tells nothing, half of it is tried, and at last an edit alone)
-            most = len(self.edits) if told else max(1, len(taken) // 2)
+            most = len(self.edits) if told else max(1, len(chosen.taken) // 2)
             left = [it for it in left if it not in told]
 
-    def tried(self, texts, taken):
+    def tried(self, chosen):
         """Checks a round's functions, says what refuses its edits, and returns those that are told."""
-        places = {it for each in taken.values() for it in each or ()}
-        if not places:
+        names = {self.name_of(it) for edit, each in chosen.taken.items() if edit not in chosen.copies for it in each or ()}
+        names |= {it.path for it in chosen.copies.values()}
+        if not names:
             return {}
-        report = self.check(texts, [self.name_of(it) for it in places])
+        report = self.check(chosen.texts, names)
         self.newest = report
-        told = {it: why for it, each in taken.items() if report.is_refused for why in [self.reason(report, each)] if why}
+        told = {it: why for it in chosen.taken if report.is_refused for why in [self.reason(report, self.placed(it, chosen))] if why}
         for edit, why in told.items():
             self.told(edit, why)
         return told
+
+    def placed(self, edit, chosen):
+        """The functions in which an edit of a round lies, as they stand in its texts."""
+        copy = chosen.copies.get(edit)
+        paths = [(it.file, it.path) for it in chosen.taken[edit] or ()]
+        if copy:
+            paths = [(file, "::".join([*path.split("::")[:-1], copy.path.split("::")[-1]])) for file, path in paths]
+        here = [found(edit.crate, file, chosen.texts.get(file) or (self.folder / file).read_text(encoding="utf-8"), path) for file, path in paths]
+        return {it for it in here if it} or chosen.taken[edit]
 
     def name_of(self, place):
         """The path by which a check names a function. A method may stand in another module than its type, by which it is named."""
@@ -105,7 +150,9 @@ class Trials:
 
     @staticmethod
     def reason(report, places):
-        return next((why for why in map(report.against, sorted(places, key=lambda it: it.path)) if why), None)
+        why = next((why for why in map(report.against, sorted(places, key=lambda it: it.path)) if why), None)
+        # (a copy is told by the name of its function)
+        return why and re.sub(rf"{MARK}\d+", "", why)
 
     def alone(self, edit, texts):
         """Tries an edit that its functions don't tell, or that lies in none: by the modules of its files, and at last by the whole check."""
