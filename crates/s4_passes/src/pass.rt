@@ -18,11 +18,21 @@ use std::marker::{Model, PhantomData};
 
 /// What a caller's calls are made with, one after the other: it keeps each of them, and counts it with
 /// a token of the front's ledger. Callers see its number and the list of its calls.
-#[derive(Drop)]
 pub struct Pass<N: Names> {
     calls: Calls,
     token: Token,
     of: PhantomData<N>,
+}
+
+// Written out, so that no crate above proves how calls are dropped.
+impl<N: Names> Drop for Pass<N> {
+    fn drop(self) {
+        let Pass {
+            calls: _,
+            token: _,
+            of: _,
+        } = self;
+    }
 }
 
 impl<N: Names> Model for Pass<N> {

@@ -47,11 +47,21 @@ pub enum FillError {
 
 /// One connection: where it stands, and the bytes that came and aren't heard yet. A caller who takes
 /// all events, by `feed` or by `next`, leaves it the bytes of the frame that isn't whole.
-#[derive(Drop)]
 pub struct Session {
     alloc: Global,
     state: SessionState,
     pending: BytesMut,
+}
+
+// Written out, so that no crate above proves how what is pending is dropped.
+impl Drop for Session {
+    fn drop(self) {
+        let Session {
+            alloc: _,
+            state: _,
+            pending: _,
+        } = self;
+    }
 }
 
 impl Model for Session {
