@@ -1,11 +1,14 @@
 """Plots of lines over time, as SVG."""
 import math
+from itertools import pairwise
 from typing import NamedTuple
 from xml.sax.saxutils import escape
 
 WIDTH, HEIGHT, LEFT, RIGHT, TOP, BOTTOM = 760, 420, 74, 20, 84, 52
 FONT = "DejaVu Sans, Verdana, Helvetica, Arial, sans-serif"
 INK, FAINT, SHADE = "#222222", "#dddddd", "#f2f2f2"
+# How high a line of words is.
+LEADING = 17
 # How many points a line has at most, and about how many numbers an axis.
 POINTS, NUMBERS = 300, 7
 
@@ -81,8 +84,21 @@ class Plot:
         end = self.x(self.mark)
         yield f'<rect x="{LEFT}" y="{TOP}" width="{end - LEFT:.1f}" height="{HEIGHT - TOP - BOTTOM}" fill="{SHADE}"/>'
         yield f'<path d="M{end:.1f} {TOP}V{HEIGHT - BOTTOM}" stroke="#999999" stroke-dasharray="2 3" fill="none"/>'
-        has_room = end - LEFT > 9 * len(self.mark_name)
-        yield self.text(end - 6 if has_room else end + 6, TOP + 17, self.mark_name, "end" if has_room else "start", ' fill="#666666"')
+        wide = 9 * len(self.mark_name)
+        has_room = end - LEFT > wide
+        y = self.free_height(end - wide if has_room else end, end if has_room else end + wide)
+        yield self.text(end - 6 if has_room else end + 6, y, self.mark_name, "end" if has_room else "start", ' fill="#666666"')
+
+    def free_height(self, left, right):
+        """Where words between these stand, from the bottom up, so that no line crosses them; at the bottom, if they can't."""
+        heights = range(HEIGHT - BOTTOM - 8, TOP + 17, -LEADING)
+        return next((y for y in heights if not any(self.crosses(line, left, right, y) for line in self.lines)), heights[0])
+
+    def crosses(self, line, left, right, y):
+        """Whether a line goes through words that stand there, or is as near to them as to be in their way."""
+        points = [(self.x(x), self.y(high)) for x, high in thinned(line.points)]
+        parts = [(one, other) for one, other in pairwise(points) if one[0] <= right and other[0] >= left]
+        return any(min(one[1], other[1]) < y + 8 and max(one[1], other[1]) > y - LEADING for one, other in parts)
 
     def axes(self):
         for number in self.up.numbers():
