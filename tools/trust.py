@@ -15,13 +15,13 @@ BEGIN, END = "<!-- definitions -->", "<!-- end of definitions -->"
 THEOREMS = [
     ("answers are the definitions'", "s4_drive", "drive.rt", "Drive::step", ("steps", "limits", "asked")),
     ("isolation of tenants, in the definitions", "s4_laws", "principals.rt", "strangers_change_nothing", ("replies",)),
-    ("isolation in a drive", "s4_drive", "drive.rt", "Drive::run", ("isolation", "isolated")),
-    ("isolation of what is sent, the headline", "s4_session", "hall.rt", "Hall::run", ("fresh", "moments", "sent")),
-    ("isolation where threads share cells", "s4_pool", "closes.rt", "Front::close", ()),
-    ("isolation in a server that has ended", "s4_server", "server.rt", "Server::run", ()),
-    ("a struck script", "s4_run", "strike.rt", "Script::write_struck", ("written",)),
-    ("one connection's talk", "s4_talk", "whole.rt", "talk", ()),
-    ("one call of a server", "s4_commands", "calling.rt", "call_over", ()),
+    ("isolation in a drive, by a call that tests alone make", "s4_drive", "drive.rt", "Drive::run", ("isolation", "isolated")),
+    ("isolation of the bytes that `s4d hall` sends, the headline", "s4_session", "hall.rt", "Hall::run", ("fresh", "moments", "sent")),
+    ("threads that share cells, once closed: one history, counts, and isolation of replies where uncut", "s4_pool", "closes.rt", "Front::close", ()),
+    ("a server that has ended: the same", "s4_server", "server.rt", "Server::run", ()),
+    ("what `s4d strike` writes of the lines that it kept", "s4_run", "strike.rt", "Script::write_struck", ("written",)),
+    ("one turn of a connection of a server", "s4_server", "conversation.rt", "Conversation::turn", ()),
+    ("one call by `s4d call`", "s4_commands", "calling.rt", "call_over", ()),
     ("a map of chains", "s4_store", "store.rt", "Store", ()),
 ]
 
