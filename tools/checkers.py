@@ -54,6 +54,10 @@ class OverProofs:
             shutil.copytree(self.folder / "out", self.as_it_stands(), copy_function=link_or_copy)
         return None if report.is_proved else report.first_complaint()
 
+    def knows(self, _function):
+        """Whether a check has a function by its path: it isn't asked for it."""
+        return True
+
     def check(self, texts, functions):
         """Checks the crate with these texts in the place of its own: all of it, whatever functions are asked for."""
         shutil.rmtree(self.folder / "out")
@@ -69,6 +73,7 @@ class OverLibraries:
     folder: Path
     words: list
     functions: list
+    cycles: list
     seconds_first: float = 0.0
     tells_all: bool = False
     rounds: int = field(default=0)
@@ -84,6 +89,10 @@ class OverLibraries:
     def kept(self):
         """The folder of what was proved of the crate as it stands."""
         return self.folder / "kept"
+
+    def knows(self, function):
+        """Whether a check has a function by this path: one that it doesn't know ends it."""
+        return not self.functions or function in self.functions or function in self.cycles
 
     def check(self, texts, functions):
         """Checks these functions, or the whole crate where none are told, with these texts in the place of its own."""

@@ -43,11 +43,21 @@ def copy_of(edit, place, path, folder, number):
     A check has the function by this path."""
     if place.is_of_trait or any(it.file != place.file for it in edit.changes):
         return None
-    edited = found(edit.crate, place.file, edit.applied(folder, {})[place.file], place.path)
+    return copied(edit.crate, edit.applied(folder, {})[place.file], place, path, folder, number)
+
+
+def plain_copy(crate, place, path, folder, number):
+    """A copy of a function as it stands: where that isn't proved, nothing is known by other copies of it."""
+    return copied(crate, (folder / place.file).read_text(encoding="utf-8"), place, path, folder, number)
+
+
+def copied(crate, text, place, path, folder, number):
+    """A copy of a function as it stands in a text."""
+    edited = found(crate, place.file, text, place.path)
     if not edited:
         return None
     own = path.split("::")[-1]
-    lines = edit.applied(folder, {})[place.file].split("\n")
+    lines = text.split("\n")
     name = f"{own}{MARK}{number}"
     head = re.sub(rf"\bfn {own}\b", f"fn {name}", lines[edited.first])
     body = (*lines[head_of(lines, edited.first) : edited.first], head, *lines[edited.first + 1 : edited.last + 1])

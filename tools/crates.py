@@ -110,6 +110,11 @@ class Repository:
         found = libraries.functions_in(library, name) if library.is_dir() else []
         return [it for it in found if it.rpartition("::")[0] not in traits]
 
+    def cycles(self, name):
+        """The functions of a crate whose library stands there that call themselves."""
+        library = kit.library_of(self.root, name)
+        return libraries.cycles_in(library, name) if library.is_dir() else []
+
     def edits(self, name):
         """A crate's edits, and of each file that holds none why."""
         good, bad = [], []

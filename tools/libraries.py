@@ -31,6 +31,13 @@ def functions_in(library, crate):
     return sorted(f"{crate}::{it[1].replace('.', '::')}" for it in found if it and "fn" not in it[1].split("."))
 
 
+def cycles_in(library, crate):
+    """The paths of a crate's functions that call themselves: a check has these by other files."""
+    code = re.compile(rf"(?:part/)?Rattle-{crate}-proofs\.((?:\w+\.)*)\+(\w+)\.Code\.oantt")
+    found = (code.fullmatch(name) for name, _ in members(library / "toolchain" / "checked.a"))
+    return sorted(f"{crate}::{it[1].replace('.', '::')}{it[2]}" for it in found if it)
+
+
 def is_stated(name, codes):
     """Whether a member of an archive is what other crates can cite, where the functions have these codes."""
     function, _, part = name.removesuffix(".oantt").rpartition(".")

@@ -41,6 +41,8 @@ use Rattle.std.specs.Prelude.{ℕ, ◌+◌}
 abbrev pub kept : ℕ → ℕ
 kept n = n
 """
+# An edit that can't be read ends a check of many: it is planted where each has a check of its own.
+LEFT_OUT = ("unreadable",)
 # What is changed in the lower crate, as file, old and new texts, and whether something else is stated then.
 CHANGES = {
     "a comment, a body or a generic body": ("src/lib.rt", (("//! A small", "//! One small"), ("{\n    x\n}", "{\n    let y = x;\n    y\n}")), False),
@@ -52,7 +54,13 @@ CHANGES = {
 
 def stand_on_low(room):
     """The planted repository, with one more crate, on which the planted one stands."""
-    planted(room)
+    planted(room, LEFT_OUT)
+    put_low(room)
+    (room / "crates.txt").write_text("low:\nplanted: low\n", encoding="utf-8")
+
+
+def put_low(room):
+    """A repository of the lower crate."""
     (room / ".git").mkdir()
     folder = room / "crates" / "low"
     for it in ("src", "specs"):
@@ -60,7 +68,8 @@ def stand_on_low(room):
     (folder / "src" / "lib.rt").write_text(LOW, encoding="utf-8")
     (folder / "specs" / "Kept.antt").write_text(KEPT, encoding="utf-8")
     (folder / "specs" / "Lib.antt").write_text("pub mod Kept\n", encoding="utf-8")
-    (room / "crates.txt").write_text("low:\nplanted: low\n", encoding="utf-8")
+    (room / "HANDLES").write_text("Handles allowed: none.\n", encoding="utf-8")
+    (room / "crates.txt").write_text("low:\n", encoding="utf-8")
 
 
 def after_ci(room):
@@ -73,18 +82,19 @@ def after_ci(room):
     return Repository(room, is_after_ci=True)
 
 
-def faults_of_sums(room, stated):
+def faults_of_sums(room):
     """Which changes of the lower crate don't change what is stated as they should."""
-    faults, source = [], room / "crates" / "low"
+    put_low(room)
+    faults, source, stated = [], room / "crates" / "low", after_ci(room).statements_of("low")
     for name, (file, pairs, is_stated) in CHANGES.items():
         was = text = (source / file).read_text(encoding="utf-8")
         for old, new in pairs:
             text = text.replace(old, new)
         (source / file).write_text(text, encoding="utf-8")
-        if (after_ci(room).stated_sum("planted") != stated) != is_stated:
+        if (after_ci(room).statements_of("low") != stated) != is_stated:
             faults.append(f"wrong-bodies: {name} of the crate below {'does not change' if is_stated else 'changes'} the sum of what is stated")
         (source / file).write_text(was, encoding="utf-8")
-    return faults
+    return stated, faults
 
 
 def self_test():
@@ -92,21 +102,19 @@ def self_test():
     with tempfile.TemporaryDirectory(prefix="wrong-bodies-") as both:
         room, other = Path(both) / "room", Path(both) / "other"
         room.mkdir()
+        other.mkdir()
         stand_on_low(room)
-        shutil.copytree(room, other)
         repository = after_ci(room)
         said, trials = said_of(repository)
-        faults = faults_in(said)
+        faults = faults_in(said, LEFT_OUT)
         if not isinstance(trials.checker, OverLibraries):
             faults.append("wrong-bodies: the libraries that rt ci left aren't taken")
-        stated = repository.stated_sum("planted")
-        if after_ci(other).stated_sum("planted") != stated:
-            faults.append("wrong-bodies: the same crates made again, in another folder, have another sum of what is stated")
-        (other / "crates" / "low" / "out" / "rlib" / "stamp").write_text("of other files", encoding="utf-8")
-        said, trials = said_of(Repository(other, is_after_ci=True))
-        faults += faults_in(said)
-        if isinstance(trials.checker, OverLibraries):
+        stated, wrong = faults_of_sums(other)
+        if stated != repository.statements_of("low"):
+            faults.append("wrong-bodies: the same crate made again, in another folder, has another sum of what is stated")
+        (room / "crates" / "low" / "out" / "rlib" / "stamp").write_text("of other files", encoding="utf-8")
+        if Repository(room, is_after_ci=True).is_left("planted"):
             faults.append("wrong-bodies: a library of other files is taken")
-        faults += faults_of_sums(room, stated)
+        faults += wrong
     print("\n".join(faults) or f"wrong-bodies: so they do over what rt ci left; {len(CHANGES)} changes below change what is stated, or don't, as they should")
     return not faults

@@ -4,7 +4,7 @@ import re
 import subprocess
 import tempfile
 
-OF_FUNCTION = re.compile(r"fn (\S+?)(?:;|:) (proved|no proof|not proved|could not tell)(.*)")
+OF_FUNCTION = re.compile(r"fn (\S+?)(?:;|:) (proved|no holes|depends on a hole|no proof|not proved|could not tell)(.*)")
 CALLS = re.compile(r"[:;] it (?:calls|waits)")
 OF_TEXT = re.compile(r"(?:note: )?(?:\./)?((?:src|specs|proofs)/[^\s:]+):(\d+):\d+: (.*)")
 # A written proof that names what an edit took away, and what cites that proof.
@@ -37,6 +37,11 @@ class Report:
                         return None
                 return f"fn {path}: {verdict}{(': ' + said[0] if said else rest)[:110]}"
         return None
+
+    def has_proved(self, path):
+        """Whether a function is proved, given what it calls."""
+        same = [verdict for name, (verdict, _) in self.functions.items() if name.split("::")[-2:] == path.split("::")[-2:]]
+        return len(same) == 1 and same[0] in ("proved", "no holes", "depends on a hole")
 
     def open_goals(self, function):
         """What is said to be not proved at the rows of a function."""

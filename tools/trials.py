@@ -5,7 +5,7 @@ from dataclasses import dataclass, field
 from pathlib import Path
 
 from tools.checkers import OverLibraries, OverProofs
-from tools.copies import MARK, copy_of, found, with_copy
+from tools.copies import MARK, copy_of, found, plain_copy, with_copy
 from tools.crates import copied
 from tools.edits import Unusable
 from tools.functions import module_of, places_of
@@ -15,11 +15,17 @@ from tools.reports import LIMITS, UNREAD
 
 @dataclass
 class Round:
-    """Edits that are tried in one check: in which functions each lies, the texts that they make, and the copies of functions that some are made in."""
+    """Edits that are tried in one check: in which functions each lies, the texts that they make, the copies of functions that some are made in, and of each such
+    function a copy as it stands."""
 
     taken: dict = field(default_factory=dict)
     texts: dict = field(default_factory=dict)
     copies: dict = field(default_factory=dict)
+    plain: dict = field(default_factory=dict)
+
+    def numbers(self):
+        """How many copies there are."""
+        return len(self.copies) + len(self.plain)
 
 
 @dataclass
@@ -73,17 +79,18 @@ class Trials:
                 continue
             copy = None
             if places and places & used:
-                copy = self.copied(edit, len(chosen.copies) + 1) if has_copies else None
+                copy = self.copied(edit, chosen.numbers()) if has_copies else None
                 if not copy:
                     continue
             try:
-                chosen.texts = self.with_copy(edit, copy, chosen.texts) if copy else edit.applied(self.folder, chosen.texts)
+                chosen.texts = self.with_copy(places, copy, chosen.texts) if copy else edit.applied(self.folder, chosen.texts)
             except Unusable:
                 # (another edit of this round stands in its way)
                 continue
             chosen.taken[edit] = places
             if copy:
                 chosen.copies[edit] = copy
+                self.add_plain(places, chosen)
             if places is None:
                 break
             used |= places
@@ -96,15 +103,23 @@ class Trials:
         is_known = len(places) == 1 and self.name_of(place) in getattr(self.checker, "functions", [])
         return copy_of(edit, place, self.name_of(place), self.folder, number) if is_known else None
 
-    def with_copy(self, edit, copy, texts):
-        """The texts with a copy, and with its written proof."""
-        place = next(iter(self.places[edit]))
+    def with_copy(self, places, copy, texts):
+        """The texts with a copy of a function, and with its written proof."""
+        place = next(iter(places))
         text = texts.get(place.file) or (self.folder / place.file).read_text(encoding="utf-8")
-        return {**texts, **copy.proofs, place.file: with_copy(copy, place, edit.crate, text)}
+        return {**texts, **copy.proofs, place.file: with_copy(copy, place, self.crate, text)}
+
+    def add_plain(self, places, chosen):
+        """Adds to a round a copy of a function as it stands, where it has none."""
+        place = next(iter(places))
+        if place not in chosen.plain:
+            copy = plain_copy(self.crate, place, self.name_of(place), self.folder, chosen.numbers())
+            chosen.texts = self.with_copy(places, copy, chosen.texts)
+            chosen.plain[place] = copy
 
     def run(self):
         """Tries all edits."""
-        self.places = {it: places_of(it, self.folder) for it in self.edits}
+        self.places = {it: self.known_places(it) for it in self.edits}
         left, most, has_copies = list(self.edits), len(self.edits), not self.checker.tells_all
         while left:
             chosen = self.chosen(left, most, has_copies)
@@ -120,18 +135,30 @@ class Trials:
             most = len(self.edits) if told else max(1, len(chosen.taken) // 2)
             left = [it for it in left if it not in told]
 
+    def known_places(self, edit):
+        """The functions in which an edit lies, where it lies in such alone as a check can be asked for."""
+        places = places_of(edit, self.folder)
+        return places if places and all(self.checker.knows(self.name_of(it)) for it in places) else None
+
     def tried(self, chosen):
         """Checks a round's functions, says what refuses its edits, and returns those that are told."""
         names = {self.name_of(it) for edit, each in chosen.taken.items() if edit not in chosen.copies for it in each or ()}
-        names |= {it.path for it in chosen.copies.values()}
+        names |= {it.path for it in [*chosen.copies.values(), *chosen.plain.values()]}
         if not names:
             return {}
         report = self.check(chosen.texts, names)
         self.newest = report
-        told = {it: why for it in chosen.taken if report.is_refused for why in [self.reason(report, self.placed(it, chosen))] if why}
+        known = [it for it in chosen.taken if report.is_refused and self.is_fair(it, chosen, report)]
+        told = {it: why for it in known for why in [self.reason(report, self.placed(it, chosen))] if why}
         for edit, why in told.items():
             self.told(edit, why)
         return told
+
+    @staticmethod
+    def is_fair(edit, chosen, report):
+        """Whether a check tells of an edit: where it's made in a copy, one of the function as it stands is proved."""
+        plain = chosen.plain[next(iter(chosen.taken[edit]))] if edit in chosen.copies else None
+        return not plain or report.has_proved(plain.path)
 
     def placed(self, edit, chosen):
         """The functions in which an edit of a round lies, as they stand in its texts."""
@@ -218,7 +245,7 @@ def try_crates(repository, names, jobs, say, ended=lambda trials: None):
             edits = repository.edits(name)[0] if name in names else []
             folder = copied(repository, name, Path(room) / name)
             if name in left:
-                checker = OverLibraries(folder, repository.words(name), repository.functions(name))
+                checker = OverLibraries(folder, repository.words(name), repository.functions(name), repository.cycles(name))
             else:
                 checker = OverProofs(name, folder, bool(edits), any(name in repository.below(it) for it in needed))
             it = trials[name] = Trials(name, folder, edits, checker, say)
