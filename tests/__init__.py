@@ -1,4 +1,4 @@
-"""Tests of the built program from outside: what it writes, and what peers of its servers are sent (`./outside` runs them)."""
+"""Tests of the built program from outside: what it writes, and what peers of its servers are sent (`./check outside` runs them)."""
 import resource
 
 # Some hold hundreds of connections, and a server says so where it is given fewer descriptors than it may need.

@@ -5,8 +5,9 @@ import struct
 import time
 
 from tests.frames import CALL
-from tests.peers import PATIENCE, exactly, host_and_port, rest_of
+from tests.peers import exactly, rest_of
 from tests.serving import SECRETS
+from tools.lib.servers import PATIENCE, host_and_port
 
 # The secret of principal 7.
 SECRET = SECRETS[7].hex()

@@ -4,9 +4,10 @@ import subprocess
 from dataclasses import dataclass
 from pathlib import Path
 
-TOP = Path(__file__).resolve().parent.parent
+from tools.lib.programs import LEFT
+
 # Where `rt ci` and `rt run` leave the program, unless S4D names another.
-PROGRAM = Path(os.environ.get("S4D") or TOP / "crates" / "s4d" / "out" / "s4d").resolve()
+PROGRAM = Path(os.environ.get("S4D") or LEFT).resolve()
 # A run that takes longer has failed.
 SECONDS = 240
 

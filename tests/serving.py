@@ -1,20 +1,15 @@
 """A server with a folder and an address of its own."""
-import json
-import os
 import re
-import subprocess
-import tempfile
-import threading
 import time
 from dataclasses import dataclass
-from pathlib import Path
 
 from tests import peers
-from tests.program import SECONDS, command
+from tests.program import PROGRAM, SECONDS
+from tools.lib import servers
 
 # The secrets of principals 7 and 8, and their logins.
 SECRETS = {7: bytes(range(16)), 8: bytes(range(16, 32))}
-LOGINS = "".join(f"{who} {secret.hex()}\n" for who, secret in SECRETS.items())
+LOGINS = servers.logins_of(SECRETS)
 # Two cells and one worker, which has all the patience. Its moments begin with 5.
 PLAIN = {"window": 100, "cells": 2, "workers": 1, "connections": 1, "idle": 0, "hello": 0, "open": 1024, "first-moment": 5, "reload": 50}
 # How long it is waited between two tries, in seconds.
@@ -38,54 +33,19 @@ class Closed:
     counts: list | None
 
 
-class Server:
-    """A server that listens. Settings are those of PLAIN, but for those that are given by name; `flags` are further words of its command line.
-    In its folder are its logins, its setup, its status where it `tells`, its journal where it `keeps` one, and the file that ends it."""
+class Server(servers.Server):
+    """A server that listens. Settings are those of PLAIN, but for those that are given by name; `flags` are further words of its command line. It has its
+    journal in its folder where it `keeps` one, and lasts no longer than SECONDS."""
 
     def __init__(self, *flags, logins=LOGINS, setup="", tells=True, keeps=False, **settings):
-        self.room = tempfile.TemporaryDirectory(prefix="s4d-")
-        self.folder, self.address = Path(self.room.name), peers.address()
         told = PLAIN | {name.replace("_", "-"): value for name, value in settings.items()}
-        self.tells, self.cells, self.first = tells, told["cells"], told["first-moment"]
-        (self.folder / "logins").write_text(logins)
-        (self.folder / "setup").write_text(setup)
-        words = [word for name, value in told.items() for word in (f"--{name}", value)]
-        words += ["--until", "end", "--setup", "setup"] + ["--status", "status"] * tells + ["--journal", "journal"] * keeps
-        self.open(["serve", self.address, "logins", *words, *flags])
-
-    def open(self, words):
-        """Starts it, and waits until it listens. No server lasts longer than SECONDS."""
-        self.start = time.monotonic()
-        with open(self.folder / "errors", "wb") as errors:
-            self.process = subprocess.Popen(command(words), cwd=self.folder, stdin=subprocess.DEVNULL, stdout=subprocess.PIPE, stderr=errors, text=True)
-        self.last = threading.Timer(SECONDS, self.process.kill)
-        self.last.start()
-        if self.process.stdout.readline() != f"listening {self.address}\n":
+        self.cells, self.first_moment, self.start = told["cells"], told["first-moment"], time.monotonic()
+        words = [word for name, value in told.items() for word in (f"--{name}", value)] + ["--journal", "journal"] * keeps
+        super().__init__(PROGRAM, *words, *flags, logins=logins, setup=setup, tells=tells, seconds=SECONDS)
+        if not self.listens():
             errors = self.errors()
             self.kill()
             raise AssertionError(f"it doesn't listen: {errors}")
-
-    def __enter__(self):
-        return self
-
-    def __exit__(self, kind, error, trace):
-        self.kill()
-
-    def kill(self):
-        """Ends it by force, where it goes on, and removes its folder."""
-        self.process.kill()
-        self.process.wait()
-        self.process.stdout.close()
-        self.last.cancel()
-        self.room.cleanup()
-
-    def connect(self):
-        """A connection on which nothing is said yet."""
-        return peers.connect(self.address)
-
-    def tell(self, *frames):
-        """What a peer is sent that says these frames and then no more."""
-        return peers.tell(self.address, *frames)
 
     def welcomed(self, hello):
         """A connection on which this Hello was welcomed."""
@@ -97,29 +57,11 @@ class Server:
 
     def moments(self):
         """The moments that its clock may have told up to now."""
-        return range(self.first, self.first + int((time.monotonic() - self.start) * 1000) + 1)
+        return range(self.first_moment, self.first_moment + int((time.monotonic() - self.start) * 1000) + 1)
 
     def is_sent(self, got, pieces):
         """Whether a peer was sent these pieces, one behind the other, where each NOW is a moment of its clock."""
         return peers.is_joined(got, pieces, self.moments())
-
-    def write(self, name, text):
-        """Has a file in its folder hold this text: it is written beside, and takes that file's place."""
-        (self.folder / f"{name}.beside").write_text(text)
-        os.replace(self.folder / f"{name}.beside", self.folder / name)
-
-    def status(self):
-        """What it tells of itself, or none where it hasn't yet."""
-        path = self.folder / "status"
-        return json.loads(path.read_text()) if path.exists() else None
-
-    def errors(self):
-        """What it has written to standard error."""
-        return (self.folder / "errors").read_text()
-
-    def ask_to_end(self):
-        """Has it end by the file of --until."""
-        (self.folder / "end").touch()
 
     def closed(self, errors=""):
         """What it tells at its end, to which it comes by itself and without a fault, with such errors (a regular expression)."""

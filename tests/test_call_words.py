@@ -8,8 +8,9 @@ from pathlib import Path
 
 from tests.command_lines import NO_SECRET
 from tests.journals import object_of
-from tests.peers import address, frame, hello
+from tests.peers import frame, hello
 from tests.program import SECONDS, run
+from tools.lib.servers import address
 
 SECRET = "000102030405060708090a0b0c0d0e0f"
 # What is asked: a Create in the purse of that number, a Write of `hello` at the begin of 7.0.1, a Read of its first 100 bytes at 9.

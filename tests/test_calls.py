@@ -5,9 +5,9 @@ import unittest
 
 from tests.calling import SECRET, Side, asking
 from tests.frames import ANSWER, BAD_LENGTH, BAD_LOGIN, CALL, CREATE, DENIED, HELLO, MADE, MALFORMED, WELCOME
-from tests.peers import address
 from tests.program import Ended, end, run, start
 from tests.serving import Server
+from tools.lib.servers import address
 
 # Another secret than that of principal 7.
 OTHER_SECRET = SECRET[:-1] + "e"

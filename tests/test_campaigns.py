@@ -8,7 +8,7 @@ from examples import client as it
 from tests import ways
 from tests.campaigns import CAMPAIGNS, NEAR, kept, script, scripts, told
 from tests.program import run
-from tools.streams import bytes_of, object_of, request_of, user_of
+from tools.lib.streams import bytes_of, object_of, request_of, user_of
 
 SWEEPS = ("sweep 0", "sweep 1", "sweep 1000000")
 # Lines that ask nothing of the drive's tenants.

@@ -8,8 +8,8 @@ from pathlib import Path
 
 from tests.calling import Side, asking
 from tests.frames import ANSWER
-from tests.peers import address
 from tests.program import SECONDS, Ended, command, run
+from tools.lib.servers import address
 
 # The first script, and what is written for it.
 SCRIPT = b"window 100\n5 7 create 0\n10 7 write 7.0.1 0 68656c6c6f\n11 7 read 7.0.1 0 100\n"

@@ -4,8 +4,8 @@ import time
 import unittest
 
 from tests.frames import CREATE, DATA, DONE, HELLO, MADE, READ, WELCOME, WRITE
-from tests.peers import everything
 from tests.serving import Server, until
+from tools.lib.servers import everything
 
 # How long it takes up to what is asked late, in seconds.
 LATE = 2

@@ -1,8 +1,8 @@
 """The examples that are shown, and the page that tells of one."""
 import unittest
 
-from tests.program import TOP
 from tests.worked import Row, of_rows, text, ways_of
+from tools.lib.programs import TOP
 
 EXAMPLES = TOP / "examples"
 # The blocks of a page that begin with a mark, and the text of an example that they are.

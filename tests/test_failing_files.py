@@ -5,8 +5,9 @@ import tempfile
 import unittest
 from pathlib import Path
 
-from tests.program import PROGRAM, SECONDS, TOP
+from tests.program import PROGRAM, SECONDS
 from tests.worked import text
+from tools.lib.programs import TOP
 
 EXAMPLES = TOP / "examples"
 # Words of the command line, what is run, and what it writes.

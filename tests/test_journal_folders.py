@@ -4,8 +4,8 @@ import unittest
 from pathlib import Path
 
 from tests.program import run
-from tests.peers import address
 from tests.serving import LOGINS, Server
+from tools.lib.servers import address
 
 FOLDER = "a new one/journals"
 

@@ -3,8 +3,9 @@ import time
 import unittest
 
 from tests.frames import BAD_LOGIN, CALL, CREATE, HELLO, MADE, OTHER_HELLO, OTHER_MADE, WELCOME, WRONG_HELLO
-from tests.peers import everything, exactly
+from tests.peers import exactly
 from tests.serving import Server, until
+from tools.lib.servers import everything
 
 # The least time for which a late answer waits, in seconds. It is told by a clock that goes in steps of a tenth.
 WAITS = 0.85

@@ -1,12 +1,12 @@
-"""What the program tells where an allocation is refused: of its words, of a run, and of a call. (`./refusals` refuses every one.)"""
+"""What the program tells where an allocation is refused: of its words, of a run, and of a call. (`./check refusals` refuses every one.)"""
 import tempfile
 import unittest
 
 from tests.calling import Side, asking
 from tests.frames import ANSWER
-from tests.peers import address
 from tests.program import PROGRAM
-from tools.refusing import NONE, Program, Refusal
+from tools.lib.refusing import NONE, Program, Refusal
+from tools.lib.servers import address
 
 SCRIPT = b"window 100\n5 7 create 0\n"
 ENDED = (1, b"", b"s4d: no memory\n")

@@ -4,8 +4,9 @@ import time
 import unittest
 
 from tests.frames import CALL, HELLO, MADE, SLOW_WRITE, WELCOME
-from tests.peers import everything, exactly, rest_of
+from tests.peers import exactly, rest_of
 from tests.serving import PAUSE, Server, until
+from tools.lib.servers import everything
 
 # How many strangers are silent.
 SILENT = 300

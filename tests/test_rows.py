@@ -6,7 +6,7 @@ from pathlib import Path
 from tests import ways
 from tests.mixing import SWEEPS, Mixed
 from tests.worked import Row, of_rows, text, ways_of
-from tools.rows import serials
+from tools.lib.rows import serials
 
 # The most bytes that an arrival is cut to.
 LARGEST_PIECE = 30

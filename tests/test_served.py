@@ -4,9 +4,10 @@ import socket
 import unittest
 
 from tests.frames import BAD_LENGTH, BAD_LOGIN, CALL, CREATE, CUT_WRITE, DATA, DONE, HELLO, MADE, READ, WELCOME, WRITE, WRONG_HELLO
-from tests.peers import NOW, everything, exactly, rest_of
+from tests.peers import NOW, exactly, rest_of
 from tests.program import run
 from tests.serving import Server, until
+from tools.lib.servers import everything
 
 # How many peers are silent beside one that asks.
 SILENT = 300

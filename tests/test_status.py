@@ -4,8 +4,9 @@ import time
 import unittest
 
 from tests.frames import BAD_LOGIN, CREATE, FOREIGN_WRITE, HELLO, MADE, WRITE_DENIED, WRONG_HELLO
-from tests.peers import PORT, exactly
+from tests.peers import exactly
 from tests.serving import Server, until
+from tools.lib.servers import PORT
 
 # What is told once one connection is welcomed and asked for a Create, one is silent, and one had a wrong secret: places in the status, and the
 # numbers there.

@@ -3,10 +3,11 @@ import os
 import subprocess
 from pathlib import Path
 
-from tests.program import SECONDS, TOP
+from tests.program import SECONDS
+from tools.lib.programs import CALLING
 
 # Where `rt ci` and `rt run` leave it, unless S4_ROW_TESTS names another.
-WAYS = Path(os.environ.get("S4_ROW_TESTS") or TOP / "crates" / "s4_row_tests" / "out" / "s4_row_tests").resolve()
+WAYS = Path(os.environ.get("S4_ROW_TESTS") or CALLING).resolve()
 
 # To a drive over the plain store that is given all steps at once.
 AT_ONCE = "at-once"

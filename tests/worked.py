@@ -4,8 +4,9 @@ import unittest
 from pathlib import Path
 
 from tests import ways
-from tests.program import TOP, run
-from tools.rows import Shelf, index_of
+from tests.program import run
+from tools.lib.programs import TOP
+from tools.lib.rows import Shelf, index_of
 
 SHELF = Shelf(TOP)
 

@@ -1,0 +1,259 @@
+"""Servers that keep a journal while principals ask at random, and what the journal then tells of their replies."""
+import contextlib
+import json
+import random
+import signal
+import subprocess
+import threading
+import time
+from dataclasses import dataclass, field
+
+from tools.lib.chance import Chance
+from tools.lib.findings import Wrong
+from tools.lib.servers import Server, connect, logins_of, secret_of
+
+# Who asks.
+PRINCIPALS = (0, 7, 8, 9)
+# Replies of these kinds have more than one line.
+PAGES = ("audit", "plist")
+WINDOW = 400
+# A round of a server takes a tenth of a second; on a busy machine it comes late, in seconds.
+ROUND = 2
+
+
+@dataclass
+class Asked:
+    """What a principal asked, what it was replied, and when it had each reply."""
+
+    who: int
+    replies: list = field(default_factory=list)
+    times: list = field(default_factory=list)
+    # When each login with a wrong secret was answered.
+    failed: list = field(default_factory=list)
+
+
+def call(program, address, who, words, secret):
+    """The reply to a call, and its status."""
+    done = subprocess.run([program, "call", "--wait", "5000", address, str(who), "1", secret.hex(), *words], capture_output=True, text=True, check=False)
+    return done.stdout.rstrip("\n"), done.returncode
+
+
+def ask_at_random(program, address, asked, seed, begun, count, over):
+    """Has a principal ask so often, now and then by a wrong secret, or in a connection that breaks."""
+    chance = Chance(seed)
+    chance.who, chance.principals = asked.who, list(PRINCIPALS)
+    for _ in range(count):
+        chance.moment = int((time.monotonic() - begun) * 1000)
+        kinds = chance.kinds()
+        kind = chance.it.choices(list(kinds), [0 if it in PAGES else weight for it, (weight, _) in kinds.items()])[0]
+        if chance.it.random() < 0.05:
+            break_off(address)
+        if chance.it.random() < 0.05:
+            _, status = call(program, address, asked.who, ["create", "0"], secret_of(0xBAD))
+            if not over.is_set() and status == 1:
+                asked.failed.append(time.monotonic())
+        reply, status = call(program, address, asked.who, kinds[kind][1]().split(" "), secret_of(asked.who))
+        if over.is_set() or status != 0:
+            return
+        asked.replies.append(reply)
+        asked.times.append(time.monotonic())
+        time.sleep(0.003)
+
+
+def break_off(address):
+    """A connection that says what is no frame."""
+    with contextlib.suppress(OSError), connect(address, 5) as sock:
+        sock.sendall(bytes(7))
+
+
+def told(program, *words, script=None):
+    """What the program writes; it has to succeed."""
+    done = subprocess.run([program, *words], input=script, capture_output=True, text=True, check=False)
+    if done.returncode != 0:
+        raise Wrong(f"{' '.join(map(str, words))}: status {done.returncode}: {done.stderr.strip()} behind {done.stdout[-200:]!r}")
+    return done.stdout
+
+
+def is_own(words):
+    """Whether the words are what a server that cuts asks by itself, as administrator, in a cell that nobody asks."""
+    return words.startswith("plist ") and words.endswith(" at 18446744073709551615")
+
+
+def replies_in(program, script, who):
+    """What a script replies to a principal, but for what the server asked by itself."""
+    lines = script.split("\n")[1:-1]
+    replies = told(program, "run", script=script).split("\n")[:-1]
+    if len(lines) != len(replies):
+        raise Wrong(f"{len(lines)} lines of a script have {len(replies)} replies")
+    asked = [line.split(" ", 2)[1:] for line in lines]
+    return [reply for (by, words), reply in zip(asked, replies) if by == str(who) and not (by == "0" and is_own(words))]
+
+
+def span(times, died):
+    """How many of what was answered at these times have to be told at least, and may be at most."""
+    return (sum(it < died - ROUND for it in times), len(times) + 1) if died else (len(times), len(times))
+
+
+def told_of_connections(folder, all_asked, died):
+    """The principal whom each connection was welcomed as, and its peer. Each failed login is told, and each connection's end, but for those of the last round of a server that died."""
+    welcomed, peers, failed, ended = {}, {}, {asked.who: 0 for asked in all_asked}, set()
+    for line in (folder / "1" / "connections.jsonl").read_text(encoding="utf-8").splitlines(keepends=True):
+        if not line.endswith("\n"):
+            break
+        event = json.loads(line)
+        number = event["connection"]
+        peers.setdefault(number, event["peer"])
+        if event["event"] == "welcome":
+            welcomed[number] = event["who"]
+        elif event["event"] == "bad-login":
+            failed[event["who"]] += 1
+        elif event["event"] in ("closed", "idle", "late", "reset", "revoked", "no-memory"):
+            ended.add(number)
+    for asked in all_asked:
+        least, most = span(asked.failed, died)
+        if not least <= failed[asked.who] <= most:
+            raise Wrong(f"{failed[asked.who]} failed logins of {asked.who} are told, who had {len(asked.failed)}, {least} of them in time")
+    if not died and ended != set(peers):
+        raise Wrong(f"of the connections {sorted(set(peers) - ended)} no end is told")
+    return welcomed, peers
+
+
+def compare_list(program, folder, all_asked, died, cuts):
+    """Whether the list has each record once, with the connection of its principal, and that one's peer. Tells how many it has, and how many of them the server asked by itself, which have none."""
+    welcomed, peers = told_of_connections(folder, all_asked, died)
+    plain = [line for line in told(program, "history", "list", folder).splitlines() if " -> " in line]
+    try:
+        rows = [json.loads(line) for line in told(program, "history", "list", folder, "--json").splitlines()]
+    except ValueError as why:
+        raise Wrong(f"the list is no JSON: {why}") from why
+    if len(plain) != len(rows):
+        raise Wrong(f"the list has {len(plain)} lines, and as JSON {len(rows)}")
+    unknown, own = 0, 0
+    for line, row in zip(plain, rows):
+        spot = f"{row['cell']} {row['place']} {row['moment']} {row['who']} {row['client']} {row['ask']} -> "
+        if not line.startswith(spot):
+            raise Wrong(f"the list has {line!r}, and as JSON {row}")
+        is_wide = row["who"] == 0 and row["ask"].split(" ")[0] in ("flush", "setwindow")
+        if is_wide and row["cell"] > 0:
+            continue
+        if cuts and row["who"] == 0 and is_own(row["ask"]) and row["connection"] is None and row["reply"] == "future":
+            own += 1
+            continue
+        if row["connection"] is None:
+            unknown += 1
+        elif died and row["connection"] not in welcomed:
+            unknown += 1
+        elif welcomed.get(row["connection"]) != row["who"] or peers[row["connection"]] != row["peer"]:
+            raise Wrong(f"the list names another connection: {row}")
+    if unknown and not died:
+        raise Wrong(f"of {unknown} records the list names no connection")
+    return len(rows), own
+
+
+def compare(program, folder, all_asked, died, cuts):
+    """Whether the journal is sound, and tells of each principal what they were replied: all of it, or where the server died, all but the last."""
+    checked = told(program, "history", "check", folder)
+    if not checked.endswith(" sound\n"):
+        raise Wrong("the journal isn't sound")
+    if not died and (" uncalled " in checked or " beyond " in checked or " torn " in checked):
+        raise Wrong(f"of a server that ended it tells {checked!r}")
+    counted = sum(int(line.rpartition(" ")[2]) for line in checked.splitlines() if " records " in line)
+    listed, own = compare_list(program, folder, all_asked, died, cuts)
+    if listed != counted:
+        raise Wrong(f"the list doesn't have the {counted} records of the cells")
+    script = told(program, "history", "script", folder)
+    records = 0
+    for asked in all_asked:
+        kept = [("the script", replies_in(program, script, asked.who))]
+        if asked.who != 0:
+            struck = told(program, "strike", str(asked.who), script=script)
+            kept.append(("the script without strangers", replies_in(program, struck, asked.who)))
+        for name, found in kept:
+            least, most = span(asked.times, died)
+            if not least <= len(found) <= most:
+                raise Wrong(f"{name} has {len(found)} replies of {asked.who}, who had {len(asked.replies)}, {least} of them in time")
+            count = min(len(found), len(asked.replies))
+            for place in range(count):
+                if found[place] != asked.replies[place]:
+                    raise Wrong(f"{name} gives {found[place]!r} as reply {place} of {asked.who}, who had {asked.replies[place]!r}")
+        records += len(kept[0][1])
+    return records, own
+
+
+def compare_count(output, records, cuts):
+    """Whether the server tells as many records as its journal has; where it cuts, no more. Tells how many went."""
+    count = output.removeprefix("closed ").removesuffix("\n")
+    if not count.isdigit() or not (int(count) == records or cuts and int(count) < records):
+        raise Wrong(f"the server writes {output!r}, and its journal has {records} records")
+    return records - int(count)
+
+
+def change_bytes(program, folder, chance):
+    """Changes bytes of the three files in turn: each is found, or reads as a torn end that is told."""
+    for name in ("records", "calls", "connections.jsonl"):
+        path = folder / "1" / name
+        whole = path.read_bytes()
+        for _ in range(5):
+            place = chance.randrange(len(whole))
+            path.write_bytes(whole[:place] + bytes([whole[place] ^ 1 << chance.randrange(8)]) + whole[place + 1 :])
+            done = subprocess.run([program, "history", "check", folder], capture_output=True, text=True, check=False)
+            if done.returncode == 0 and " torn " not in done.stdout:
+                raise Wrong(f"byte {place} of {name} is changed, and the journal is sound: {done.stdout!r}")
+        path.write_bytes(whole)
+
+
+@dataclass
+class Plan:
+    """A server that is asked at random: by the numbers of this seed, so often by each principal; whether it is killed; how its command line goes on,
+    and whether it cuts its records."""
+
+    seed: int
+    count: int
+    kill: bool
+
+    def __post_init__(self):
+        self.chance = random.Random(self.seed)
+        some = self.chance.choice
+        self.flags = ["--cells", some((1, 2, 4, 16)), "--workers", some((1, 3)), "--sync", some(("second", "never"))]
+        self.cuts = self.chance.random() < 0.5
+        self.flags += ["--cut"] * self.cuts
+
+
+def ask_all_at_random(program, server, plan):
+    """Has all principals ask a server up to their end, or its own. Tells what each asked, and when it was killed, or none."""
+    over, all_asked, begun, died = threading.Event(), [Asked(who) for who in PRINCIPALS], time.monotonic(), None
+    given = [(program, server.address, it, plan.seed * 10 + it.who, begun, plan.count, over) for it in all_asked]
+    threads = [threading.Thread(target=ask_at_random, args=it) for it in given]
+    for it in threads:
+        it.start()
+    if plan.kill:
+        time.sleep(plan.chance.uniform(1, 4))
+        over.set()
+        died = time.monotonic()
+        server.process.send_signal(signal.SIGKILL)
+    for it in threads:
+        it.join()
+    return all_asked, died
+
+
+def compare_end(program, kept, records, output, errors, plan):
+    """Whether a server that ends tells the sums of its journal and its records, and whether changed bytes of the journal are found. Tells of one that cuts how many of its records went; else None."""
+    for line in errors:
+        if " sum " in line:
+            told(program, "history", "check", kept, "--sum", line.rpartition(" sum ")[2])
+    gone = compare_count("".join(f"{line}\n" for line in output), records, plan.cuts)
+    change_bytes(program, kept, plan.chance)
+    return gone if plan.cuts else None
+
+
+def serve_at_random(program, plan):
+    """Serves while all principals ask at random, and compares. Tells how many replies were compared, and of a server that cuts and ends how many of its
+    records went; else None."""
+    logins = logins_of({who: secret_of(who) for who in PRINCIPALS})
+    flags = ["--journal", "kept", "--window", WINDOW, *plan.flags]
+    with Server(program, *flags, logins=logins, tells=False) as server:
+        all_asked, died = ask_all_at_random(program, server, plan)
+        output, errors = server.end()
+        kept = server.folder / "kept"
+        records, own = compare(program, kept, all_asked, died, plan.cuts)
+        return records, None if plan.kill else compare_end(program, kept, records + own, output, errors, plan)
