@@ -1,8 +1,9 @@
 """The names of the clauses in a crate's contracts, by the functions, traits and types that they belong to."""
 import re
 from collections import defaultdict
+from dataclasses import dataclass, field
 
-from tools.lib.functions import FUNCTION, IMPL, TRAIT, head_at, last_word, outside
+from tools.lib.functions import FUNCTION, IMPL, TRAIT, head_at, last_word, module_of, outside
 
 CLAUSE = re.compile(r"\s*(ensures|requires)(\*?) (?:(\w+) )?\{(.*)")
 INVARIANT = re.compile(r"\s*ghost (?:invariant = |(\w+): )\{(.*)")
@@ -16,7 +17,7 @@ class Definitions:
     """The records of specs, with their fields, and which words each definition cites."""
 
     def __init__(self):
-        self.cited, self.fields = defaultdict(set), defaultdict(set)
+        self.cited, self.fields = defaultdict(set), defaultdict(dict)
 
     def read(self, text):
         name, is_record = "", False
@@ -27,7 +28,7 @@ class Definitions:
                 is_record, name = bool(found[1]), found[2]
             field = FIELD.match(line)
             if is_record and field:
-                self.fields[name].add(field[1])
+                self.fields[name][field[1]] = None
             if name:
                 self.cited[name].update(WORD.findall(line))
 
@@ -38,7 +39,7 @@ class Definitions:
             word = waiting.pop()
             if word not in seen:
                 seen.add(word)
-                found |= self.fields.get(word, set())
+                found |= self.fields.get(word, {}).keys()
                 waiting += self.cited.get(word, ())
         return found
 
@@ -54,25 +55,63 @@ def owner_at(lines, row):
     return last_word(head.rpartition(" for ")[2] if " for " in head else outside(head.partition("impl")[2].strip()))
 
 
+@dataclass
+class Contract:
+    """The contract of a function, a trait or a type: the type or trait that it is or that it is of, the function where it is one, what `///` says of it,
+    and its clauses: how each is named, if it is, and their lines."""
+
+    owner: str
+    function: str
+    about: str
+    clauses: list = field(default_factory=list)
+    lines: list = field(default_factory=list)
+
+    def names(self):
+        """The names under which it is known: alone, with its type, and of its type."""
+        if not self.function:
+            return [self.owner]
+        return [self.function] + ([f"{self.owner}::{self.function}", self.owner] if self.owner else [])
+
+    def __str__(self):
+        return "::".join(it for it in (self.owner, self.function) if it)
+
+
+def about(lines, row):
+    """The first sentence of the `///` above a row, or nothing."""
+    said = []
+    while row and re.match(r"\s*(?:///|#\[|//)", lines[row - 1]):
+        row -= 1
+        said.insert(0, lines[row].strip())
+    text = " ".join(it.removeprefix("///").strip() for it in said if it.startswith("///"))
+    return re.split(r"(?<=[.!?])\s", text, maxsplit=1)[0]
+
+
+def contracts_in(text):
+    """The contracts of a file, in their order; of functions also those without a clause."""
+    lines, owner, of_owner, found, depth = text.split("\n"), "", "", None, 0
+    for row, line in enumerate(lines):
+        begun = owner_at(lines, row)
+        owner, of_owner = (begun, about(lines, row)) if begun else (owner, of_owner)
+        function, clause, invariant = FUNCTION.match(line), CLAUSE.match(line), INVARIANT.match(line)
+        if function or invariant and (not found or found.function or found.owner != owner):
+            if found:
+                yield found
+            found = Contract(owner if invariant or function[1] else "", "" if invariant else function[2], of_owner if invariant else about(lines, row))
+        if found and (clause or invariant or depth > 0):
+            found.clauses += [clause[3] if clause else invariant[1]] if clause or invariant else []
+            found.lines.append(line)
+            depth = (0 if clause or invariant else depth) + line.count("{") - line.count("}")
+    if found:
+        yield found
+
+
 def contracts_of(text):
     """The contracts of a file, by the names of functions, alone and with their types, and of types: the clauses' names, and their text."""
-    lines, owner, names, depth = text.split("\n"), "", [], 0
     found = defaultdict(lambda: (set(), []))
-    for row, line in enumerate(lines):
-        owner = owner_at(lines, row) or owner
-        function, clause, invariant = FUNCTION.match(line), CLAUSE.match(line), INVARIANT.match(line)
-        if function:
-            names = [function[2]] + ([f"{owner}::{function[2]}", owner] if function[1] else [])
-            for it in names:
-                found[it]
-        if invariant:
-            names = [owner]
-        if clause or invariant or depth > 0:
-            name = clause[3] if clause else invariant[1] if invariant else None
-            for it in names:
-                found[it][0].update({name} - {None})
-                found[it][1].append(line)
-            depth = (0 if clause or invariant else depth) + line.count("{") - line.count("}")
+    for it in contracts_in(text):
+        for name in it.names():
+            found[name][0].update(set(it.clauses) - {None})
+            found[name][1].extend(it.lines)
     return found
 
 
@@ -81,6 +120,12 @@ class Clauses:
 
     def __init__(self, root):
         self.root, self.of_crate = root, {}
+
+    def sources(self, name):
+        """The texts of a crate's code, each with the module that it is."""
+        folder = self.root / "crates" / name
+        for file in sorted((folder / "src").rglob("*.rt")):
+            yield "::".join([name, *module_of(file.relative_to(folder))]), file.read_text(encoding="utf-8")
 
     def definitions(self, name):
         made = Definitions()
@@ -92,8 +137,17 @@ class Clauses:
         """The clauses of a crate: each function, trait or type with the names of its clauses."""
         if name not in self.of_crate:
             definitions, found = self.definitions(name), defaultdict(set)
-            for file in (self.root / "crates" / name / "src").rglob("*.rt"):
-                for owner, (names, text) in contracts_of(file.read_text(encoding="utf-8")).items():
-                    found[owner] |= names | definitions.fields_from("\n".join(text))
+            for _, text in self.sources(name):
+                for owner, (names, lines) in contracts_of(text).items():
+                    found[owner] |= names | definitions.fields_from("\n".join(lines))
             self.of_crate[name] = found
         return self.of_crate[name]
+
+    def index(self, name):
+        """The contracts of a crate that have clauses: a line each."""
+        fields = self.definitions(name).fields
+        for module, contract in ((module, it) for module, text in self.sources(name) for it in contracts_in(text) if it.clauses):
+            named = ", ".join(it for it in contract.clauses if it)
+            cited = [it for it in dict.fromkeys(WORD.findall("\n".join(contract.lines))) if fields.get(it)]
+            told = "; ".join([*([named] if named else []), *(f"{it}: {', '.join(fields[it])}" for it in cited)])
+            yield f"{module}::{contract}{f' ({told})' if told else ''}{f': {contract.about}' if contract.about else ''}"

@@ -7,6 +7,7 @@ from dataclasses import dataclass
 from pathlib import Path
 
 from tools.lib import kit, libraries
+from tools.lib.crate_list import crates_of
 from tools.lib.edits import Unusable, read_edit
 from tools.lib.functions import traits_of
 
@@ -35,11 +36,7 @@ class Repository:
     """The crates of a checkout, and what was tried of them."""
 
     def __init__(self, root, is_after_ci=False):
-        self.root, self.crates, self.is_after_ci = Path(root).resolve(), {}, is_after_ci
-        for line in (self.root / "crates.txt").read_text(encoding="utf-8").split("\n"):
-            head, found, below = line.partition("#")[0].partition(":")
-            if found:
-                self.crates[head.split()[0]] = below.split()
+        self.root, self.crates, self.is_after_ci = Path(root).resolve(), crates_of(root), is_after_ci
         version = subprocess.run(["rt", "version"], capture_output=True, text=True, check=True).stdout
         # (what a check refuses goes by the kit's logic; its name says more)
         self.kit = version.strip().partition(" ")[2]

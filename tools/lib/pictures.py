@@ -4,9 +4,11 @@ import hashlib
 import re
 import subprocess
 import sys
+from collections import defaultdict
 from itertools import pairwise
 from pathlib import Path
 
+from tools.lib.crate_list import lines_of
 from tools.lib.findings import Finding
 
 FOLDER = "docs/pictures"
@@ -48,15 +50,12 @@ def draw(root):
 
 def read_crates(root):
     """What each crate of crates.txt stands on, and the crates below each of its comments; without those of the kit and those of tests."""
-    below, groups = {}, {}
-    for line in (Path(root) / "crates.txt").read_text(encoding="utf-8").split("\n"):
-        name, found, named = line.partition("#")[0].partition(":")
-        if line.startswith("#"):
-            groups[line[1:].strip()] = members = set()
-        elif found and not name.endswith("_tests"):
-            below[name] = named.split()
-            members.add(name)
-    return {name: [it for it in named if it in below] for name, named in below.items()}, {name: it for name, it in groups.items() if it}
+    below, groups = {}, defaultdict(set)
+    for name, named, group in lines_of(root):
+        if not name.endswith("_tests"):
+            below[name] = named
+            groups[group].add(name)
+    return {name: [it for it in named if it in below] for name, named in below.items()}, groups
 
 
 def own_edges(below):

@@ -7,6 +7,7 @@ from itertools import takewhile
 from pathlib import Path
 
 from tools.lib.clauses import contracts_of
+from tools.lib.crate_list import crates_of
 from tools.lib.findings import Finding
 
 PAGE = "docs/TRUST.md"
@@ -213,12 +214,7 @@ def table(root):
 
 def ported(root):
     """The crates of the kit that crates of the repository name, each with those that aren't crates of tests."""
-    below = {}
-    for line in (Path(root) / "crates.txt").read_text(encoding="utf-8").split("\n"):
-        name, found, named = line.partition("#")[0].partition(":")
-        if found:
-            below[name.split()[0]] = named.split()
-    used = defaultdict(set)
+    below, used = crates_of(root), defaultdict(set)
     for name, named in below.items():
         for it in named:
             if it not in below and it != "core" and not it.startswith("std"):
