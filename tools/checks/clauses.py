@@ -23,5 +23,6 @@ def run(given):
         sys.exit(f"clauses: {lacking[0]} is no crate")
     clauses = Clauses(TOP)
     for name in given.words or [it for it in every if not it.endswith("_tests")]:
-        print("\n".join(clauses.index(name)))
+        for line in clauses.index(name):
+            print(line)
     return True

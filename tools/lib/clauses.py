@@ -88,15 +88,16 @@ def about(lines, row):
 
 def contracts_in(text):
     """The contracts of a file, in their order; of functions also those without a clause."""
-    lines, owner, of_owner, found, depth = text.split("\n"), "", "", None, 0
+    lines, owner, of_owners, found, depth = text.split("\n"), "", {}, None, 0
     for row, line in enumerate(lines):
-        begun = owner_at(lines, row)
-        owner, of_owner = (begun, about(lines, row)) if begun else (owner, of_owner)
+        if begun := owner_at(lines, row):
+            owner = begun
+            of_owners[owner] = of_owners.get(owner) or about(lines, row)
         function, clause, invariant = FUNCTION.match(line), CLAUSE.match(line), INVARIANT.match(line)
         if function or invariant and (not found or found.function or found.owner != owner):
             if found:
                 yield found
-            found = Contract(owner if invariant or function[1] else "", "" if invariant else function[2], of_owner if invariant else about(lines, row))
+            found = Contract(owner if invariant or function[1] else "", "" if invariant else function[2], of_owners.get(owner, "") if invariant else about(lines, row))
         if found and (clause or invariant or depth > 0):
             found.clauses += [clause[3] if clause else invariant[1]] if clause or invariant else []
             found.lines.append(line)
@@ -119,13 +120,15 @@ class Clauses:
     """Of each crate, which names of clauses its functions, traits and types have."""
 
     def __init__(self, root):
-        self.root, self.of_crate = root, {}
+        self.root, self.of_crate, self.of_sources = root, {}, {}
 
     def sources(self, name):
         """The texts of a crate's code, each with the module that it is."""
-        folder = self.root / "crates" / name
-        for file in sorted((folder / "src").rglob("*.rt")):
-            yield "::".join([name, *module_of(file.relative_to(folder))]), file.read_text(encoding="utf-8")
+        if name not in self.of_sources:
+            folder = self.root / "crates" / name
+            files = sorted((folder / "src").rglob("*.rt"))
+            self.of_sources[name] = [("::".join([name, *module_of(it.relative_to(folder))]), it.read_text(encoding="utf-8")) for it in files]
+        return self.of_sources[name]
 
     def definitions(self, name):
         made = Definitions()

@@ -22,6 +22,8 @@ SPAN = re.compile(r"`([^`]+)`")
 ITALIC = re.compile(r"(?<![\w*])\*([a-z_]+)\*(?![\w*])")
 CRATE = re.compile(r"(?:`|\bcrates/)(s4\w+)")
 NAME = re.compile(r"[A-Za-z_][\w:]*")
+# A call of the one door, up to the name of what it calls.
+CALL = re.compile(r"\./check((?: +[a-z][\w-]*){1,2})")
 FILE_NAME = re.compile(rf"[\w./*-]*\w\.(?:{'|'.join(ENDINGS)})")
 # What is shown of examples: a block of README that is a script or its replies, and a block behind a line with a file's name.
 SHOWN = re.compile(r"^```(?:script|replies)\n(.*?)^```", re.M | re.S)
@@ -87,11 +89,15 @@ class Checkout:
             folders[:] = [it for it in folders if it not in MADE]
             self.files |= {os.path.relpath(os.path.join(folder, it), self.root) for it in names}
         self.folders = {str(it) for file in self.files for it in Path(file).parents}
-        self.pages = {it: self.text(it) for it in sorted(self.files) if it == "README.md" or re.fullmatch(r"docs/\w+\.md", it)}
+        self.pages = {it: self.text(it) for it in sorted(self.files) if it == "README.md" or re.fullmatch(r"docs/(?:measured/)?\w+\.md", it)}
         self.headings = {it: self.headings_of(text) for it, text in self.pages.items()}
         self.clauses = Clauses(self.root)
         self.tails = {"/".join(Path(it).parts[at:]) for it in self.files | self.folders for at in range(len(Path(it).parts))}
         self.count = 0
+
+    def crates(self):
+        """The crates, by the folders in which they stand."""
+        return sorted({it.split("/")[1] for it in self.files if it.startswith("crates/") and it.count("/") > 1})
 
     def text(self, file):
         return (self.root / file).read_text(encoding="utf-8", errors="replace")
@@ -110,6 +116,11 @@ class Checkout:
         if anchor and page in self.pages and anchor not in map(anchor_of, self.headings[page]):
             return f"no such section: {page}#{anchor}"
         return None
+
+    def command_fault(self, kind, name):
+        """Why there is no such check or measure, or nothing."""
+        self.count += 1
+        return None if f"tools/{kind}s/{name.replace('-', '_')}.py" in self.files else f"no such {kind}: {name}"
 
     def file_fault(self, name, crates):
         """Why there is no such file, or nothing. Words in capitals and stars stand for any names, and a path from a crate's folder on is one
@@ -152,10 +163,25 @@ def links(checkout, page, block):
         yield it.start(), checkout.page_fault(target, it[2], anchor)
 
 
+def code_in(block):
+    """The code of a block: where it begins, and its text."""
+    return [(0, block.text)] if block.is_fenced else [(it.start(), it[1]) for it in SPAN.finditer(block.text)]
+
+
+def calls(checkout, block):
+    """The names of checks and measures in a block's code that are none's."""
+    for start, text in code_in(block):
+        for called in CALL.finditer(text):
+            first, *more = called[1].split()
+            if first != "measure":
+                yield start, checkout.command_fault("check", first)
+            elif more:
+                yield start, checkout.command_fault("measure", more[0])
+
+
 def files(checkout, block):
     """The names of files in a block's code that are none's."""
-    spans = [(0, block.text)] if block.is_fenced else [(it.start(), it[1]) for it in SPAN.finditer(block.text)]
-    for start, text in spans:
+    for start, text in code_in(block):
         for word in re.findall(r"[^\s,;()<>'\"]+", text):
             is_path = word.startswith(TOPS) or (not block.is_fenced and FILE_NAME.fullmatch(word) and word[0] not in ".*/")
             if (is_path or re.match(r"\./[a-z]", word)) and not word.startswith("docs/"):
@@ -182,7 +208,7 @@ def faults_of_examples(checkout, page):
 def faults_of_page(checkout, page):
     """The wrong references of a page."""
     for block in blocks_of(checkout.pages[page]):
-        found = [*links(checkout, page, block), *files(checkout, block)]
+        found = [*links(checkout, page, block), *files(checkout, block), *calls(checkout, block)]
         found += [(it.start(), checkout.page_fault(f"docs/{it[1]}.md", it[2])) for it in CITED.finditer(block.text)]
         if page in CLAUSE_PAGES and not block.is_fenced:
             found += clauses(checkout, block)
@@ -213,8 +239,7 @@ def is_code(file):
 
 
 def wrong_references(checkout):
-    """All wrong references of a checkout, in the order of their places."""
-    found = {it for page in checkout.pages for it in faults_of_page(checkout, page)}
-    found |= {it for file in checkout.files if is_code(file) for it in faults_of_code(checkout, file)}
-    found |= {it for page in checkout.pages for it in faults_of_examples(checkout, page)}
-    return sorted(found)
+    """All wrong references of a checkout's pages and code."""
+    yield from (it for page in checkout.pages for it in faults_of_page(checkout, page))
+    yield from (it for file in checkout.files if is_code(file) for it in faults_of_code(checkout, file))
+    yield from (it for page in checkout.pages for it in faults_of_examples(checkout, page))
