@@ -6,9 +6,8 @@ from tools.lib.findings import Finding
 
 # The most bytes of a page, or of a folder's pages together.
 MOST_BYTES = {"docs/PROVED.md": 20_000, "docs/MODEL.md": 35_000, "docs/OPERATIONS.md": 18_000, "docs/DECISIONS.md": 30_000, "docs/": 305_000}
-# Which of these bounds hold, and on the first screens of which pages, or folders of pages, the words of sentences are counted.
-BOUNDED = ()
-COUNTED = ()
+# On the first screens of which pages, or folders of pages, the words of sentences are counted.
+COUNTED = ("README.md", "docs/")
 # The most words of a sentence there; how many rows of how many characters a screen has.
 MOST_WORDS, ROWS, COLUMNS = 25, 40, 120
 
@@ -76,5 +75,5 @@ def faults_of_sentences(checkout, places):
 
 def faults_of_bounds(checkout):
     """What is above the bounds that hold."""
-    yield from faults_of_sizes(checkout, {it: MOST_BYTES[it] for it in BOUNDED})
+    yield from faults_of_sizes(checkout, MOST_BYTES)
     yield from faults_of_sentences(checkout, COUNTED)
