@@ -57,10 +57,13 @@ def everything(peer):
 
 
 def tell(address, *frames):
-    """What a peer is sent that says these frames and then no more."""
+    """What a peer is sent that says these frames and then no more. A ConnectionError where its connection was ended before it had said all."""
     with connect(address) as peer:
-        peer.sendall(b"".join(frames))
-        peer.shutdown(socket.SHUT_WR)
+        try:
+            peer.sendall(b"".join(frames))
+            peer.shutdown(socket.SHUT_WR)
+        except OSError as why:
+            raise ConnectionError("the connection was ended before all was said") from why
         return everything(peer)
 
 
