@@ -1,11 +1,9 @@
 """Small programs with planted mistakes, to see that the refusals find each."""
 import tempfile
-from pathlib import Path
 
 from tools.lib.findings import tell
 from tools.lib.growth import KINDS, grown
 from tools.lib.holding import READS as READ, WRITES as WRITTEN, held
-from tools.lib.refusing import Program
 from tools.lib.rows import Row
 from tools.lib.sweeps import Sweeper
 from tools.planted.calls import self_test_of_calls
