@@ -1,24 +1,15 @@
 """The program that is tested, and how it is run."""
 import os
 import subprocess
-from dataclasses import dataclass
 from pathlib import Path
 
-from tools.lib.programs import LEFT
+from tools.lib import programs
+from tools.lib.programs import LEFT, Ended
 
 # Where `rt ci` and `rt run` leave the program, unless S4D names another.
 PROGRAM = Path(os.environ.get("S4D") or LEFT).resolve()
 # A run that takes longer has failed.
 SECONDS = 240
-
-
-@dataclass(frozen=True)
-class Ended:
-    """What a run wrote, and its status."""
-
-    status: int
-    out: bytes
-    err: bytes
 
 
 def command(words):
@@ -28,8 +19,7 @@ def command(words):
 
 def run(words, given=b"", folder=None):
     """Runs the program on these words of the command line and these bytes of its input, in a folder."""
-    ran = subprocess.run(command(words), input=given, capture_output=True, cwd=folder, timeout=SECONDS)
-    return Ended(ran.returncode, ran.stdout, ran.stderr)
+    return programs.run(PROGRAM, words, given, folder, SECONDS)
 
 
 def start(words):

@@ -1,9 +1,9 @@
 """The proved program that tells what scripts and arrivals are told in ways that s4d doesn't have."""
 import os
-import subprocess
 from pathlib import Path
 
 from tests.program import SECONDS
+from tools.lib import programs
 from tools.lib.programs import CALLING
 
 # Where `rt ci` and `rt run` leave it, unless S4_ROW_TESTS names another.
@@ -22,10 +22,10 @@ UNCUT = "two-cells-uncut"
 
 def run(words, given):
     """What it writes for these words and this input. It ends with a fault where a line isn't one, and where there was no memory."""
-    ran = subprocess.run([WAYS, *map(str, words)], input=given, capture_output=True, timeout=SECONDS)
-    if ran.returncode or ran.stderr:
-        raise AssertionError(f"{WAYS} ends with {ran.returncode} and tells {ran.stderr.decode(errors='replace')}")
-    return ran.stdout
+    ran = programs.run(WAYS, words, given, seconds=SECONDS)
+    if ran.status or ran.err:
+        raise AssertionError(f"{WAYS} ends with {ran.status} and tells {ran.err.decode(errors='replace')}")
+    return ran.out
 
 
 def told(script, ways):

@@ -1,4 +1,4 @@
-"""Prints an index of all contracts, made from the sources: of each function its clauses, and what is said of it.
+"""Prints an index of all contracts, made from the sources.
 
   ./check clauses             of all crates but those of tests
   ./check clauses CRATE..     of these crates

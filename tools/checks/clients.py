@@ -1,4 +1,4 @@
-"""Has the client of examples/client.py ask a served drive in both versions of the wire, and compares what comes with what the pages say.
+"""Has examples/client.py ask a server in both versions of the wire, and compares what comes with the pages.
 
   ./check clients       each frame that docs/PROTOCOL.md shows; each of the twenty requests, by version 1 and by version 2; both versions on
                         one object; what can't be served; and the client's own example

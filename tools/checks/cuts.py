@@ -1,4 +1,4 @@
-"""Puts cuts between the lines of scripts, and compares what s4d replies with what is replied without them.
+"""Puts cuts between the lines of scripts, and compares the replies with those without them.
 
   ./check cuts          all worked scripts that run without a fault and have no cuts, with a cut at the horizon behind each line (of those with more than
                         1000 lines behind 200, evenly spread), and again at moments up to the horizon, behind a third of the lines
@@ -13,9 +13,9 @@
 A run is right where it writes what is written without cuts, and each cut tells how many records went: those before its moment that an
 earlier one has left.
 """
-import subprocess
 from concurrent.futures import ThreadPoolExecutor
 
+from tools.lib import programs
 from tools.lib.chance import at_random
 from tools.lib.commands import Options, processors
 from tools.lib.cutting import Cutting, at_the_horizon, behind_each, by_chance, parted, sparse
@@ -28,8 +28,8 @@ OPTIONS = Options(flags=("self-test",), numbers={"random": 0, "lines": 2000, "se
 
 def replied(program, script):
     """What the program writes for a script."""
-    done = subprocess.run([program, "run"], input=script, capture_output=True, check=False)
-    return done.stdout + done.stderr
+    ran = programs.run(program, ["run"], script)
+    return ran.out + ran.err
 
 
 def differs(name, cutting, replies, wanted):

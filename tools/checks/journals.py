@@ -1,4 +1,4 @@
-"""Serves a drive that keeps a journal while principals ask at random, and compares what the journal tells with what they were replied.
+"""Serves while principals ask at random, and compares what a journal tells with what they were replied.
 
   ./check journals      20 servers that end, and 20 that are killed
       --servers N       so many of each

@@ -1,4 +1,4 @@
-"""Checks what pages and code refer to, in a second or two.
+"""Checks what pages, pictures and code refer to, in some seconds.
 
   ./check references        each page and section that code or a page cites, each clause that README.md, docs/PROVED.md and docs/TRUST.md
                             name in italics, each file, check and measure that a page names, each crate, function and file that a picture
@@ -8,9 +8,9 @@
       --count               counts the definitions that theorems reach, and writes the tables of docs/TRUST.md
       --self-test           plants wrong references in a copy, and fails unless each is found
 
-It prints a line for each wrong reference: the file, the line, and what isn't there. Pages are README.md, docs/*.md and docs/measured/*.md. A section is cited
-by its name in quotes behind its page, or by a link to its anchor. A clause has to be one of a function, trait or type
-that is named in the same paragraph or item, in a crate that is named there or in the heading above.
+It prints a line for each wrong reference: the file, the line, and what isn't there. Pages are README.md, docs/*.md and docs/measured/*.md. A
+section is cited by its name in quotes behind its page, or by a link to its anchor. A clause has to be one of a function, trait or type that is
+named in the same paragraph or item, in a crate that is named there or in the heading above.
 """
 from tools.lib.commands import Options
 from tools.lib.findings import tell_all

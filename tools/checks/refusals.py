@@ -1,4 +1,4 @@
-"""Refuses each allocation of the program s4d in turn, from outside, and judges what it writes then.
+"""Refuses each allocation of s4d in turn, from outside, and judges what it writes then.
 
   ./check refusals [CASE..]
                           all worked rows that run without a fault, and a server ('serve'), or those of these names: each

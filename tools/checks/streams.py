@@ -12,11 +12,11 @@
       --jobs N          so many side by side; else as many as there are processors
       --self-test       what is sent with planted mistakes, each of which has to be found
 """
-import subprocess
 import tempfile
 from concurrent.futures import ThreadPoolExecutor
 from pathlib import Path
 
+from tools.lib import programs
 from tools.lib.commands import Options, processors
 from tools.lib.findings import first_difference, tell_all
 from tools.lib.programs import program_of
@@ -35,8 +35,8 @@ def sent(program, logins, arrivals):
     with tempfile.NamedTemporaryFile(mode="w", encoding="ascii") as table:
         table.write(logins)
         table.flush()
-        done = subprocess.run([program, "hall", table.name], input=arrivals.encode(), capture_output=True, check=False)
-    return (done.stdout + done.stderr).decode(errors="replace")
+        ran = programs.run(program, ["hall", table.name], arrivals.encode())
+    return (ran.out + ran.err).decode(errors="replace")
 
 
 def differs(name, found, wanted):

@@ -1,4 +1,4 @@
-"""Tries the wrong bodies of crates: each edit crates/NAME/wrong/*.edit has to be refused by the check of its crate.
+"""Tries the wrong bodies of crates: the check of its crate has to refuse each edit crates/NAME/wrong/*.edit.
 
   ./check wrong-bodies        tries the crates that aren't those of tools/wrong-bodies.tried, or below which something else is stated
   ./check wrong-bodies CRATE..

@@ -2,7 +2,6 @@
 import functools
 import hashlib
 import shutil
-import subprocess
 from dataclasses import dataclass
 from pathlib import Path
 
@@ -37,9 +36,8 @@ class Repository:
 
     def __init__(self, root, is_after_ci=False):
         self.root, self.crates, self.is_after_ci = Path(root).resolve(), crates_of(root), is_after_ci
-        version = subprocess.run(["rt", "version"], capture_output=True, text=True, check=True).stdout
         # (what a check refuses goes by the kit's logic; its name says more)
-        self.kit = version.strip().partition(" ")[2]
+        self.kit = kit.version().partition(" ")[2]
 
     def folder(self, name):
         return self.root / "crates" / name

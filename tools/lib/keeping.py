@@ -3,13 +3,13 @@ import contextlib
 import json
 import random
 import signal
-import subprocess
 import threading
 import time
 from dataclasses import dataclass, field
 
 from tools.lib.chance import Chance
 from tools.lib.findings import Wrong
+from tools.lib.programs import run
 from tools.lib.servers import Server, connect, logins_of, secret_of
 
 # Who asks.
@@ -34,8 +34,8 @@ class Asked:
 
 def call(program, address, who, words, secret):
     """The reply to a call, and its status."""
-    done = subprocess.run([program, "call", "--wait", "5000", address, str(who), "1", secret.hex(), *words], capture_output=True, text=True, check=False)
-    return done.stdout.rstrip("\n"), done.returncode
+    ran = run(program, ["call", "--wait", "5000", address, who, "1", secret.hex(), *words])
+    return ran.out.decode().rstrip("\n"), ran.status
 
 
 def ask_at_random(program, address, asked, seed, begun, count, over):
@@ -68,10 +68,10 @@ def break_off(address):
 
 def told(program, *words, script=None):
     """What the program writes; it has to succeed."""
-    done = subprocess.run([program, *words], input=script, capture_output=True, text=True, check=False)
-    if done.returncode != 0:
-        raise Wrong(f"{' '.join(map(str, words))}: status {done.returncode}: {done.stderr.strip()} behind {done.stdout[-200:]!r}")
-    return done.stdout
+    ran = run(program, words, (script or "").encode())
+    if ran.status != 0:
+        raise Wrong(f"{' '.join(map(str, words))}: status {ran.status}: {ran.err.decode().strip()} behind {ran.out.decode()[-200:]!r}")
+    return ran.out.decode()
 
 
 def is_own(words):
@@ -196,9 +196,9 @@ def change_bytes(program, folder, chance):
         for _ in range(5):
             place = chance.randrange(len(whole))
             path.write_bytes(whole[:place] + bytes([whole[place] ^ 1 << chance.randrange(8)]) + whole[place + 1 :])
-            done = subprocess.run([program, "history", "check", folder], capture_output=True, text=True, check=False)
-            if done.returncode == 0 and " torn " not in done.stdout:
-                raise Wrong(f"byte {place} of {name} is changed, and the journal is sound: {done.stdout!r}")
+            ran = run(program, ["history", "check", folder])
+            if ran.status == 0 and b" torn " not in ran.out:
+                raise Wrong(f"byte {place} of {name} is changed, and the journal is sound: {ran.out.decode()!r}")
         path.write_bytes(whole)
 
 

@@ -15,6 +15,12 @@ def module():
 
 
 @functools.cache
+def version():
+    """The kit's name, and its logic."""
+    return subprocess.run(["rt", "version"], capture_output=True, text=True, check=True).stdout.strip()
+
+
+@functools.cache
 def crates(root):
     """The crates of a checkout, by name, as the kit has them."""
     return {it.name: it for it in module().crates_below(str(Path(root) / "crates"))}

@@ -1,6 +1,8 @@
-"""The programs that checks run, where they are built."""
+"""The programs that checks run: where they are built, and what they write."""
 import os
+import subprocess
 import sys
+from dataclasses import dataclass
 from pathlib import Path
 
 # The top of this checkout.
@@ -9,6 +11,21 @@ TOP = Path(__file__).resolve().parent.parent.parent
 LEFT, FIRST = TOP / "crates/s4d/out/s4d", TOP / "bin/s4d"
 # Where `rt ci` and `rt run` leave the program that makes calls of the library.
 CALLING = TOP / "crates/s4_row_tests/out/s4_row_tests"
+
+
+@dataclass(frozen=True)
+class Ended:
+    """What a run wrote, and its status."""
+
+    status: int
+    out: bytes
+    err: bytes
+
+
+def run(program, words, given=b"", folder=None, seconds=None):
+    """Runs a program on these words of the command line and these bytes of its input, in a folder, for so many seconds at most."""
+    ran = subprocess.run([str(program), *map(str, words)], input=given, capture_output=True, cwd=folder, timeout=seconds, check=False)
+    return Ended(ran.returncode, ran.stdout, ran.stderr)
 
 
 def is_program(path):

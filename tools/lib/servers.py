@@ -83,8 +83,8 @@ class Server:
         with open(self.folder / "errors", "wb") as errors:
             pipes = {"stdin": subprocess.DEVNULL, "stdout": subprocess.PIPE, "stderr": errors}
             self.process = subprocess.Popen([str(program), *map(str, words)], cwd=self.folder, text=True, **pipes, **how)
-        self.last = threading.Timer(seconds or 0, self.process.kill)
-        if seconds:
+        self.last = threading.Timer(seconds, self.process.kill) if seconds else None
+        if self.last:
             self.last.start()
         self.first = self.process.stdout.readline()
 
@@ -107,7 +107,8 @@ class Server:
         self.process.kill()
         self.process.wait()
         self.process.stdout.close()
-        self.last.cancel()
+        if self.last:
+            self.last.cancel()
         if self.room:
             self.room.cleanup()
 

@@ -1,7 +1,6 @@
 """Which definitions contracts reach: what a reader of a theorem has to believe, and what is inner."""
 import functools
 import re
-import subprocess
 from collections import defaultdict
 from itertools import takewhile
 from pathlib import Path
@@ -9,6 +8,7 @@ from pathlib import Path
 from tools.lib.clauses import contracts_of
 from tools.lib.crate_list import crates_of
 from tools.lib.findings import Finding
+from tools.lib.kit import version
 
 PAGE = "docs/TRUST.md"
 BEGIN, END = "<!-- definitions -->", "<!-- end of definitions -->"
@@ -235,15 +235,14 @@ def faults_of_ported(root, page):
 def wrong_trust(root):
     """What the page of trust says wrongly of the definitions, of the kit's ported crates and, as README too, of the kit."""
     page = (Path(root) / PAGE).read_text(encoding="utf-8")
-    kit = subprocess.run(["rt", "version"], capture_output=True, text=True, check=True).stdout.strip()
-    name, _, logic = kit.partition(" ")
+    name, _, logic = version().partition(" ")
     for it in ("README.md", PAGE):
         text = (Path(root) / it).read_text(encoding="utf-8")
         if f" {logic}`" not in text:
-            yield Finding(it, 1, f"the kit is {kit}")
+            yield Finding(it, 1, f"the kit is {version()}")
         elif f"`{name}" not in text:
             # Machines have kits of several names, whose logic is the same.
-            print(f"{it}: the kit here is {kit}")
+            print(f"{it}: the kit here is {version()}")
     yield from (Finding(PAGE, 1, it) for it in faults_of_ported(root, page))
     counted = with_table(root, page)
     if counted != page:

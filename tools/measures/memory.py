@@ -1,4 +1,4 @@
-"""Measures how the memory of a server goes over time under load, with and without --cut, and what a request takes meanwhile.
+"""Measures the memory of a server over time under load, with and without --cut, and what a request takes.
 
   ./check measure memory
                          two servers, one behind the other, each for 60 seconds under as much load as it takes: one without and one with --cut.

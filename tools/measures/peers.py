@@ -1,4 +1,4 @@
-"""Measures what peers cost a served drive in memory, where many do the same.
+"""Measures what peers cost a server in memory, where many do the same.
 
   ./check measure peers
                         1024 peers each: that say nothing; that announce a greatest frame; that send half of it, or all of it but a byte;

@@ -1,4 +1,4 @@
-"""Watches the checks of crates that run on this machine: what each takes of processor time and of memory.
+"""Watches the checks of crates that run here: what each takes of processor time and of memory.
 
   ./check measure proofs    until it is sent SIGTERM, or whoever called it has ended: then it says what each crate's checks took, which were
                             the dearest, and which held more memory than a check may
