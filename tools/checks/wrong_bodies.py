@@ -12,9 +12,9 @@
 An edit is a file with a line 'file: src/NAME.rt' (or a file of specs/) and then pairs of lines 'old: TEXT' and 'new: TEXT'. Each old
 TEXT stands in that file once. Edits that lie in functions of their own are tried at once, in one check, and each is judged by the line
 that the check prints of its function: it has to be not proved by itself, and not only since it calls another. What a check can't tell so
-is tried in the next one, and at last alone. Behind `rt ci` a check proves the edited functions alone, and takes what they call at its word. Edits of one
-function are tried there in copies of it, each with the written proof under the copy's name. An edit is not refused if the crate is still proved with it, or if only a written proof
-that names what went, or a limit of the prover, stands against it: these say nothing of a clause.
+is tried in the next one, and at last alone. Behind `rt ci` a check proves the edited functions alone, and takes what they call at its word.
+Edits of one function are tried there in copies of it, each with the written proof under the copy's name. An edit is not refused if the crate is
+still proved with it, or if only a written proof that names what went, or a limit of the prover, stands against it: these say nothing of a clause.
 
 What was tried is kept in tools/wrong-bodies.tried, a line for each crate. docs/CONTRIBUTING.md says when to call this, and what it costs.
 """

@@ -97,7 +97,10 @@ def contracts_in(text):
         if function or invariant and (not found or found.function or found.owner != owner):
             if found:
                 yield found
-            found = Contract(owner if invariant or function[1] else "", "" if invariant else function[2], of_owners.get(owner, "") if invariant else about(lines, row))
+            if invariant:
+                found = Contract(owner, "", of_owners.get(owner, ""))
+            else:
+                found = Contract(owner if function[1] else "", function[2], about(lines, row))
         if found and (clause or invariant or depth > 0):
             found.clauses += [clause[3] if clause else invariant[1]] if clause or invariant else []
             found.lines.append(line)

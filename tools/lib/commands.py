@@ -6,6 +6,7 @@ import os
 import sys
 from dataclasses import dataclass, field
 
+from tools.lib.findings import Wrong
 from tools.lib.programs import TOP
 
 # The folders below tools/ in which each command is a file, and the words by which one of them is called.
@@ -67,6 +68,8 @@ class Command:
             return 0 if command.run(given) else 1
         except KeyboardInterrupt:
             sys.exit(f"{self.name}: ended before its end")
+        except Wrong as why:
+            sys.exit(f"{self.name}: {why}")
 
 
 def commands_of(folder):

@@ -95,7 +95,8 @@ def span(times, died):
 
 
 def told_of_connections(folder, all_asked, died):
-    """The principal whom each connection was welcomed as, and its peer. Each failed login is told, and each connection's end, but for those of the last round of a server that died."""
+    """The principal whom each connection was welcomed as, and its peer. Each failed login is told, and each connection's end, but for those of the
+    last round of a server that died."""
     welcomed, peers, failed, ended = {}, {}, {asked.who: 0 for asked in all_asked}, set()
     for line in (folder / "1" / "connections.jsonl").read_text(encoding="utf-8").splitlines(keepends=True):
         if not line.endswith("\n"):
@@ -119,7 +120,8 @@ def told_of_connections(folder, all_asked, died):
 
 
 def compare_list(program, folder, all_asked, died, cuts):
-    """Whether the list has each record once, with the connection of its principal, and that one's peer. Tells how many it has, and how many of them the server asked by itself, which have none."""
+    """Whether the list has each record once, with the connection of its principal, and that one's peer. Tells how many it has, and how many of them
+    the server asked by itself, which have none."""
     welcomed, peers = told_of_connections(folder, all_asked, died)
     plain = [line for line in told(program, "history", "list", folder).splitlines() if " -> " in line]
     try:
@@ -237,7 +239,8 @@ def ask_all_at_random(program, server, plan):
 
 
 def compare_end(program, kept, records, output, errors, plan):
-    """Whether a server that ends tells the sums of its journal and its records, and whether changed bytes of the journal are found. Tells of one that cuts how many of its records went; else None."""
+    """Whether a server that ends tells the sums of its journal and its records, and whether changed bytes of the journal are found. Tells of one
+    that cuts how many of its records went; else None."""
     for line in errors:
         if " sum " in line:
             told(program, "history", "check", kept, "--sum", line.rpartition(" sum ")[2])

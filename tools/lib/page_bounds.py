@@ -70,7 +70,8 @@ def faults_of_sentences(checkout, places):
                 words = WORD.findall(sentence)
                 checkout.count += 1
                 if len(words) > MOST_WORDS:
-                    yield Finding(page, number, f"a sentence of {len(words)} words on the first screen, and at most {MOST_WORDS} are wanted: {' '.join(words[:6])} ..")
+                    begin = " ".join(words[:6])
+                    yield Finding(page, number, f"a sentence of {len(words)} words on the first screen, and at most {MOST_WORDS} are wanted: {begin} ..")
 
 
 def faults_of_bounds(checkout):

@@ -115,7 +115,8 @@ def bounds_faults(room):
     sizes = {place: sum(len(checkout.pages[it].encode()) for it in pages_at(checkout, place)) for place in MOST_BYTES}
     for less in 0, 1:
         found = {it.file for it in faults_of_sizes(checkout, {place: size - less for place, size in sizes.items()})}
-        yield from (f"the bound of {it} is {less} bytes less than it has, and {'nothing' if less else 'something'} is said" for it in sizes if (it in found) != less)
+        said = "nothing" if less else "something"
+        yield from (f"the bound of {it} is {less} bytes less than it has, and {said} is said" for it in sizes if (it in found) != less)
     for text, is_wrong in SCREENS:
         page.write_text(f"{text}\n", encoding="utf-8")
         if bool(list(faults_of_sentences(Checkout(room), ["docs/PLANTED.md"]))) != is_wrong:
