@@ -75,10 +75,10 @@ class Server:
     def __init__(self, program, *flags, logins=logins_of(SECRETS), setup=None, tells=True, folder=None, seconds=None, **how):
         self.room = None if folder else tempfile.TemporaryDirectory(prefix="s4d-")
         self.folder, self.address, self.tells = Path(folder or self.room.name), address(), tells
-        (self.folder / "logins").write_text(logins, encoding="ascii")
+        (self.folder / "logins").write_text(logins, encoding="utf-8")
         words = ["serve", self.address, "logins", "--until", "end", *["--status", "status"] * tells, *flags]
         if setup is not None:
-            (self.folder / "setup").write_text(setup, encoding="ascii")
+            (self.folder / "setup").write_text(setup, encoding="utf-8")
             words += ["--setup", "setup"]
         with open(self.folder / "errors", "wb") as errors:
             pipes = {"stdin": subprocess.DEVNULL, "stdout": subprocess.PIPE, "stderr": errors}
