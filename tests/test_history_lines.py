@@ -2,6 +2,7 @@
 import unittest
 
 from tests.journals import LINES, Chain, Kept, creation, journal
+from tests.test_history_lists import JOURNAL
 
 # Two texts, and their lines, the first under a sum of zeros.
 TEXTS = ('{"connection":1,"peer":"127.0.0.1:5000"', '{"connection":1,"ended":"closed"')
@@ -14,6 +15,15 @@ FIRST, SECOND = 114, 221
 # A journal of one record, under whose header's sum the lines stand.
 RECORDS, SUM = journal(1, (0, creation(5, 7)))
 BOTH = Chain(SUM).lines(*TEXTS)
+# Two texts, and their lines under the sum of a journal's header, all of them made by another program (docs/JOURNAL.md).
+OPENED = (
+    '{"connection":12,"peer":"127.0.0.1:50000","wall":1700000000002,"moment":7,"event":"opened"',
+    '{"connection":12,"peer":"127.0.0.1:50000","wall":1700000000002,"moment":7,"event":"welcome","who":7,"client":1,"version":1',
+)
+UNDER_JOURNAL = b"""\
+{"connection":12,"peer":"127.0.0.1:50000","wall":1700000000002,"moment":7,"event":"opened","sum":"c6209e4c9e939dfce50988a64423de0be117aff4a84ad26f64918647b274b2fd"}
+{"connection":12,"peer":"127.0.0.1:50000","wall":1700000000002,"moment":7,"event":"welcome","who":7,"client":1,"version":1,"sum":"6d6ac59f02c5eb40b1f70649387a0720b10ce31ce1b70c7fbebe7cf7c78dcad6"}
+"""
 
 
 class Lines(unittest.TestCase):
@@ -70,6 +80,22 @@ class Lines(unittest.TestCase):
     def test_lines_stand_behind_others(self):
         # The second line isn't one behind what is in front of the first.
         self.assertEqual(self.told(BOTH[FIRST:]), "start 2: lines: byte 0: no line")
+
+    def test_lines_that_another_program_made(self):
+        lines = Chain(JOURNAL[44:76]).lines(*OPENED)
+        self.assertEqual(lines, UNDER_JOURNAL)
+        first = lines.index(b"\n")
+        with Kept(JOURNAL, lines=lines) as kept:
+            self.assertIn("start 2 connections lines 2 sum 6d6ac59f02c5eb40b1f70649387a0720b10ce31ce1b70c7fbebe7cf7c78dcad6", kept.check().lines)
+            for place in range(first):
+                changed = bytearray(lines)
+                changed[place] ^= 1
+                kept.write(LINES, changed)
+                self.assertEqual(kept.check().fault, "start 2: lines: byte 0: no line", place)
+                kept.write(LINES, lines[:place] + b"\n")
+                self.assertEqual(kept.check().fault, "start 2: lines: byte 0: no line", place)
+        # They don't stand behind another header.
+        self.assertEqual(self.told(lines), "start 2: lines: byte 0: no line")
 
     def test_lines_are_bounded(self):
         # A line has 4096 bytes at most, of which 75 are its sum and its line feed.

@@ -1,7 +1,7 @@
 """Lists and sums of journals, among them one that another program made (docs/JOURNAL.md), as `s4d history` tells them."""
 import unittest
 
-from tests.journals import RECORDS, Chain, Kept, create, creation, header, journal, made, object_of, record, setting
+from tests.journals import RECORDS, Chain, Kept, call, create, creation, header, journal, made, object_of, record, setting
 
 # A header, a block of cell 3 and one of cell 0, and their sums.
 JOURNAL = bytes.fromhex(
@@ -15,8 +15,16 @@ JOURNAL = bytes.fromhex(
 )
 # Where the header and its sum end, and where the first block ends.
 FRONT, FIRST = 76, 156
+# A block of two calls, under the sum of the header.
+CALLS = bytes.fromhex(
+    "000000540000000200000002000000030000000000000000000000000000000c000000000000000000000005"
+    "000000000000000d000000040000000000000006000000000000000000000000000000000000000000000001"
+    "f5122cf69e6c33a6d415724920395c79440e60e2e674305832ee4df5c15aad42"
+)
 # The lines of the records in both blocks.
 FIRST_LINE, SECOND_LINE = "3 0 7 7 1 create 0 -> made 7.0.1\n", "0 0 9 8 2 delete 7.0.1 -> denied delete\n"
+FIRST_JSON = '{"cell":3,"place":0,"moment":7,"wall":1700000000002,"who":7,"client":1,"connection":null,"peer":null,"ask":"create 0","reply":"made 7.0.1"}\n'
+SECOND_JSON = '{"cell":0,"place":0,"moment":9,"wall":1700000000004,"who":8,"client":2,"connection":null,"peer":null,"ask":"delete 7.0.1","reply":"denied delete"}\n'
 
 
 def changed(place):
@@ -70,19 +78,36 @@ class Lists(unittest.TestCase):
                 self.assertEqual((told, tallied), ("start 2: no journal", []), length)
                 continue
             self.assertEqual(told, "" if length < FIRST else FIRST_LINE, length)
-            end = FRONT if length < FIRST else FIRST
-            self.assertEqual(tallied[1:], [] if length == end else [f"torn {end} {length}"], length)
+            count, end = (0, FRONT) if length < FIRST else (1, FIRST)
+            # What goes on there goes on behind the sum of the last block, or of the header.
+            wanted = [f"blocks {count} sum {JOURNAL[end - 32 : end].hex()}"]
+            self.assertEqual(tallied, wanted if length == end else [*wanted, f"torn {end} {length}"], length)
 
     def test_a_journal_is_changed_anywhere(self):
-        # Wherever a byte is changed, the journal isn't whole with all of its records.
+        # Wherever a byte is changed, the journal isn't whole with all of its records. Where one of the two middle bytes of a block's length is greater, the
+        # block seems to go on behind the end of the bytes.
         for place in range(len(JOURNAL)):
             told, tallied = self.listed(changed(place)), self.tallied(changed(place))
             front = FRONT if place < FIRST else FIRST
-            if told == "start 2: no journal":
-                self.assertLess(place, FRONT)
-            elif told != f"start 2: byte {front}: no block":
-                self.assertNotIn(":", told, place)
-                self.assertEqual(tallied[1:], [f"torn {front} {len(JOURNAL)}"], place)
+            if place < FRONT:
+                self.assertEqual((told, tallied), ("start 2: no journal", []), place)
+            elif place - front in (1, 2):
+                self.assertEqual((told, tallied[1:]), ("" if front == FRONT else FIRST_LINE, [f"torn {front} {len(JOURNAL)}"]), place)
+            else:
+                self.assertEqual((told, tallied), (f"start 2: byte {front}: no block", []), place)
+
+    def test_the_fields_of_a_journal_are_told(self):
+        # The wall clock at a moment is that of the first moment and what is between them. A script has its window, and which version its callers speak.
+        self.assertEqual(self.listed(JOURNAL, "--json"), FIRST_JSON + SECOND_JSON)
+        self.assertEqual(self.kept.tell("script").lines[0], "window 10 wire 2")
+        self.assertEqual(self.kept.tell("script", "--to", 8).lines, ["window 10", "7 7 create 0"])
+
+    def test_calls_are_no_records(self):
+        # A block of calls is none of records, though its sum is right.
+        self.assertEqual(Chain(JOURNAL[44:FRONT]).calls(2, [call(3, 0, 12), call(0, 5, 13)], (6, 0, 0, 1)), CALLS)
+        self.assertEqual(self.listed(JOURNAL[:FRONT] + CALLS), "start 2: byte 76: no block")
+        with Kept(JOURNAL, CALLS) as kept:
+            self.assertIn(f"start 2 calls blocks 1 sum {CALLS[88:].hex()}", kept.check().lines)
 
     def test_batches_have_places(self):
         # The first cell has four records, and then two and two; the second one has none but the last.
