@@ -3,10 +3,12 @@
 ghost use Rattle.std.specs.Prelude.{◌≡◌, ◌++◌, Some, codes};
 ghost use Rattle.s4_commands.specs.Faults.{exit_status, fault_text};
 ghost use Rattle.s4_commands.specs.declared.fault.Fault.TheVariants as fault;
+ghost use Rattle.s4_run.specs.Faults.{fault_of_logins};
 ghost use Rattle.s4_run.specs.declared.fault.RunFault.TheVariants as run_fault;
 
 use s4_client::CallFault;
 use s4_command::WordsFault;
+use s4_logins::LoginsFault;
 use s4_run::RunFault;
 use s4_server::ServerFault;
 use s4_starts::StartFault;
@@ -89,6 +91,14 @@ impl From<RunFault> for Fault {
 
     fn from(fault: RunFault) -> Fault {
         Fault::Run(fault)
+    }
+}
+
+impl From<LoginsFault> for Fault {
+    ghost from_gives = { λ logins why. why ≡ fault.Run (fault_of_logins logins) };
+
+    fn from(fault: LoginsFault) -> Fault {
+        Fault::Run(RunFault::from(fault))
     }
 }
 

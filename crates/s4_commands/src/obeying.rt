@@ -9,6 +9,7 @@ use crate::fault::Fault;
 use crate::history::tell_history;
 use crate::serving::serve_at;
 use s4_command::Command;
+use s4_logins::open_logins;
 use s4_run::RunFault;
 use std::io::{Read, Write};
 use std::net::{Net, TcpListener, TcpStream};
@@ -63,6 +64,6 @@ fn run_hall<F: Files + AllocGlobal, R: Read + Drop, W: Write>(
     input: R,
     output: &mut W,
 ) -> Result<(), RunFault> {
-    let logins = s4_run::open_logins(files, path)?;
+    let logins = open_logins(files, path)?;
     s4_run::run_hall(files.alloc(), logins, input, output)
 }

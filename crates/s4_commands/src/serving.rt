@@ -10,6 +10,7 @@ use crate::fault::Fault;
 use crate::{descriptors, keeping, setting_up};
 use s4_command::Service;
 use s4_counts::{Blank, Names};
+use s4_logins::open_logins;
 use s4_run::RunFault;
 use s4_server::{Server, Stopwatch, Ticks, Upkeep, beside};
 use s4_stream::Logins;
@@ -40,7 +41,7 @@ pub fn serve_at<
     look(files, path_in(&service.until))?;
     try_status(files, path_in(&service.status))?;
     descriptors::warn(rt, files, &service.settings);
-    let logins = s4_run::open_logins(files, service.logins.as_str())?;
+    let logins = open_logins(files, service.logins.as_str())?;
     let listener = TcpListener::bind(rt, service.address.as_str());
     let listener = listener.map_err(|_| Fault::CannotListen)?;
     let clock = Stopwatch::start(rt, service.settings.first);

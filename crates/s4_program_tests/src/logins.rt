@@ -1,7 +1,8 @@
 //! Logins and sessions.
 
 use crate::fakes::Slow;
-use s4_run::{RunFault, read_logins};
+use s4_logins::read_logins;
+use s4_run::RunFault;
 use s4_stream::{Event, FeedError, Logins, Session, SessionFault};
 use s4_types::Principal;
 use std::alloc::Global;
@@ -39,7 +40,7 @@ fn the_secret_of_a_login_is_accepted(rt: HostRuntime) -> Result<(), Fail> {
 fn logins_that_fail_cannot_be_read(rt: HostRuntime) {
     let mut failing = Slow::failing(SEVEN, ErrorKind::BrokenPipe);
     let read = read_logins(rt.alloc(), &mut failing);
-    assert_eq!(rt; read.err(), Some(RunFault::CannotReadLogins));
+    assert_eq!(rt; read.err().map(RunFault::from), Some(RunFault::CannotReadLogins));
 }
 
 #[test]

@@ -1,7 +1,8 @@
 //! Runs of scripts, of arrivals and of strikes, whose input or output fails.
 
 use crate::fakes::{Narrow, Slow};
-use s4_run::{RunFault, read_logins, run_hall, run_script, run_strike};
+use s4_logins::read_logins;
+use s4_run::{RunFault, run_hall, run_script, run_strike};
 use s4_types::Principal;
 use std::alloc::Global;
 use std::io::ErrorKind;

@@ -2,12 +2,12 @@
 
 ghost use Rattle.std.specs.Prelude.{◌≡◌, ◌≢◌, Some};
 ghost use Rattle.std.specs.IoError.{error_kind};
-ghost use Rattle.s4_run.specs.Faults.{fault_of_line, fault_of_logins, fault_of_logins_file, fault_of_text};
+ghost use Rattle.s4_run.specs.Faults.{fault_of_line, fault_of_logins, fault_of_text};
 ghost use Rattle.s4_run.specs.Texts.{fault_text};
 ghost use Rattle.s4_run.specs.declared.fault.RunFault.TheVariants as fault;
 
+use s4_logins::LoginsFault;
 use s4_script::{ParseError, TextFault};
-use s4_stream::LoginFault;
 use std::alloc::{AllocError, AllocFailed};
 use std::io::ErrorKind;
 use std::{fmt, io};
@@ -42,28 +42,6 @@ impl RunFault {
         match error {
             ParseError::Bad => RunFault::BadLine(number),
             ParseError::NoMemory => RunFault::NoMemory,
-        }
-    }
-
-    /// The fault of a text that is no table of logins.
-    pub fn logins(error: LoginFault) -> RunFault
-        ensures { result ≡ fault_of_logins error }
-    {
-        match error {
-            LoginFault::BadLine(number) | LoginFault::Doubled(number) => RunFault::LoginsLine(
-                number,
-            ),
-            LoginFault::NoMemory => RunFault::NoMemory,
-        }
-    }
-
-    /// The fault where this one was met in reading the file of logins.
-    pub fn of_logins_file(self) -> RunFault
-        ensures { result ≡ fault_of_logins_file self }
-    {
-        match self {
-            RunFault::CannotRead => RunFault::CannotReadLogins,
-            fault => fault,
         }
     }
 
@@ -103,6 +81,18 @@ impl From<TextFault> for RunFault {
         match fault {
             TextFault::CannotRead => RunFault::CannotRead,
             TextFault::NoMemory => RunFault::NoMemory,
+        }
+    }
+}
+
+impl From<LoginsFault> for RunFault {
+    ghost from_gives = { λ logins why. why ≡ fault_of_logins logins };
+
+    fn from(fault: LoginsFault) -> RunFault {
+        match fault {
+            LoginsFault::Line(number) => RunFault::LoginsLine(number),
+            LoginsFault::CannotRead => RunFault::CannotReadLogins,
+            LoginsFault::NoMemory => RunFault::NoMemory,
         }
     }
 }

@@ -11,6 +11,6 @@ mod text;
 
 pub use arrivals::Arrivals;
 pub use fault::RunFault;
-pub use hall::{open_logins, read_logins, run_hall};
+pub use hall::run_hall;
 pub use script::run_script;
 pub use strike::run_strike;

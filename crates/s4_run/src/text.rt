@@ -3,10 +3,9 @@
 ghost use Rattle.std.specs.Prelude.{◌≡◌, IfOk, IfSome};
 
 use crate::fault::RunFault;
-use s4_script::{read_file, read_up_to};
+use s4_script::read_up_to;
 use std::alloc::Global;
 use std::io::Read;
-use std::rt::Files;
 
 /// The most bytes of a text, and the most reads that it may take.
 const TEXT_LIMIT: u32 = 268435456;
@@ -17,9 +16,4 @@ pub fn read_text<R: Read>(alloc: Global, reader: &mut R) -> Result<Vec<u8>, RunF
         (λ text. IfSome (R.remaining reader.old) (λ bytes. text.items ≡ bytes)) }
 {
     Ok(read_up_to(alloc, reader, TEXT_LIMIT)?)
-}
-
-/// All bytes of the file with that path.
-pub fn open_text<R: Files + AllocGlobal>(rt: &R, path: &str) -> Result<Vec<u8>, RunFault> {
-    Ok(read_file(rt, path, TEXT_LIMIT)?)
 }

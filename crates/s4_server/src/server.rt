@@ -21,7 +21,7 @@ use crate::notes::note_passes;
 use crate::places::Places;
 use crate::post::Post;
 use crate::threads::Shared;
-use crate::upkeep::{Reloading, Upkeep};
+use crate::upkeep::Upkeep;
 use s4_cells::Cell;
 use s4_closing::none_went;
 use s4_command::Settings;
@@ -169,7 +169,7 @@ impl<N: Names + Send + Sync> Server<N> {
             cuts: settings.cuts,
         };
         let table = board.tables.newest(rt)?.logins;
-        let reloading = Reloading::new(alloc, upkeep, table, now);
+        let reloading = upkeep.reloading(alloc, table, now);
         let passes = places.serve(&shared, &settings, listener, passes, reloading, keeper)?;
         align(rt, &front, &board)?;
         let closed = match front.close(alloc, passes) {

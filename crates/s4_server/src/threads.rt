@@ -12,10 +12,11 @@ use crate::post::{Post, wake_all};
 use crate::quiet::find_quiet;
 use crate::sweeping::{SWEEPING, sweep_round};
 use crate::telling::Telling;
-use crate::upkeep::{Reloading, Upkeep};
+use crate::upkeep::Upkeep;
 use crate::workers::Worker;
 use s4_command::{Patience, Settings};
 use s4_jobs::{Jobs, Seat};
+use s4_logins::Reloading;
 use s4_pool::{Front, Names, OpenGate};
 use std::alloc::Global;
 use std::sync::Wait;
@@ -226,9 +227,12 @@ fn reload<R: Wait + Eprint, C, N: Names>(
 ) {
     let now = shared.board.time.load(Ordering::SeqCst);
     if reloading.is_due(now) {
-        if let Err(fault) = reloading.read(shared.rt, &shared.board.tables) {
-            // Where this can't be written, nobody is told.
-            let _ = eprintln!(shared.rt; "s4d: {fault}");
+        match reloading.read() {
+            Ok(table) => shared.board.tables.replace(shared.rt, table),
+            Err(fault) => {
+                // Where this can't be written, nobody is told.
+                let _ = eprintln!(shared.rt; "s4d: {fault}");
+            }
         }
     }
 }

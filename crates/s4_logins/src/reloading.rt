@@ -1,0 +1,101 @@
+//! A file of logins that is read again where it has changed.
+
+ghost use Rattle.std.specs.Prelude.{◌≡◌, IfOk, IsErr, OnErr};
+ghost use Rattle.std_alloc.specs.Arc.{arc_value};
+
+use crate::fault::LoginsFault;
+use crate::reading::open_logins;
+use s4_stream::Logins;
+use std::alloc::Global;
+use std::fs;
+use std::os::unix::fs::MetadataExt;
+use std::sync::Arc;
+use std::time::SystemTime;
+
+/// How a file looks from outside. A file that takes another's place may have its length, and its
+/// time too, for times go in steps of some milliseconds; but it isn't the same file.
+#[derive(Clone, Copy, PartialEq)]
+struct Stamp {
+    length: u64,
+    modified: Option<SystemTime>,
+    inode: u64,
+}
+
+/// Who reads the logins again where their file has changed.
+#[derive(Drop)]
+pub struct Reloading<'a> {
+    alloc: Global,
+    /// The machine's files. They aren't those of a type parameter, since a thread looks at them.
+    files: &'a HostRuntime,
+    /// The path of the file of the logins.
+    path: &'a str,
+    /// After how many milliseconds it is looked again whether that file has changed; 0 for never.
+    every: u64,
+    /// The newest table that was read.
+    table: Arc<Logins>,
+    /// How the file looked when it was last read.
+    stamp: Option<Stamp>,
+    /// When it was last looked, in milliseconds.
+    looked: u64,
+}
+
+impl<'a> Reloading<'a> {
+    /// Begins with the table that was read before the server listened, and the file as it is now.
+    pub fn new(
+        alloc: Global,
+        files: &'a HostRuntime,
+        path: &'a str,
+        every: u64,
+        table: Arc<Logins>,
+        now: u64,
+    ) -> Reloading<'a> {
+        Reloading {
+            alloc,
+            files,
+            path,
+            every,
+            table,
+            stamp: stamp_of(files, path),
+            looked: now,
+        }
+    }
+
+    /// Whether it is time to look at the file, and that has changed since it was last read.
+    pub fn is_due(&mut self, now: u64) -> bool {
+        if self.every == 0 || now.saturating_sub(self.looked) < self.every {
+            return false;
+        }
+        self.looked = now;
+        let stamp = stamp_of(self.files, self.path);
+        let has_changed = stamp != self.stamp;
+        self.stamp = stamp;
+        has_changed
+    }
+
+    /// Reads the logins, which are the newest table from now on, and gives that. Where they can't be
+    /// had, the old table stays, and it is told why.
+    pub fn read(&mut self) -> Result<Arc<Logins>, LoginsFault> {
+        self.renew(open_logins(self.files, self.path))?;
+        Ok(Arc::try_clone(&self.table)?)
+    }
+
+    /// Has this table as the newest one, unless it couldn't be read.
+    fn renew(&mut self, read: Result<Logins, LoginsFault>) -> Result<(), LoginsFault>
+        ensures good { IfOk result (λ _. IfOk read (λ table. arc_value self.new.table ≡ table)) }
+        ensures bad { OnErr result (self.new.table ≡ self.old.table) }
+        ensures told { IsErr read → IsErr result }
+    {
+        self.table = Arc::new(self.alloc, read?)?;
+        Ok(())
+    }
+}
+
+/// How the file with that path looks from outside; none where it can't be told.
+fn stamp_of(files: &HostRuntime, path: &str) -> Option<Stamp> {
+    let metadata = fs::metadata(files, path).ok()?;
+    Some(Stamp {
+        length: metadata.len(),
+        modified: metadata.modified().ok(),
+        inode: metadata.ino(),
+    })
+}
