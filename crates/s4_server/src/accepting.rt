@@ -7,10 +7,10 @@ ghost use Rattle.s4_server.specs.Places.{PutsSome, numbers_to};
 use crate::board::Board;
 use crate::clock::Ticks;
 use crate::connection::{Connection, number_after};
-use crate::event::{Entrant, Event, Kind};
 use crate::post::{Post, least, open};
 use crate::watch::Watch;
 use s4_jobs::{Jobs, Seat};
+use s4_keeping::{Entrant, Event, Kind};
 use std::io::ErrorKind;
 use std::net::{SocketAddr, TcpListener, TcpStream};
 use std::sync::Wait;
@@ -99,14 +99,12 @@ impl<'a> Door<'a> {
 
     /// Leaves word of a connection that is closed at once.
     fn tell_turned_away<R: Wait, C: Ticks>(&self, rt: &R, clock: &C, address: SocketAddr) {
-        if let Some(notes) = self.board.notes.last() {
-            let entrant = Entrant {
-                connection: 0,
-                address: Some(address),
-            };
-            let event = Event::new(&entrant, clock.moment().tick(), Kind::TurnedAway);
-            notes.tell(rt, event);
-        }
+        let entrant = Entrant {
+            connection: 0,
+            address: Some(address),
+        };
+        let event = Event::new(&entrant, clock.moment().tick(), Kind::TurnedAway);
+        self.board.notebook.door().tell(rt, event);
     }
 
     /// Waits for a connection where there is none now, and else for a while.

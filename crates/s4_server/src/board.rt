@@ -1,11 +1,11 @@
 //! What the threads of a server tell each other.
 
 use crate::attempts::Attempts;
-use crate::notes::Notes;
 use crate::start::Start;
 use crate::tables::Tables;
 use crate::tally::Tally;
 use crate::threads::OTHERS;
+use s4_keeping::Notebook;
 use s4_stream::Logins;
 use s4_types::NoMemory;
 use std::alloc::Global;
@@ -30,8 +30,8 @@ pub struct Board {
     pub attempts: Attempts,
     /// What is counted.
     pub tally: Tally,
-    /// What is left for the keeper of a journal: by each worker, and last by the one who accepts.
-    pub notes: Vec<Notes>,
+    /// What is left for the keeper of a journal.
+    pub notebook: Notebook,
     /// Before this moment no record is missing in the journal, as far as that is known to last; the
     /// greatest moment where none is kept.
     pub kept: AtomicU64,
@@ -55,10 +55,6 @@ impl Board {
         now: u64,
         keeps: bool,
     ) -> Result<Board, NoMemory> {
-        let mut notes = Vec::new(alloc);
-        for _ in 0..workers.saturating_add(1) {
-            notes.push(Notes::new(alloc, keeps))?;
-        }
         Ok(Board {
             start: Start::new(workers.saturating_add(OTHERS)),
             accepted: AtomicBool::new(false),
@@ -68,7 +64,7 @@ impl Board {
             tables: Tables::new(alloc, logins)?,
             attempts: Attempts::new(alloc),
             tally: Tally::new(alloc)?,
-            notes,
+            notebook: Notebook::new(alloc, workers, keeps)?,
             kept: AtomicU64::new(if keeps { 0 } else { u64::MAX }),
             due: AtomicU64::new(0),
             cut: AtomicU64::new(0),

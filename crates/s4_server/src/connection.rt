@@ -2,8 +2,8 @@
 
 ghost use Rattle.std.specs.Prelude.{◌≡◌, ◌==◌, ◌+◌, cond};
 
-use crate::event::Entrant;
 use s4_jobs::Numbered;
+use s4_keeping::Entrant;
 use std::net::{SocketAddr, TcpStream};
 
 /// A connection that was accepted, with its number and its peer's address.

@@ -4,13 +4,13 @@ use crate::clock::Ticks;
 use crate::conversation::Conversation;
 use crate::desk::Desk;
 use crate::ending::{Drained, Leaving, drain_some};
-use crate::event::{Entrant, Kind};
 use crate::gauge::{Gauge, Tap};
 use crate::opening::Opening;
 use crate::tables::Table;
 use crate::threads::Shared;
 use mio::net::TcpStream;
 use s4_command::Patience;
+use s4_keeping::{Entrant, Kind};
 use s4_pool::{Names, OpenGate};
 use s4_stream::SessionFault;
 use s4_talk::{TalkEnd, TurnEnd};
@@ -70,7 +70,7 @@ pub enum State {
 }
 
 /// What is next with a peer.
-#[derive(Clone, Copy, Debug, PartialEq, Eq)]
+#[derive(Clone, Copy)]
 pub enum Next {
     /// Nothing, until something is told of its stream.
     Waits,
@@ -338,6 +338,15 @@ fn parting_of(end: TalkEnd) -> Kind {
     }
 }
 
+/// What becomes of a connection whose session ended by this fault.
+fn kind_of(fault: SessionFault) -> Kind {
+    match fault {
+        SessionFault::Malformed => Kind::Malformed,
+        SessionFault::BadLogin => Kind::BadLogin,
+        SessionFault::FrameLength => Kind::FrameLength,
+    }
+}
+
 /// Leaves word of the peer's welcome, where the turn brought it. A fault in the same turn ends it
 /// again; then more waits than the frame that tells the fault.
 fn tell_welcome<R: Wait, C: Ticks, N: Names>(
@@ -366,7 +375,7 @@ fn tell_fault<R: Wait, C: Ticks, N: Names>(
 ) {
     match talk.fault() {
         Some(SessionFault::BadLogin) => desk.tell_bad_login(entrant, opening.who()),
-        Some(fault) => desk.tell(entrant, Kind::of_fault(fault)),
+        Some(fault) => desk.tell(entrant, kind_of(fault)),
         None => {}
     }
 }

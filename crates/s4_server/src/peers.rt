@@ -2,13 +2,12 @@
 
 use crate::clock::Ticks;
 use crate::desk::Desk;
-use crate::event::{Entrant, Kind};
 use crate::peer::{Next, Peer, State};
 use crate::tables::Table;
 use crate::threads::Shared;
 use crate::watch::Watch;
 use mio::net::TcpStream;
-use s4_command::Patience;
+use s4_keeping::{Entrant, Kind};
 use s4_pool::{Names, OpenGate};
 use slab::Slab;
 use std::alloc::Global;

@@ -16,8 +16,7 @@ ghost use Rattle.s4_server.specs.Setup.{CarriesOut, IsNamed};
 use crate::board::Board;
 use crate::clock::Ticks;
 use crate::fault::ServerFault;
-use crate::keeper::Keeper;
-use crate::notes::note_passes;
+use crate::noting::note_passes;
 use crate::places::Places;
 use crate::post::Post;
 use crate::threads::Shared;
@@ -25,6 +24,7 @@ use crate::upkeep::Upkeep;
 use s4_cells::Cell;
 use s4_closing::none_went;
 use s4_command::Settings;
+use s4_keeping::Keeper;
 use s4_pool::{Blank, Closed, Front, Names, OpenGate, Pass, Why};
 use s4_stream::Logins;
 use s4_types::{Caller, Moment, NoMemory, Reply, Request};
@@ -154,7 +154,7 @@ impl<N: Names + Send + Sync> Server<N> {
         } = self;
         let now = clock.moment().tick();
         let board = Board::new(alloc, logins, settings.workers, now, keeper.is_some())?;
-        note_passes(rt, &board.notes, &passes)?;
+        note_passes(rt, &board.notebook, &passes)?;
         let shared = Shared {
             rt,
             alloc,

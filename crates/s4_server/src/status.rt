@@ -2,11 +2,11 @@
 
 use crate::attempts::FailedLogins;
 use crate::clock::Ticks;
-use crate::keeper::{FileKept, Keeper, Kept};
 use crate::peers::States;
 use crate::post::Post;
 use crate::tally::{KINDS, Tally};
 use crate::threads::Shared;
+use s4_keeping::{FileKept, Keeper, Kept};
 use s4_pool::{Measure, Names};
 use s4_types::NoMemory;
 use serde::Serialize;

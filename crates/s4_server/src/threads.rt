@@ -7,7 +7,6 @@ use crate::board::Board;
 use crate::clock::Ticks;
 use crate::connection::Connection;
 use crate::cutting::Cutter;
-use crate::keeper::Keeper;
 use crate::post::{Post, wake_all};
 use crate::quiet::find_quiet;
 use crate::sweeping::{SWEEPING, sweep_round};
@@ -16,8 +15,10 @@ use crate::upkeep::Upkeep;
 use crate::workers::Worker;
 use s4_command::{Patience, Settings};
 use s4_jobs::{Jobs, Seat};
+use s4_keeping::{Keeper, Notebook, Source, Stretch};
 use s4_logins::Reloading;
 use s4_pool::{Front, Names, OpenGate};
+use s4_types::NoMemory;
 use std::alloc::Global;
 use std::sync::Wait;
 use std::sync::atomic::{AtomicBool, Ordering};
@@ -47,6 +48,27 @@ pub struct Shared<'a, R, C, N: Names> {
     /// Whether records that no reply needs any more are cut.
     pub cuts: bool,
     pub ghost same: { cells ≡ front.now.cells },
+}
+
+impl<R: Wait, C, N: Names> Source for Shared<'_, R, C, N> {
+    fn records(&self, cell: usize, place: u64, most: usize) -> Result<Option<Stretch>, NoMemory> {
+        let found = self.front.records_since(self.rt, cell, place, most)?;
+        match found {
+            Some(found) => Ok(Some(Stretch {
+                first: found.first,
+                records: found.records,
+            })),
+            None => Ok(None),
+        }
+    }
+
+    fn notebook(&self) -> &Notebook {
+        &self.board.notebook
+    }
+
+    fn files(&self) -> &HostRuntime {
+        self.upkeep.files
+    }
 }
 
 /// How many threads a server has beside its workers: one that accepts, one that sweeps, and one
@@ -210,13 +232,28 @@ fn keep_to_the_end<R: Wait + Clock + Eprint, C: Ticks, N: Names>(
         }
         reload(shared, reloading);
         if let Some(keeper) = keeper {
-            keeper.keep(shared, is_last);
+            keep(shared, keeper, is_last);
         }
         telling.tell(shared, keeper.as_ref());
         if is_last {
             return;
         }
         thread::sleep(shared.rt, Duration::from_millis(REST));
+    }
+}
+
+/// Has the keeper of a journal take a round, and notes how far the journal is known to last.
+fn keep<R: Wait + Clock + Eprint, C, N: Names>(
+    shared: &Shared<'_, R, C, N>,
+    keeper: &mut Keeper,
+    is_last: bool,
+) {
+    let now = shared.board.time.load(Ordering::SeqCst);
+    if let Some(kept) = keeper.keep(shared.rt, shared, now, is_last) {
+        shared.board.kept.store(kept, Ordering::SeqCst);
+    }
+    if is_last {
+        keeper.tell(shared.rt, shared.alloc);
     }
 }
 

@@ -7,7 +7,6 @@ use crate::claims::Claimant;
 use crate::clock::Ticks;
 use crate::connection::Connection;
 use crate::desk::Desk;
-use crate::event::Kind;
 use crate::peers::Peers;
 use crate::post::Post;
 use crate::quiet::move_on;
@@ -15,6 +14,7 @@ use crate::threads::Shared;
 use crate::watch::{Watch, place_of};
 use mio::net::TcpStream;
 use s4_jobs::{Jobs, Seat};
+use s4_keeping::Kind;
 use s4_pool::{Names, OpenGate, Pass};
 use s4_types::NoMemory;
 use std::alloc::Global;
@@ -54,7 +54,10 @@ pub fn staff<'a, R, C, N: Names>(
 {
     let mut seats = seats;
     let mut workers = Vec::new(shared.alloc);
-    let places = shared.posts.iter().zip(shared.board.notes.iter());
+    let places = shared
+        .posts
+        .iter()
+        .zip(shared.board.notebook.workers().iter());
     let places = watches.into_iter().zip(places);
     for (pass, (watch, (post, notes))) in passes.into_iter().zip(places) {
         if let Some(seat) = seats.pop() {
