@@ -1,12 +1,9 @@
 //! What the threads of a server tell each other.
 
-use crate::attempts::Attempts;
 use crate::start::Start;
-use crate::tables::Tables;
 use crate::tally::Tally;
 use crate::threads::OTHERS;
 use s4_keeping::Notebook;
-use s4_stream::Logins;
 use s4_types::NoMemory;
 use std::alloc::Global;
 use std::sync::atomic::{AtomicBool, AtomicU64};
@@ -18,16 +15,10 @@ pub struct Board {
     pub start: Start,
     /// No more connections are accepted.
     pub accepted: AtomicBool,
-    /// The server is to end: peers are not read any more, and leave once they are told what waits.
-    pub over: AtomicBool,
     /// The time at which the sweeper began its round, in milliseconds.
     pub time: AtomicU64,
     /// The cells in which a worker is to ask, since nobody did for long: a bit each.
     pub quiet: AtomicU64,
-    /// The login tables.
-    pub tables: Tables,
-    /// The failed logins.
-    pub attempts: Attempts,
     /// What is counted.
     pub tally: Tally,
     /// What is left for the keeper of a journal.
@@ -46,23 +37,14 @@ pub struct Board {
 }
 
 impl Board {
-    /// The board of a server of so many workers that begins now, with these logins. `keeps` says
-    /// whether it keeps a journal.
-    pub fn new(
-        alloc: Global,
-        logins: Logins,
-        workers: u64,
-        now: u64,
-        keeps: bool,
-    ) -> Result<Board, NoMemory> {
+    /// The board of a server of so many workers that begins now. `keeps` says whether it keeps a
+    /// journal.
+    pub fn new(alloc: Global, workers: u64, now: u64, keeps: bool) -> Result<Board, NoMemory> {
         Ok(Board {
             start: Start::new(workers.saturating_add(OTHERS)),
             accepted: AtomicBool::new(false),
-            over: AtomicBool::new(false),
             time: AtomicU64::new(now),
             quiet: AtomicU64::new(0),
-            tables: Tables::new(alloc, logins)?,
-            attempts: Attempts::new(alloc),
             tally: Tally::new(alloc)?,
             notebook: Notebook::new(alloc, workers, keeps)?,
             kept: AtomicU64::new(if keeps { 0 } else { u64::MAX }),

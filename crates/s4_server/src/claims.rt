@@ -2,11 +2,10 @@
 
 ghost use Rattle.std.specs.Prelude.{◌≡◌, ◌-◌, ◌*◌, ◌<◌, ◌≤◌, ◌^◌, max, min};
 
-use crate::clock::Ticks;
 use crate::desk::Desk;
-use crate::post::Post;
 use crate::threads::Shared;
 use s4_pool::{Claimed, Gate, Names, Pass};
+use s4_sockets::{Post, Ticks};
 use s4_types::Moment;
 use std::sync::Wait;
 use std::sync::atomic::Ordering;

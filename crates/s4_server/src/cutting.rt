@@ -2,10 +2,9 @@
 
 ghost use Rattle.std.specs.Prelude.{◌≡◌, ◌+◌, ◌-◌, ◌*◌, ◌/◌, ◌<◌, ◌≤◌, max, min};
 
-use crate::clock::Ticks;
-use crate::post::least_claimed;
 use crate::threads::Shared;
 use s4_pool::Names;
+use s4_sockets::{Ticks, least_claimed};
 use s4_types::Moment;
 use std::sync::Wait;
 use std::sync::atomic::Ordering;

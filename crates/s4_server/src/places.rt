@@ -3,19 +3,15 @@
 ghost use Rattle.std.specs.Prelude.{◌≡◌};
 ghost use Rattle.s4_server.specs.Places.{AreOf};
 
-use crate::accepting::Door;
-use crate::clock::Ticks;
-use crate::connection::Connection;
 use crate::fault::ServerFault;
-use crate::post::Post;
 use crate::threads::{Shared, run_threads};
-use crate::watch::Watch;
 use crate::workers::{gather, staff};
 use s4_command::Settings;
 use s4_jobs::{Jobs, Seat};
 use s4_keeping::Keeper;
 use s4_logins::Reloading;
 use s4_pool::{Names, Pass};
+use s4_sockets::{Connection, Door, Post, Ticks, Watch};
 use std::alloc::Global;
 use std::net::{Net, TcpListener};
 use std::sync::Wait;
@@ -87,7 +83,14 @@ impl Places {
             outer,
         } = self;
         let mut workers = staff(shared, &jobs, seats, passes, watches)?;
-        let door = Door::new(listener, outer, shared.posts, settings.open, shared.board);
+        let door = Door::new(
+            listener,
+            outer,
+            shared.posts,
+            settings.open,
+            shared.lobby,
+            shared.board.notebook.door(),
+        );
         let serving = workers.as_mut_slice();
         run_threads(
             shared, settings, door, &jobs, seat, serving, reloading, keeper,
@@ -101,5 +104,5 @@ impl Places {
 
 /// A watch and its post.
 fn open_watch<N: Net>(net: &N, alloc: Global) -> Result<(Watch, Post), ServerFault> {
-    Watch::open(net, alloc).map_err(ServerFault::of_watch)
+    Post::with_watch(net, alloc).map_err(ServerFault::of_watch)
 }

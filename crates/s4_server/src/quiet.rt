@@ -2,10 +2,10 @@
 
 ghost use Rattle.std.specs.Prelude.{◌↔◌, ◌+◌, ◌-◌, ◌<◌, ◌/◌, max, IsTrue};
 
-use crate::clock::Ticks;
 use crate::desk::Desk;
 use crate::threads::Shared;
 use s4_pool::{Gate, MOST_CELLS, Names};
+use s4_sockets::Ticks;
 use s4_talk::Answer;
 use s4_types::{Caller, Moment, Principal, Request, WireVersion};
 use std::sync::Wait;

@@ -14,11 +14,9 @@ ghost use Rattle.s4_pool.specs.Numbers.{HasAll};
 ghost use Rattle.s4_server.specs.Setup.{CarriesOut, IsNamed};
 
 use crate::board::Board;
-use crate::clock::Ticks;
 use crate::fault::ServerFault;
 use crate::noting::note_passes;
 use crate::places::Places;
-use crate::post::Post;
 use crate::threads::Shared;
 use crate::upkeep::Upkeep;
 use s4_cells::Cell;
@@ -26,6 +24,7 @@ use s4_closing::none_went;
 use s4_command::Settings;
 use s4_keeping::Keeper;
 use s4_pool::{Blank, Closed, Front, Names, OpenGate, Pass, Why};
+use s4_sockets::{Lobby, Post, Ticks};
 use s4_stream::Logins;
 use s4_types::{Caller, Moment, NoMemory, Reply, Request};
 use std::alloc::Global;
@@ -153,7 +152,8 @@ impl<N: Names + Send + Sync> Server<N> {
             places,
         } = self;
         let now = clock.moment().tick();
-        let board = Board::new(alloc, logins, settings.workers, now, keeper.is_some())?;
+        let lobby = Lobby::new(rt, alloc, logins, settings.patience)?;
+        let board = Board::new(alloc, settings.workers, now, keeper.is_some())?;
         note_passes(rt, &board.notebook, &passes)?;
         let shared = Shared {
             rt,
@@ -163,13 +163,12 @@ impl<N: Names + Send + Sync> Server<N> {
             clock,
             upkeep,
             board: &board,
+            lobby: &lobby,
             port: port_of(listener),
             posts: posts.as_slice(),
-            patience: settings.patience,
             cuts: settings.cuts,
         };
-        let table = board.tables.newest(rt)?.logins;
-        let reloading = upkeep.reloading(alloc, table, now);
+        let reloading = upkeep.reloading(alloc, lobby.logins()?, now);
         let passes = places.serve(&shared, &settings, listener, passes, reloading, keeper)?;
         align(rt, &front, &board)?;
         let closed = match front.close(alloc, passes) {

@@ -1,13 +1,10 @@
 //! What a server tells of itself (docs/OPERATIONS.md, "Status").
 
-use crate::attempts::FailedLogins;
-use crate::clock::Ticks;
-use crate::peers::States;
-use crate::post::Post;
 use crate::tally::{KINDS, Tally};
 use crate::threads::Shared;
 use s4_keeping::{FileKept, Keeper, Kept};
 use s4_pool::{Measure, Names};
+use s4_sockets::{FailedLogins, Lobby, Post, States, Ticks};
 use s4_types::NoMemory;
 use serde::Serialize;
 use std::alloc::Global;
@@ -165,10 +162,10 @@ impl Refusals {
 
 impl Connections {
     /// Those that the workers were given.
-    fn of(posts: &[Post], tally: &Tally) -> Connections {
+    fn of<R>(posts: &[Post], lobby: &Lobby<'_, R>) -> Connections {
         let mut all = Connections {
             accepted: 0,
-            turned_away: tally.turned_away(),
+            turned_away: lobby.turned_away(),
             open: 0,
             greeting: 0,
             welcomed: 0,
@@ -201,8 +198,8 @@ impl Status {
             moment: shared.clock.moment().tick(),
             port: shared.port,
             resident_bytes,
-            connections: Connections::of(shared.posts, &shared.board.tally),
-            failed_logins: shared.board.attempts.told(shared.rt, shared.alloc)?,
+            connections: Connections::of(shared.posts, shared.lobby),
+            failed_logins: shared.lobby.failed_logins(shared.alloc)?,
             records: 0,
             values: 0,
             cells: Vec::new(shared.alloc),

@@ -2,9 +2,9 @@
 
 ghost use Rattle.std.specs.Prelude.{◌≡◌};
 
-use crate::clock::Ticks;
 use crate::threads::Shared;
 use s4_pool::Names;
+use s4_sockets::Ticks;
 use std::sync::Wait;
 
 /// How many values of a cell are freed at a time, while its lock is held.

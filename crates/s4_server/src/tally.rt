@@ -10,8 +10,6 @@ pub const KINDS: usize = 17;
 /// What the threads of a server count together.
 #[derive(Drop)]
 pub struct Tally {
-    /// The connections that were closed at once, since as many as may be were open.
-    turned_away: AtomicU64,
     /// The replies, by the number of their refusal.
     replies: Vec<AtomicU64>,
 }
@@ -23,15 +21,7 @@ impl Tally {
         for _ in 0..KINDS {
             replies.push(AtomicU64::new(0))?;
         }
-        Ok(Tally {
-            turned_away: AtomicU64::new(0),
-            replies,
-        })
-    }
-
-    /// Counts a connection that is closed at once.
-    pub fn turn_away(&self) {
-        self.turned_away.fetch_add(1, Ordering::SeqCst);
+        Ok(Tally { replies })
     }
 
     /// Counts a reply.
@@ -39,11 +29,6 @@ impl Tally {
         if let Some(count) = self.replies.get(usize::from(reply.number())) {
             count.fetch_add(1, Ordering::SeqCst);
         }
-    }
-
-    /// How many connections were closed at once.
-    pub fn turned_away(&self) -> u64 {
-        self.turned_away.load(Ordering::SeqCst)
     }
 
     /// How many replies there were with this number of a refusal.

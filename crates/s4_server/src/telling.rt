@@ -2,12 +2,12 @@
 
 ghost use Rattle.std.specs.Prelude.{◌≡◌, ◌++◌, IfOk, codes, string_bytes};
 
-use crate::clock::Ticks;
 use crate::status::Status;
 use crate::threads::Shared;
 use crate::upkeep::Upkeep;
 use s4_keeping::Keeper;
 use s4_pool::Names;
+use s4_sockets::Ticks;
 use std::alloc::{AllocError, Global};
 use std::sync::Wait;
 use std::sync::atomic::Ordering;

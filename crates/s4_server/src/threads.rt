@@ -2,22 +2,19 @@
 
 ghost use Rattle.std.specs.Prelude.{◌≡◌};
 
-use crate::accepting::{Door, accept_all};
 use crate::board::Board;
-use crate::clock::Ticks;
-use crate::connection::Connection;
 use crate::cutting::Cutter;
-use crate::post::{Post, wake_all};
 use crate::quiet::find_quiet;
 use crate::sweeping::{SWEEPING, sweep_round};
 use crate::telling::Telling;
 use crate::upkeep::Upkeep;
 use crate::workers::Worker;
-use s4_command::{Patience, Settings};
+use s4_command::Settings;
 use s4_jobs::{Jobs, Seat};
 use s4_keeping::{Keeper, Notebook, Source, Stretch};
 use s4_logins::Reloading;
 use s4_pool::{Front, Names, OpenGate};
+use s4_sockets::{Connection, Door, Lobby, Post, Ticks, accept_all, wake_all};
 use s4_types::NoMemory;
 use std::alloc::Global;
 use std::sync::Wait;
@@ -40,11 +37,12 @@ pub struct Shared<'a, R, C, N: Names> {
     pub clock: &'a C,
     pub upkeep: &'a Upkeep<'a>,
     pub board: &'a Board,
+    /// What connections go by.
+    pub lobby: &'a Lobby<'a, R>,
     /// The port at which the server listens; 0 where that can't be told.
     pub port: u16,
     /// Where connections are left for the workers.
     pub posts: &'a [Post],
-    pub patience: Patience,
     /// Whether records that no reply needs any more are cut.
     pub cuts: bool,
     pub ghost same: { cells ≡ front.now.cells },
@@ -79,7 +77,7 @@ pub const OTHERS: u64 = 3;
 pub fn run_threads<R: Threads + Wait + Clock + Eprint + Sync, C: Ticks, N: Names + Send + Sync>(
     shared: &Shared<'_, R, C, N>,
     settings: &Settings,
-    door: Door<'_>,
+    door: Door<'_, R>,
     jobs: &Jobs<Connection>,
     seat: Seat<Connection>,
     workers: &mut [Worker<'_, R, C, N>],
@@ -117,7 +115,7 @@ fn look_after<R: Threads + Wait + Clock + Eprint + Sync, C: Ticks, N: Names + Se
 fn serve_to_the_end<R: Threads + Wait + Clock + Eprint + Sync, C: Ticks, N: Names + Send + Sync>(
     shared: &Shared<'_, R, C, N>,
     settings: &Settings,
-    mut door: Door<'_>,
+    mut door: Door<'_, R>,
     jobs: &Jobs<Connection>,
     mut seat: Seat<Connection>,
     workers: &mut [Worker<'_, R, C, N>],
@@ -139,7 +137,7 @@ fn serve_to_the_end<R: Threads + Wait + Clock + Eprint + Sync, C: Ticks, N: Name
 fn accept_to_the_end<R: Wait + Clock, C: Ticks, N: Names>(
     shared: &Shared<'_, R, C, N>,
     settings: &Settings,
-    door: &mut Door<'_>,
+    door: &mut Door<'_, R>,
     jobs: &Jobs<Connection>,
     seat: &mut Seat<Connection>,
 )
@@ -228,7 +226,7 @@ fn keep_to_the_end<R: Wait + Clock + Eprint, C: Ticks, N: Names>(
     for _ in shared.rt.forever() {
         let is_last = ended.load(Ordering::SeqCst);
         if shared.upkeep.is_over() {
-            shared.board.over.store(true, Ordering::SeqCst);
+            shared.lobby.end();
         }
         reload(shared, reloading);
         if let Some(keeper) = keeper {
@@ -265,7 +263,7 @@ fn reload<R: Wait + Eprint, C, N: Names>(
     let now = shared.board.time.load(Ordering::SeqCst);
     if reloading.is_due(now) {
         match reloading.read() {
-            Ok(table) => shared.board.tables.replace(shared.rt, table),
+            Ok(table) => shared.lobby.replace(table),
             Err(fault) => {
                 // Where this can't be written, nobody is told.
                 let _ = eprintln!(shared.rt; "s4d: {fault}");

@@ -4,18 +4,12 @@ ghost use Rattle.std.specs.Prelude.{◌≡◌};
 ghost use Rattle.s4_server.specs.Places.{AreOf};
 
 use crate::claims::Claimant;
-use crate::clock::Ticks;
-use crate::connection::Connection;
 use crate::desk::Desk;
-use crate::peers::Peers;
-use crate::post::Post;
 use crate::quiet::move_on;
 use crate::threads::Shared;
-use crate::watch::{Watch, place_of};
-use mio::net::TcpStream;
 use s4_jobs::{Jobs, Seat};
-use s4_keeping::Kind;
 use s4_pool::{Names, OpenGate, Pass};
+use s4_sockets::{Connection, Peers, Post, Ticks, Watch};
 use s4_types::NoMemory;
 use std::alloc::Global;
 use std::sync::Wait;
@@ -131,17 +125,8 @@ impl<R: Wait + Clock, C: Ticks, N: Names> Worker<'_, R, C, N> {
             } = &mut *self;
             if let Some(connection) = jobs.take(shared.rt, seat) {
                 *taken = taken.wrapping_add(1);
-                let entrant = connection.entrant();
-                let stream = TcpStream::from_std(connection.stream);
                 let now = shared.board.time.load(Ordering::SeqCst);
-                let table = shared.board.tables.newest(shared.rt);
-                desk.tell(&entrant, Kind::Opened);
-                if table.is_err()
-                    || table.is_ok_and(|table| peers
-                        .add(watch, entrant, stream, table, now)
-                        .is_err())
-                {
-                    desk.tell(&entrant, Kind::NoMemory);
+                if !peers.admit(shared.lobby, desk, watch, connection, now) {
                     post.end(1);
                 }
             }
@@ -173,13 +158,8 @@ impl<R: Wait + Clock, C: Ticks, N: Names> Worker<'_, R, C, N> {
         let events = watch.wait(patience);
         let now = shared.board.time.load(Ordering::SeqCst);
         let calls = desk.pass.receipts().len();
-        for event in events.iter() {
-            if let Some(place) = place_of(event.token()) {
-                peers.give_turn(shared, desk, now, place, event.is_read_closed());
-            }
-        }
-        peers.give_eager_turns(shared, desk, now);
-        if peers.look(shared, desk, now) {
+        peers.serve(shared.lobby, desk, events, now);
+        if peers.look(shared.lobby, desk, now) {
             post.show(&peers.states());
             move_on(shared, desk);
         }
@@ -187,7 +167,7 @@ impl<R: Wait + Clock, C: Ticks, N: Names> Worker<'_, R, C, N> {
             let made = desk.pass.receipts().len().saturating_sub(calls);
             claimant.look(shared, post, desk, made);
         }
-        if shared.board.over.load(Ordering::SeqCst) {
+        if shared.lobby.is_over() {
             peers.end(desk, now);
         }
         let ended = before.saturating_sub(peers.len());

@@ -12,7 +12,7 @@ use std::io::{ErrorKind, Read, Write};
 /// than it could have: then nothing more is there, and what comes later is told as an event of its
 /// own. A gauge that is shut reads nothing.
 #[derive(Drop)]
-pub struct Gauge<R> {
+pub(crate) struct Gauge<R> {
     stream: R,
     shut: bool,
     opening: Opening,
@@ -21,7 +21,7 @@ pub struct Gauge<R> {
 
 impl<R: Read> Gauge<R> {
     /// Reads this stream, of which that much was heard, unless it is shut.
-    pub fn new(stream: R, shut: bool, opening: Opening) -> Gauge<R>
+    pub(crate) fn new(stream: R, shut: bool, opening: Opening) -> Gauge<R>
         ensures { result.shut ≡ shut }
     {
         Gauge {
@@ -33,14 +33,14 @@ impl<R: Read> Gauge<R> {
     }
 
     /// How the connection begins, as far as it was heard.
-    pub fn opening(&self) -> Opening
+    pub(crate) fn opening(&self) -> Opening
         ensures { result ≡ self.now.opening }
     {
         self.opening
     }
 
     /// Whether the last read gave fewer bytes than it could have.
-    pub fn is_short(&self) -> bool
+    pub(crate) fn is_short(&self) -> bool
         ensures { result ≡ self.now.short }
     {
         self.short
@@ -70,7 +70,7 @@ impl<R: Read> Read for Gauge<R> {
 
 /// Writes to a stream, and notes whether that took bytes. A closed tap has nothing taken now.
 #[derive(Drop)]
-pub struct Tap<W> {
+pub(crate) struct Tap<W> {
     stream: W,
     closed: bool,
     taken: bool,
@@ -78,7 +78,7 @@ pub struct Tap<W> {
 
 impl<W: Write> Tap<W> {
     /// Writes to this stream, unless it is closed.
-    pub fn new(stream: W, closed: bool) -> Tap<W>
+    pub(crate) fn new(stream: W, closed: bool) -> Tap<W>
         ensures { result.closed ≡ closed }
     {
         Tap {
@@ -89,7 +89,7 @@ impl<W: Write> Tap<W> {
     }
 
     /// Whether the stream took bytes.
-    pub fn has_given(&self) -> bool
+    pub(crate) fn has_given(&self) -> bool
         ensures { result ≡ self.now.taken }
     {
         self.taken

@@ -3,21 +3,17 @@
 ghost use Rattle.std.specs.Prelude.{◌≡◌, false, IsTrue};
 ghost use Rattle.std_alloc.specs.Arc.{arc_value};
 ghost use Rattle.s4_talk.specs.Turning.{Turns, TurnsSo, fresh_talk, scene};
-ghost use Rattle.s4_server.specs.Desks.{calls_told};
 
-use crate::clock::Ticks;
-use crate::desk::Desk;
 use crate::tables::Table;
-use s4_pool::{Names, OpenGate};
 use s4_stream::{Logins, SessionFault};
-use s4_talk::{Talking, TurnEnd};
+use s4_talk::{Answer, Talking, TurnEnd};
 use std::alloc::Global;
 use std::io::{Read, Write};
-use std::sync::{Arc, Wait};
+use std::sync::Arc;
 
 /// A talk with a peer, and the login table that it goes by from its begin to its end.
 #[derive(Drop)]
-pub struct Conversation {
+pub(crate) struct Conversation {
     alloc: Global,
     talking: Talking,
     logins: Arc<Logins>,
@@ -27,7 +23,7 @@ pub struct Conversation {
 
 impl Conversation {
     /// A conversation in which nothing was said. Takes no memory.
-    pub fn open(alloc: Global, table: Table) -> Conversation
+    pub(crate) fn open(alloc: Global, table: Table) -> Conversation
         ensures talk { result.talking ≡ fresh_talk }
         ensures table { result.logins ≡ table.logins }
     {
@@ -40,19 +36,19 @@ impl Conversation {
         }
     }
 
-    /// Takes a turn, and answers the peer's requests at this desk.
-    pub fn turn<R: Wait, C: Ticks, I: Read, O: Write, N: Names>(
+    /// Takes a turn, in which the peer's requests are answered so.
+    pub(crate) fn turn<A: Answer, I: Read, O: Write>(
         &mut self,
-        desk: &mut Desk<'_, R, C, OpenGate, N>,
+        answer: &mut A,
         reader: &mut I,
         writer: &mut O,
     ) -> TurnEnd
-        // The pass gains the calls that the frames which were served ask for, each once and in order.
+        // The answer gains the calls that the frames which were served ask for, each once and in order.
         ensures turns { Turns (arc_value self.old.logins)
             (scene (I.remaining reader.old) (O.contents writer.old)
-            (calls_told desk.old.pass.calls) self.old.talking)
+            (A.calls answer.old) self.old.talking)
             (scene (I.remaining reader.new) (O.contents writer.new)
-            (calls_told desk.new.pass.calls) self.new.talking) }
+            (A.calls answer.new) self.new.talking) }
         ensures so { TurnsSo result (arc_value self.old.logins) (I.remaining reader.new)
             self.new.talking }
         ensures table { self.new.logins ≡ self.old.logins }
@@ -62,38 +58,38 @@ impl Conversation {
             logins,
             ..
         } = self;
-        talking.turn(&**logins, reader, writer, desk)
+        talking.turn(&**logins, reader, writer, answer)
     }
 
     /// How many bytes wait to be written.
-    pub fn waiting(&self) -> usize {
+    pub(crate) fn waiting(&self) -> usize {
         self.talking.waiting()
     }
 
     /// Whether the peer was neither welcomed nor told a fault.
-    pub fn is_greeting(&self) -> bool {
+    pub(crate) fn is_greeting(&self) -> bool {
         self.talking.caller().is_none() && self.talking.fault().is_none()
     }
 
     /// Whether the peer was welcomed, and no fault ended that.
-    pub fn is_welcomed(&self) -> bool {
+    pub(crate) fn is_welcomed(&self) -> bool {
         self.talking.caller().is_some()
     }
 
     /// The fault that ended the talk.
-    pub fn fault(&self) -> Option<SessionFault> {
+    pub(crate) fn fault(&self) -> Option<SessionFault> {
         self.talking.fault()
     }
 
     /// Whether it has met the table of this edition.
-    pub fn has_met(&self, edition: u64) -> bool {
+    pub(crate) fn has_met(&self, edition: u64) -> bool {
         self.edition == edition
     }
 
     /// Meets a newer table. Tells whether the peer may stay: where they were welcomed their secret
     /// has to be the same there. `is_fresh` says that nothing was heard of the peer: then it begins
     /// anew, with the newer table. One in the middle of a Hello may not stay.
-    pub fn meets(&mut self, newer: Table, is_fresh: bool) -> bool
+    pub(crate) fn meets(&mut self, newer: Table, is_fresh: bool) -> bool
         // A talk in which something was heard keeps its table.
         ensures anew { IsTrue is_fresh → self.new.talking ≡ fresh_talk }
         ensures one_table { is_fresh ≡ false → self.new.logins ≡ self.old.logins }

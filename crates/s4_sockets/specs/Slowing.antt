@@ -1,6 +1,6 @@
 -- How long the answer to a failed login waits.
 use Rattle.std.specs.Prelude.{◌≡◌, ℕ, ◌+◌, ◌-◌, ◌^◌, min, ◌&&◌, nat_lt, if◌then◌else◌}
-use Rattle.s4_server.specs.declared.attempts.Failures.{Failures}
+use Rattle.s4_sockets.specs.declared.attempts.Failures.{Failures}
 
 -- For a login that fails now, in milliseconds: a second, where the one before the last failed within the last minute.
 abbrev pub delay_of : Failures → ℕ → ℕ

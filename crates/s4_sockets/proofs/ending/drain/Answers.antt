@@ -1,6 +1,6 @@
 use Rattle.std.proofs.Common.{rules, ℕ, ◌+◌, ◌*◌, ◌-◌, ◌<◌, ◌≤◌, arith}
-use Rattle.s4_server.proofs.Drained.{Drains_both, Drains_within}
-use Rattle.s4_server.proofs.ending.drain.Goals as goal
+use Rattle.s4_sockets.proofs.Drained.{Drains_both, Drains_within}
+use Rattle.s4_sockets.proofs.ending.drain.Goals as goal
 
 -- one read more, of as many as there are
 one_more : (done reads : ℕ) → done < reads → 1024 * done + 1024 ≤ 1024 * (reads - 0)

@@ -2,8 +2,8 @@ use Rattle.std.proofs.Common.{rules, ◌≡◌, ◌++◌, ℕ, ◌+◌, ◌<◌,
 use Rattle.std.proofs.lemmas.List.{append-nil}
 use Rattle.std.proofs.lemmas.Bool.Decides.{nat_tests}
 use Rattle.s4_jobs.specs.Seats.{Seat}
-use Rattle.s4_server.specs.Places.{numbers_to}
-use Rattle.s4_server.proofs.accepting.accept_all.Goals as goal
+use Rattle.s4_sockets.specs.Accepted.{numbers_to}
+use Rattle.s4_sockets.proofs.accepting.accept_all.Goals as goal
 
 numbers_next : (n : ℕ) → numbers_to (n + 1) ≡ numbers_to n ++ ((n + 1) ∷ [])
 numbers_next n = rw add-one refl

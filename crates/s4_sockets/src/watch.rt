@@ -1,9 +1,8 @@
 //! What a worker waits for.
 
-use crate::post::Post;
 use mio::net::TcpStream;
 use mio::unix::SourceFd;
-use mio::{Events, Interest, Poll, Token};
+use mio::{Events, Interest, Poll, Token, Waker};
 use std::alloc::Global;
 use std::io;
 use std::net::{Net, TcpListener};
@@ -11,7 +10,7 @@ use std::os::fd::AsRawFd;
 use std::time::Duration;
 
 /// What stands for the worker's post. A peer is known by its place and one more.
-pub const WAKE: Token = Token(0);
+const WAKE: Token = Token(0);
 
 /// How much is told at a time at most.
 const EVENTS: usize = 256;
@@ -24,22 +23,22 @@ pub struct Watch {
 }
 
 impl Watch {
-    /// A watch over a new post.
-    pub fn open<N: Net>(net: &N, alloc: Global) -> io::Result<(Watch, Post)> {
+    /// A watch over nothing yet, and what ends its waits.
+    pub(crate) fn open<N: Net>(net: &N, alloc: Global) -> io::Result<(Watch, Waker)> {
         let poll = Poll::new(net)?;
         let events = Events::with_capacity(alloc, EVENTS)?;
-        let post = Post::new(poll.registry())?;
-        Ok((Watch { poll, events }, post))
+        let waker = Waker::new(poll.registry(), WAKE)?;
+        Ok((Watch { poll, events }, waker))
     }
 
     /// Watches the stream of the peer of this place too.
-    pub fn add(&self, stream: &mut TcpStream, place: usize) -> io::Result<()> {
+    pub(crate) fn add(&self, stream: &mut TcpStream, place: usize) -> io::Result<()> {
         let both = Interest::READABLE | Interest::WRITABLE;
         self.poll.registry().register(stream, token_of(place), both)
     }
 
     /// Watches a listener too, which from now on has nobody wait for a connection.
-    pub fn add_listener(&self, listener: &TcpListener) -> io::Result<()> {
+    pub(crate) fn add_listener(&self, listener: &TcpListener) -> io::Result<()> {
         listener.set_nonblocking(true)?;
         let descriptor = listener.as_raw_fd();
         let mut source = SourceFd(&descriptor);
@@ -64,6 +63,6 @@ fn token_of(place: usize) -> Token {
 }
 
 /// The place of the peer that this stands for; none where it stands for the post.
-pub fn place_of(token: Token) -> Option<usize> {
+pub(crate) fn place_of(token: Token) -> Option<usize> {
     token.0.checked_sub(1)
 }

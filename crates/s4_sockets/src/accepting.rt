@@ -2,19 +2,18 @@
 
 ghost use Rattle.std.specs.Prelude.{◌≡◌, ◌<◌, ◌++◌, IsTrue};
 ghost use Rattle.s4_jobs.specs.Seats.{having_put};
-ghost use Rattle.s4_server.specs.Places.{PutsSome, numbers_to};
+ghost use Rattle.s4_sockets.specs.Accepted.{PutsSome, numbers_to};
 
-use crate::board::Board;
 use crate::clock::Ticks;
 use crate::connection::{Connection, number_after};
+use crate::lobby::Lobby;
 use crate::post::{Post, least, open};
 use crate::watch::Watch;
 use s4_jobs::{Jobs, Seat};
-use s4_keeping::{Entrant, Event, Kind};
+use s4_keeping::{Entrant, Event, Kind, Notes};
 use std::io::ErrorKind;
 use std::net::{SocketAddr, TcpListener, TcpStream};
 use std::sync::Wait;
-use std::sync::atomic::Ordering;
 use std::time::{Clock, Duration};
 use std::{io, thread};
 
@@ -27,24 +26,27 @@ const LOOK: u64 = 100;
 
 /// Where connections come in: a listener that is watched, and which connections are let in.
 #[derive(Drop)]
-pub struct Door<'a> {
+pub struct Door<'a, R> {
     listener: &'a TcpListener,
     watch: Watch,
     posts: &'a [Post],
     /// How many may be open; a further one is closed at once.
     most: u32,
-    board: &'a Board,
+    lobby: &'a Lobby<'a, R>,
+    /// Where word is left of a connection that is closed at once.
+    notes: &'a Notes,
 }
 
-impl<'a> Door<'a> {
+impl<'a, R> Door<'a, R> {
     /// A door at this listener.
     pub fn new(
         listener: &'a TcpListener,
         watch: Watch,
         posts: &'a [Post],
         most: u32,
-        board: &'a Board,
-    ) -> Door<'a> {
+        lobby: &'a Lobby<'a, R>,
+        notes: &'a Notes,
+    ) -> Door<'a, R> {
         // Where this fails each connection may wait for some tenths of a second.
         let _ = watch.add_listener(listener);
         Door {
@@ -52,19 +54,18 @@ impl<'a> Door<'a> {
             watch,
             posts,
             most,
-            board,
+            lobby,
+            notes,
         }
     }
+}
 
+impl<R: Wait + Clock> Door<'_, R> {
     /// Accepts a connection, and tries again where that fails or where there are too many; none
     /// once the server is to end.
-    fn accept<R: Wait + Clock, C: Ticks>(
-        &mut self,
-        rt: &R,
-        clock: &C,
-    ) -> Option<(TcpStream, SocketAddr)> {
+    fn accept<C: Ticks>(&mut self, rt: &R, clock: &C) -> Option<(TcpStream, SocketAddr)> {
         for _ in rt.forever() {
-            if self.board.over.load(Ordering::SeqCst) {
+            if self.lobby.is_over() {
                 return None;
             }
             match self.listener.accept() {
@@ -80,7 +81,7 @@ impl<'a> Door<'a> {
     }
 
     /// Whether the connection is let in.
-    fn lets_in<R: Wait, C: Ticks>(
+    fn lets_in<C: Ticks>(
         &self,
         rt: &R,
         clock: &C,
@@ -91,24 +92,24 @@ impl<'a> Door<'a> {
         let _ = stream.set_nodelay(true);
         let has_place = open(self.posts) < u64::from(self.most);
         if !has_place {
-            self.board.tally.turn_away();
+            self.lobby.turn_away();
             self.tell_turned_away(rt, clock, address);
         }
         stream.set_nonblocking(true).is_ok() && has_place
     }
 
     /// Leaves word of a connection that is closed at once.
-    fn tell_turned_away<R: Wait, C: Ticks>(&self, rt: &R, clock: &C, address: SocketAddr) {
+    fn tell_turned_away<C: Ticks>(&self, rt: &R, clock: &C, address: SocketAddr) {
         let entrant = Entrant {
             connection: 0,
             address: Some(address),
         };
         let event = Event::new(&entrant, clock.moment().tick(), Kind::TurnedAway);
-        self.board.notebook.door().tell(rt, event);
+        self.notes.tell(rt, event);
     }
 
     /// Waits for a connection where there is none now, and else for a while.
-    fn rest<R: Wait + Clock>(&mut self, rt: &R, error: &io::Error) {
+    fn rest(&mut self, rt: &R, error: &io::Error) {
         match error.kind() {
             ErrorKind::WouldBlock => {
                 self.watch.wait(Some(Duration::from_millis(LOOK)));
@@ -124,7 +125,7 @@ impl<'a> Door<'a> {
 pub fn accept_all<R: Wait + Clock, C: Ticks>(
     rt: &R,
     clock: &C,
-    door: &mut Door<'_>,
+    door: &mut Door<'_, R>,
     jobs: &Jobs<Connection>,
     seat: &mut Seat<Connection>,
     connections: u32,

@@ -1,9 +1,11 @@
 //! Where connections are left for a worker.
 
-use crate::peers::States;
-use crate::watch::WAKE;
-use mio::{Registry, Waker};
+use crate::states::States;
+use crate::watch::Watch;
+use mio::Waker;
+use std::alloc::Global;
 use std::io;
+use std::net::Net;
 use std::sync::atomic::{AtomicBool, AtomicU64, Ordering};
 
 /// A worker's post: where it is woken, and how many connections it was given and has ended.
@@ -20,10 +22,11 @@ pub struct Post {
 }
 
 impl Post {
-    /// The post of a worker that waits at this registry.
-    pub fn new(registry: &Registry) -> io::Result<Post> {
-        Ok(Post {
-            waker: Waker::new(registry, WAKE)?,
+    /// A watch over nothing yet, and the post of the worker that waits there.
+    pub fn with_watch<N: Net>(net: &N, alloc: Global) -> io::Result<(Watch, Post)> {
+        let (watch, waker) = Watch::open(net, alloc)?;
+        let post = Post {
+            waker,
             begun: AtomicBool::new(false),
             given: AtomicU64::new(0),
             ended: AtomicU64::new(0),
@@ -31,7 +34,8 @@ impl Post {
             welcomed: AtomicU64::new(0),
             leaving: AtomicU64::new(0),
             claimed: AtomicU64::new(0),
-        })
+        };
+        Ok((watch, post))
     }
 
     /// The worker is at its post.
@@ -40,7 +44,7 @@ impl Post {
     }
 
     /// Whether the worker is at its post.
-    pub fn has_begun(&self) -> bool {
+    pub(crate) fn has_begun(&self) -> bool {
         self.begun.load(Ordering::SeqCst)
     }
 
@@ -55,7 +59,7 @@ impl Post {
     }
 
     /// Gives the worker one connection more, and wakes it.
-    pub fn give(&self) {
+    pub(crate) fn give(&self) {
         self.given.fetch_add(1, Ordering::SeqCst);
         self.wake();
     }
@@ -87,14 +91,14 @@ impl Post {
     }
 
     /// Ends the worker's wait, or its next one.
-    pub fn wake(&self) {
+    pub(crate) fn wake(&self) {
         // This fails only where the worker's counter of wakes is full, and then it is woken.
         let _ = self.waker.wake();
     }
 }
 
 /// The post with the fewest open connections, of those whose workers are there.
-pub fn least(posts: &[Post]) -> Option<&Post> {
+pub(crate) fn least(posts: &[Post]) -> Option<&Post> {
     posts
         .iter()
         .filter(|post| post.has_begun())
@@ -102,7 +106,7 @@ pub fn least(posts: &[Post]) -> Option<&Post> {
 }
 
 /// How many connections are open.
-pub fn open(posts: &[Post]) -> u64 {
+pub(crate) fn open(posts: &[Post]) -> u64 {
     posts
         .iter()
         .fold(0u64, |sum, post| sum.saturating_add(post.open()))

@@ -2,7 +2,7 @@
 use Rattle.std.proofs.Common.{ℕ, ◌+◌, ◌≤◌, Option, Some, None, List, [], ◌++◌, take, length, refl, sym, ap, ◌∙◌, arith, append_assoc, length-append}
 use Rattle.std.proofs.lemmas.List.{length-take}
 use Rattle.std.specs.Io.KnownBytes.{Consumes, Keeps}
-use Rattle.s4_server.specs.Drains.{Drains}
+use Rattle.s4_sockets.specs.Drains.{Drains}
 
 consumes_none : (a : Option (List ℕ)) → Consumes a a []
 consumes_none None = tt

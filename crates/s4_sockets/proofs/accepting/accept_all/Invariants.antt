@@ -1,6 +1,6 @@
 use Rattle.std.proofs.Common.{◌≡◌, ◌<◌, ◌++◌}
-use Rattle.s4_server.specs.Places.{numbers_to}
-use Rattle.s4_server.proofs.accepting.accept_all.Given as goal
+use Rattle.s4_sockets.specs.Accepted.{numbers_to}
+use Rattle.s4_sockets.proofs.accepting.accept_all.Given as goal
 
 abbrev pub invariant-loop : goal.invariant-loop
 invariant-loop g l =

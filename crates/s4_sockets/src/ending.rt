@@ -1,7 +1,7 @@
 //! How it is listened to a peer that is told no more.
 
 ghost use Rattle.std.specs.Prelude.{◌≡◌, ◌≤◌, ◌*◌, ◌-◌, nat_lt};
-ghost use Rattle.s4_server.specs.Drains.{Drains};
+ghost use Rattle.s4_sockets.specs.Drains.{Drains};
 
 use std::io::{ErrorKind, Read};
 
@@ -13,19 +13,19 @@ const PIECE: usize = 1024;
 
 /// A peer that was told a fault: how often what it still says is read at most.
 #[derive(Drop)]
-pub struct Leaving {
-    pub reads: u32,
+pub(crate) struct Leaving {
+    pub(crate) reads: u32,
     ghost few: { reads ≤ 64 },
 }
 
 impl Leaving {
     /// A peer that was just told a fault.
-    pub fn new() -> Leaving {
+    pub(crate) fn new() -> Leaving {
         Leaving { reads: READS }
     }
 
     /// Reads what the peer says now, and forgets it. Tells whether more may come that is read.
-    pub fn hear<R: Read>(&mut self, reader: &mut R) -> bool
+    pub(crate) fn hear<R: Read>(&mut self, reader: &mut R) -> bool
         ensures more { result ≡ nat_lt 0 self.new.reads }
         ensures fewer { self.new.reads ≤ self.old.reads }
         ensures drained { Drains (1024 * (self.old.reads - self.new.reads))
@@ -38,7 +38,7 @@ impl Leaving {
 
 /// What a read came to that nobody looks at.
 #[derive(Clone, Copy, Debug, PartialEq, Eq)]
-pub enum Drained {
+pub(crate) enum Drained {
     /// There may be more.
     Some,
     /// Nothing is there to read now.
@@ -66,7 +66,7 @@ fn drain<R: Read>(reader: &mut R, reads: u32) -> u32
 
 /// Reads once, and forgets what it read.
 #[tactic(auto, using(crate::proofs::Drained::Drains_kept, crate::proofs::Drained::Drains_taken))]
-pub fn drain_some<R: Read>(reader: &mut R) -> Drained
+pub(crate) fn drain_some<R: Read>(reader: &mut R) -> Drained
     ensures drained { Drains 1024 (R.remaining reader.old) (R.remaining reader.new) }
     ensures waits { result ≡ Drained.Waits
         → Drains 0 (R.remaining reader.old) (R.remaining reader.new) }

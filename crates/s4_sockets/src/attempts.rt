@@ -1,7 +1,7 @@
 //! Failed logins, which are slowed.
 
 ghost use Rattle.std.specs.Prelude.{◌≡◌};
-ghost use Rattle.s4_server.specs.Slowing.{IsNext, delay_of};
+ghost use Rattle.s4_sockets.specs.Slowing.{IsNext, delay_of};
 
 use s4_types::NoMemory;
 use serde::Serialize;
@@ -21,7 +21,7 @@ const SPAN: u64 = 60000;
 
 /// The failed logins of a principal: their count, and when the last two came, in milliseconds.
 #[derive(Clone, Copy, Debug, PartialEq, Eq)]
-pub struct Failures {
+pub(crate) struct Failures {
     pub count: u64,
     pub last: u64,
     pub before: u64,
@@ -38,7 +38,7 @@ impl Failures {
     /// Counts a failed login that comes now. Tells for how many milliseconds its answer waits: none
     /// for the first two, and a second where the failure before the last one was within the last
     /// minute.
-    pub fn add(&mut self, now: u64) -> u64
+    pub(crate) fn add(&mut self, now: u64) -> u64
         ensures delay { result ≡ delay_of self.old now }
         ensures next { IsNext self.old now self.new }
     {
@@ -52,7 +52,7 @@ impl Failures {
 
 /// The failed logins of all principals.
 #[derive(Drop)]
-pub struct Attempts {
+pub(crate) struct Attempts {
     counts: Mutex<Counts>,
 }
 
@@ -77,7 +77,7 @@ impl Counts {
 
 impl Attempts {
     /// No failed logins. Takes no memory.
-    pub fn new(alloc: Global) -> Attempts {
+    pub(crate) fn new(alloc: Global) -> Attempts {
         Attempts {
             counts: Mutex::new(Counts {
                 each: BTreeMap::new(alloc),
@@ -88,12 +88,12 @@ impl Attempts {
 
     /// Counts a failed login of this principal that comes now, in milliseconds. Tells for how many
     /// milliseconds its answer waits.
-    pub fn failed<R: Wait>(&self, rt: &R, who: u32, now: u64) -> u64 {
+    pub(crate) fn failed<R: Wait>(&self, rt: &R, who: u32, now: u64) -> u64 {
         self.counts.lock(rt).of(who).add(now)
     }
 
     /// How many there were.
-    pub fn told<R: Wait>(&self, rt: &R, alloc: Global) -> Result<FailedLogins, NoMemory> {
+    pub(crate) fn told<R: Wait>(&self, rt: &R, alloc: Global) -> Result<FailedLogins, NoMemory> {
         let counts = self.counts.lock(rt);
         let mut told = FailedLogins {
             all: counts.others.count,

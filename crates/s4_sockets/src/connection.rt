@@ -9,14 +9,14 @@ use std::net::{SocketAddr, TcpStream};
 /// A connection that was accepted, with its number and its peer's address.
 #[derive(Drop)]
 pub struct Connection {
-    pub number: u64,
-    pub address: SocketAddr,
-    pub stream: TcpStream,
+    pub(crate) number: u64,
+    pub(crate) address: SocketAddr,
+    pub(crate) stream: TcpStream,
 }
 
 impl Connection {
     /// Who is at its other end.
-    pub fn entrant(&self) -> Entrant {
+    pub(crate) fn entrant(&self) -> Entrant {
         Entrant {
             connection: self.number,
             address: Some(self.address),
@@ -33,7 +33,7 @@ impl Numbered for Connection {
 }
 
 /// The number of the next connection: from 1 on, and after the greatest from 1 again.
-pub fn number_after(number: u64) -> u64
+pub(crate) fn number_after(number: u64) -> u64
     ensures { result ≡ cond (number == 18446744073709551615) 1 (number + 1) }
 {
     number.checked_add(1).unwrap_or(1)

@@ -1,14 +1,15 @@
 //! The peers of a worker.
 
-use crate::clock::Ticks;
-use crate::desk::Desk;
-use crate::peer::{Next, Peer, State};
+use crate::connection::Connection;
+use crate::host::{Host, tell};
+use crate::lobby::Lobby;
+use crate::peer::{Next, Peer};
+use crate::states::States;
 use crate::tables::Table;
-use crate::threads::Shared;
-use crate::watch::Watch;
+use crate::watch::{Watch, place_of};
+use mio::Events;
 use mio::net::TcpStream;
 use s4_keeping::{Entrant, Kind};
-use s4_pool::{Names, OpenGate};
 use slab::Slab;
 use std::alloc::Global;
 use std::collections::VecDeque;
@@ -16,16 +17,7 @@ use std::io;
 use std::sync::Wait;
 use std::time::Duration;
 
-/// How many peers are how far.
-#[derive(Clone, Copy, Debug, PartialEq, Eq)]
-pub struct States {
-    pub greeting: u64,
-    pub welcomed: u64,
-    pub leaving: u64,
-}
-
 /// The peers of a worker, each at its place.
-#[derive(Drop)]
 pub struct Peers {
     alloc: Global,
     places: Slab<Peer>,
@@ -33,6 +25,18 @@ pub struct Peers {
     eager: VecDeque<usize>,
     /// The time when it was looked for idle ones.
     looked: u64,
+}
+
+// Written out, so that no crate above proves how peers are dropped.
+impl Drop for Peers {
+    fn drop(self) {
+        let Peers {
+            alloc: _,
+            places: _,
+            eager: _,
+            looked: _,
+        } = self;
+    }
 }
 
 impl Peers {
@@ -65,8 +69,32 @@ impl Peers {
         }
     }
 
+    /// Takes in the peer of a connection, and has its stream watched. Tells whether that could be done:
+    /// a connection for which there is no memory, or that can't be watched, is closed.
+    pub fn admit<R: Wait, H: Host>(
+        &mut self,
+        lobby: &Lobby<'_, R>,
+        host: &H,
+        watch: &Watch,
+        connection: Connection,
+        now: u64,
+    ) -> bool {
+        let entrant = connection.entrant();
+        let stream = TcpStream::from_std(connection.stream);
+        let table = lobby.newest();
+        tell(host, &entrant, Kind::Opened);
+        let is_in = match table {
+            Ok(table) => self.add(watch, entrant, stream, table, now).is_ok(),
+            Err(_) => false,
+        };
+        if !is_in {
+            tell(host, &entrant, Kind::NoMemory);
+        }
+        is_in
+    }
+
     /// Takes in a peer, and has its stream watched.
-    pub fn add(
+    fn add(
         &mut self,
         watch: &Watch,
         entrant: Entrant,
@@ -86,11 +114,27 @@ impl Peers {
         watched
     }
 
-    /// Serves the peer of this place, where there is one. `last` says that it sends no more.
-    pub fn give_turn<R: Wait, C: Ticks, N: Names>(
+    /// Serves those of whom these events tell, and then those that go on, each once.
+    pub fn serve<R: Wait, H: Host>(
         &mut self,
-        shared: &Shared<'_, R, C, N>,
-        desk: &mut Desk<'_, R, C, OpenGate, N>,
+        lobby: &Lobby<'_, R>,
+        host: &mut H,
+        events: &Events,
+        now: u64,
+    ) {
+        for event in events.iter() {
+            if let Some(place) = place_of(event.token()) {
+                self.give_turn(lobby, host, now, place, event.is_read_closed());
+            }
+        }
+        self.give_eager_turns(lobby, host, now);
+    }
+
+    /// Serves the peer of this place, where there is one. `last` says that it sends no more.
+    fn give_turn<R: Wait, H: Host>(
+        &mut self,
+        lobby: &Lobby<'_, R>,
+        host: &mut H,
         now: u64,
         place: usize,
         last: bool,
@@ -98,41 +142,32 @@ impl Peers {
         let Some(peer) = self.places.get_mut(place) else {
             return;
         };
-        let parting = match peer.take_turn(shared, desk, now, last) {
+        let parting = match peer.take_turn(lobby, host, now, last) {
             Next::Waits => None,
             Next::GoesOn if !peer.becomes_eager() => None,
             Next::GoesOn => noted(&mut self.eager, place),
             Next::Over(parting) => Some(parting),
         };
         if let Some(parting) = parting {
-            desk.tell(peer.entrant(), parting);
+            tell(host, peer.entrant(), parting);
             self.places.try_remove(place);
         }
     }
 
     /// Serves those that go on, each once.
-    pub fn give_eager_turns<R: Wait, C: Ticks, N: Names>(
-        &mut self,
-        shared: &Shared<'_, R, C, N>,
-        desk: &mut Desk<'_, R, C, OpenGate, N>,
-        now: u64,
-    ) {
+    fn give_eager_turns<R: Wait, H: Host>(&mut self, lobby: &Lobby<'_, R>, host: &mut H, now: u64) {
         for _ in 0..self.eager.len() {
             if let Some(place) = self.eager.pop_front() {
                 if let Some(peer) = self.places.get_mut(place) {
                     peer.becomes_patient();
                 }
-                self.give_turn(shared, desk, now, place, false);
+                self.give_turn(lobby, host, now, place, false);
             }
         }
     }
 
     /// Ends with those for whom nothing waits to be written.
-    pub fn end<R: Wait, C: Ticks, N: Names>(
-        &mut self,
-        desk: &Desk<'_, R, C, OpenGate, N>,
-        now: u64,
-    ) {
+    pub fn end<H: Host>(&mut self, host: &H, now: u64) {
         let Peers { places, eager, .. } = self;
         places.retain(|place, peer| {
             let parting = if peer.ends(now) {
@@ -140,47 +175,34 @@ impl Peers {
             } else {
                 None
             };
-            stays(desk, peer, parting)
+            stays(host, peer, parting)
         });
     }
 
     /// Looks after all, once at each time: closes those that were idle for too long, or whose login
     /// isn't in the newest table any more, and has those go on whose answer had to wait and is due.
     /// Tells whether it was time for that.
-    pub fn look<R: Wait, C: Ticks, N: Names>(
-        &mut self,
-        shared: &Shared<'_, R, C, N>,
-        desk: &Desk<'_, R, C, OpenGate, N>,
-        now: u64,
-    ) -> bool {
+    pub fn look<R: Wait, H: Host>(&mut self, lobby: &Lobby<'_, R>, host: &H, now: u64) -> bool {
         if now == self.looked {
             return false;
         }
         self.looked = now;
         let Peers { places, eager, .. } = self;
         places.retain(|place, peer| {
-            let parting = match peer.overdue(shared, now) {
+            let parting = match peer.overdue(lobby, now) {
                 None if peer.is_due(now) => noted(eager, place),
                 parting => parting,
             };
-            stays(desk, peer, parting)
+            stays(host, peer, parting)
         });
         true
     }
 
     /// How far it is with them.
     pub fn states(&self) -> States {
-        let mut states = States {
-            greeting: 0,
-            welcomed: 0,
-            leaving: 0,
-        };
+        let mut states = States::NONE;
         for (_, peer) in self.places.iter() {
-            match peer.state() {
-                State::Greeting => states.greeting = states.greeting.saturating_add(1),
-                State::Welcomed => states.welcomed = states.welcomed.saturating_add(1),
-                State::Leaving => states.leaving = states.leaving.saturating_add(1),
-            }
+            states.count(peer.state());
         }
         states
     }
@@ -195,14 +217,10 @@ fn noted(eager: &mut VecDeque<usize>, place: usize) -> Option<Kind> {
 }
 
 /// Whether the peer stays: where it doesn't, word is left why.
-fn stays<R: Wait, C: Ticks, N: Names>(
-    desk: &Desk<'_, R, C, OpenGate, N>,
-    peer: &Peer,
-    parting: Option<Kind>,
-) -> bool {
+fn stays<H: Host>(host: &H, peer: &Peer, parting: Option<Kind>) -> bool {
     match parting {
         Some(parting) => {
-            desk.tell(peer.entrant(), parting);
+            tell(host, peer.entrant(), parting);
             false
         }
         None => true,

@@ -1,24 +1,22 @@
 //! A peer that a worker serves beside others.
 
-use crate::clock::Ticks;
 use crate::conversation::Conversation;
-use crate::desk::Desk;
 use crate::ending::{Drained, Leaving, drain_some};
 use crate::gauge::{Gauge, Tap};
+use crate::host::{Host, event_now, tell};
+use crate::lobby::Lobby;
 use crate::opening::Opening;
+use crate::states::State;
 use crate::tables::Table;
-use crate::threads::Shared;
 use mio::net::TcpStream;
 use s4_command::Patience;
 use s4_keeping::{Entrant, Kind};
-use s4_pool::{Names, OpenGate};
 use s4_stream::SessionFault;
 use s4_talk::{TalkEnd, TurnEnd};
 use std::alloc::Global;
 use std::mem::replace;
 use std::net::Shutdown;
 use std::sync::Wait;
-use std::sync::atomic::Ordering;
 
 /// How many turns a peer has at a time at most, where others may wait for theirs.
 const TURNS: u32 = 8;
@@ -31,7 +29,7 @@ const FAULT_FRAME: usize = 6;
 
 /// A peer: its connection, and what was said there.
 #[derive(Drop)]
-pub struct Peer {
+pub(crate) struct Peer {
     entrant: Entrant,
     stream: TcpStream,
     stage: Stage,
@@ -58,20 +56,9 @@ enum Stage {
     Ends,
 }
 
-/// What is told of how far it is with a peer.
-#[derive(Clone, Copy, Debug, PartialEq, Eq)]
-pub enum State {
-    /// It isn't welcomed yet.
-    Greeting,
-    /// It asks, and is replied.
-    Welcomed,
-    /// It was told its end, or is to be.
-    Leaving,
-}
-
 /// What is next with a peer.
 #[derive(Clone, Copy)]
-pub enum Next {
+pub(crate) enum Next {
     /// Nothing, until something is told of its stream.
     Waits,
     /// There may be more to read at once.
@@ -82,7 +69,13 @@ pub enum Next {
 
 impl Peer {
     /// A peer with whom nothing was said. Takes no memory.
-    pub fn new(alloc: Global, entrant: Entrant, stream: TcpStream, table: Table, now: u64) -> Peer {
+    pub(crate) fn new(
+        alloc: Global,
+        entrant: Entrant,
+        stream: TcpStream,
+        table: Table,
+        now: u64,
+    ) -> Peer {
         Peer {
             entrant,
             stream,
@@ -97,40 +90,40 @@ impl Peer {
     }
 
     /// Who it is.
-    pub fn entrant(&self) -> &Entrant {
+    pub(crate) fn entrant(&self) -> &Entrant {
         &self.entrant
     }
 
     /// The stream, to be watched.
-    pub fn stream_mut(&mut self) -> &mut TcpStream {
+    pub(crate) fn stream_mut(&mut self) -> &mut TcpStream {
         &mut self.stream
     }
 
     /// From now on it goes on at once. Tells whether that is new.
-    pub fn becomes_eager(&mut self) -> bool {
+    pub(crate) fn becomes_eager(&mut self) -> bool {
         !replace(&mut self.eager, true)
     }
 
     /// From now on it waits for an event.
-    pub fn becomes_patient(&mut self) {
+    pub(crate) fn becomes_patient(&mut self) {
         self.eager = false;
     }
 
     /// Serves the peer for some turns. `last` says that it sends no more.
-    pub fn take_turn<R: Wait, C: Ticks, N: Names>(
+    pub(crate) fn take_turn<R: Wait, H: Host>(
         &mut self,
-        shared: &Shared<'_, R, C, N>,
-        desk: &mut Desk<'_, R, C, OpenGate, N>,
+        lobby: &Lobby<'_, R>,
+        host: &mut H,
         now: u64,
         last: bool,
     ) -> Next {
         self.last = self.last || last;
-        if !self.meets(shared) {
+        if !self.meets(lobby) {
             return Next::Over(Kind::Revoked);
         }
-        desk.connection = self.entrant.connection;
+        host.turn_to(self.entrant.connection);
         for _ in 0..TURNS {
-            match self.talk(shared, desk, now) {
+            match self.talk(lobby, host, now) {
                 Some(TurnEnd::More) | Some(TurnEnd::Enough) => {}
                 Some(TurnEnd::Waits) | Some(TurnEnd::Stuck) => return Next::Waits,
                 Some(TurnEnd::Ended(TalkEnd::Faulted(_))) => return self.leave(now),
@@ -148,10 +141,10 @@ impl Peer {
     /// read. Until it is welcomed nothing is written in the turn that reads: so the answer to a
     /// failed login can wait. There is no more to read where a read was shorter than it could have
     /// been, but for the end, of which no further event may tell.
-    fn talk<R: Wait, C: Ticks, N: Names>(
+    fn talk<R: Wait, H: Host>(
         &mut self,
-        shared: &Shared<'_, R, C, N>,
-        desk: &mut Desk<'_, R, C, OpenGate, N>,
+        lobby: &Lobby<'_, R>,
+        host: &mut H,
         now: u64,
     ) -> Option<TurnEnd> {
         let Peer {
@@ -174,22 +167,22 @@ impl Peer {
         let greets = talk.is_greeting();
         let heard = talk.fault().is_some();
         let stream: &TcpStream = stream;
-        let mut reader = Gauge::new(stream, shared.board.over.load(Ordering::SeqCst), *opening);
+        let mut reader = Gauge::new(stream, lobby.is_over(), *opening);
         let mut writer = Tap::new(stream, greets);
-        let end = talk.turn(desk, &mut reader, &mut writer);
+        let end = talk.turn(host, &mut reader, &mut writer);
         *opening = reader.opening();
         if writer.has_given() || talk.waiting() != waited {
             *since = now;
         }
         if greets {
-            tell_welcome(desk, entrant, talk, opening);
+            tell_welcome(host, entrant, talk, opening);
         }
         if !heard {
-            tell_fault(desk, entrant, talk, opening);
+            tell_fault(host, entrant, talk, opening);
         }
         match end {
             TurnEnd::Stuck if greets => {
-                *held = answered_at(shared, talk, opening, now);
+                *held = answered_at(lobby, talk, opening, now);
                 Some(TurnEnd::More)
             }
             TurnEnd::More if reader.is_short() && !*last => Some(TurnEnd::Waits),
@@ -211,7 +204,7 @@ impl Peer {
     /// Says that no more is sent, where nothing waits to be written for the peer. What it still
     /// says is read from then on: else a close could reset the connection, and the peer lose what
     /// it was sent. Tells whether it is to go on at once for that.
-    pub fn ends(&mut self, now: u64) -> bool {
+    pub(crate) fn ends(&mut self, now: u64) -> bool {
         let is_told = match &self.stage {
             Stage::Talks(talk) => talk.waiting() == 0,
             _ => false,
@@ -244,13 +237,9 @@ impl Peer {
 
     /// Why the peer may not stay, if so: it was silent, or took nothing of what waits for it, for
     /// too long; or it isn't welcomed yet and should be; or its login isn't in the newest table.
-    pub fn overdue<R: Wait, C, N: Names>(
-        &mut self,
-        shared: &Shared<'_, R, C, N>,
-        now: u64,
-    ) -> Option<Kind> {
-        match self.tires(now, &shared.patience) {
-            None if !self.meets(shared) => Some(Kind::Revoked),
+    pub(crate) fn overdue<R: Wait>(&mut self, lobby: &Lobby<'_, R>, now: u64) -> Option<Kind> {
+        match self.tires(now, &lobby.patience) {
+            None if !self.meets(lobby) => Some(Kind::Revoked),
             parting => parting,
         }
     }
@@ -270,7 +259,7 @@ impl Peer {
     }
 
     /// How far it is.
-    pub fn state(&self) -> State {
+    pub(crate) fn state(&self) -> State {
         match &self.stage {
             Stage::Talks(talk) if talk.is_greeting() => State::Greeting,
             Stage::Talks(talk) if talk.is_welcomed() => State::Welcomed,
@@ -279,19 +268,19 @@ impl Peer {
     }
 
     /// Whether an answer that had to wait is due. Tells it once.
-    pub fn is_due(&mut self, now: u64) -> bool {
+    pub(crate) fn is_due(&mut self, now: u64) -> bool {
         self.held.is_some_and(|until| until <= now) && self.becomes_eager()
     }
 
     /// Meets the newest login table, unless it has met that. Tells whether it may stay.
-    pub fn meets<R: Wait, C, N: Names>(&mut self, shared: &Shared<'_, R, C, N>) -> bool {
+    fn meets<R: Wait>(&mut self, lobby: &Lobby<'_, R>) -> bool {
         let Stage::Talks(talk) = &mut self.stage else {
             return true;
         };
-        if talk.has_met(shared.board.tables.edition()) {
+        if talk.has_met(lobby.edition()) {
             return true;
         }
-        match shared.board.tables.newest(shared.rt) {
+        match lobby.newest() {
             Ok(newest) => talk.meets(newest, self.opening.is_empty()),
             Err(_) => false,
         }
@@ -305,8 +294,8 @@ fn is_past(passed: u64, most: u64) -> bool {
 
 /// Until when the answer to a peer's first words waits, if it does: that to a failed login is
 /// slowed, where such logins of that principal were many.
-fn answered_at<R: Wait, C, N: Names>(
-    shared: &Shared<'_, R, C, N>,
+fn answered_at<R: Wait>(
+    lobby: &Lobby<'_, R>,
     talk: &Conversation,
     opening: &Opening,
     now: u64,
@@ -314,7 +303,7 @@ fn answered_at<R: Wait, C, N: Names>(
     if talk.fault() != Some(SessionFault::BadLogin) {
         return None;
     }
-    match shared.board.attempts.failed(shared.rt, opening.who(), now) {
+    match lobby.failed(opening.who(), now) {
         0 => None,
         delay => Some(now.saturating_add(delay)),
     }
@@ -349,33 +338,25 @@ fn kind_of(fault: SessionFault) -> Kind {
 
 /// Leaves word of the peer's welcome, where the turn brought it. A fault in the same turn ends it
 /// again; then more waits than the frame that tells the fault.
-fn tell_welcome<R: Wait, C: Ticks, N: Names>(
-    desk: &Desk<'_, R, C, OpenGate, N>,
-    entrant: &Entrant,
-    talk: &Conversation,
-    opening: &Opening,
-) {
+fn tell_welcome<H: Host>(host: &H, entrant: &Entrant, talk: &Conversation, opening: &Opening) {
     let is_welcome = match talk.fault() {
         Some(_) => talk.waiting() > FAULT_FRAME,
         None => talk.is_welcomed(),
     };
     if let Some(caller) = opening.caller() {
         if is_welcome {
-            desk.tell_welcome(entrant, &caller);
+            host.tell(event_now(host, entrant, Kind::Welcome).welcoming(&caller));
         }
     }
 }
 
 /// Leaves word of the fault that ended the peer's session, where there is one.
-fn tell_fault<R: Wait, C: Ticks, N: Names>(
-    desk: &Desk<'_, R, C, OpenGate, N>,
-    entrant: &Entrant,
-    talk: &Conversation,
-    opening: &Opening,
-) {
+fn tell_fault<H: Host>(host: &H, entrant: &Entrant, talk: &Conversation, opening: &Opening) {
     match talk.fault() {
-        Some(SessionFault::BadLogin) => desk.tell_bad_login(entrant, opening.who()),
-        Some(fault) => desk.tell(entrant, kind_of(fault)),
+        Some(SessionFault::BadLogin) => {
+            host.tell(event_now(host, entrant, Kind::BadLogin).naming(opening.who()))
+        }
+        Some(fault) => tell(host, entrant, kind_of(fault)),
         None => {}
     }
 }

@@ -8,14 +8,14 @@ const LENGTH: usize = 14;
 /// The first bytes that were heard on a connection, up to those that name who wants to log in, and
 /// as which client (docs/PROTOCOL.md, "Greeting").
 #[derive(Clone, Copy, Debug)]
-pub struct Opening {
+pub(crate) struct Opening {
     bytes: [u8; LENGTH],
     count: usize,
 }
 
 impl Opening {
     /// Nothing was heard.
-    pub fn new() -> Opening {
+    pub(crate) fn new() -> Opening {
         Opening {
             bytes: [0; LENGTH],
             count: 0,
@@ -23,12 +23,12 @@ impl Opening {
     }
 
     /// Whether nothing was heard.
-    pub fn is_empty(&self) -> bool {
+    pub(crate) fn is_empty(&self) -> bool {
         self.count == 0
     }
 
     /// Notes what is heard next.
-    pub fn note(&mut self, piece: &[u8]) {
+    pub(crate) fn note(&mut self, piece: &[u8]) {
         for byte in piece {
             match self.bytes.get_mut(self.count) {
                 Some(place) => *place = *byte,
@@ -39,13 +39,13 @@ impl Opening {
     }
 
     /// The number that stands where the principal of a Hello does.
-    pub fn who(&self) -> u32 {
+    pub(crate) fn who(&self) -> u32 {
         let [_, _, _, _, _, _, a, b, c, d, ..] = self.bytes;
         u32::from_be_bytes([a, b, c, d])
     }
 
     /// The caller whom a good Hello names.
-    pub fn caller(&self) -> Option<Caller> {
+    pub(crate) fn caller(&self) -> Option<Caller> {
         let [_, _, _, _, _, number, _, _, _, _, a, b, c, d] = self.bytes;
         let version = match number {
             1 => WireVersion::One,

@@ -1,0 +1,30 @@
+//! Who answers peers.
+
+ghost use Rattle.std.specs.Prelude.{◌≡◌};
+
+use s4_keeping::{Entrant, Event, Kind};
+use s4_talk::Answer;
+use s4_types::Moment;
+
+/// Answers the requests of a worker's peers, and takes down what becomes of their connections.
+pub trait Host: Answer {
+    /// From now on requests come by the connection of that number. Nothing is answered.
+    fn turn_to(&mut self, connection: u64)
+        ensures calls { Self.calls self.new ≡ Self.calls self.old };
+
+    /// The moment now.
+    fn moment(&self) -> Moment;
+
+    /// Takes down what became of a connection. It may wait.
+    fn tell(&self, event: Event);
+}
+
+/// What became of a connection now.
+pub(crate) fn event_now<H: Host>(host: &H, entrant: &Entrant, kind: Kind) -> Event {
+    Event::new(entrant, host.moment().tick(), kind)
+}
+
+/// Takes down what became of a connection now.
+pub(crate) fn tell<H: Host>(host: &H, entrant: &Entrant, kind: Kind) {
+    host.tell(event_now(host, entrant, kind));
+}

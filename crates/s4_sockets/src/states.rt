@@ -1,0 +1,39 @@
+//! How far it is with peers.
+
+/// What is told of how far it is with a peer.
+#[derive(Clone, Copy)]
+pub(crate) enum State {
+    /// It isn't welcomed yet.
+    Greeting,
+    /// It asks, and is replied.
+    Welcomed,
+    /// It was told its end, or is to be.
+    Leaving,
+}
+
+/// How many peers are how far.
+#[derive(Clone, Copy)]
+pub struct States {
+    pub greeting: u64,
+    pub welcomed: u64,
+    pub leaving: u64,
+}
+
+impl States {
+    /// No peers.
+    pub(crate) const NONE: States = States {
+        greeting: 0,
+        welcomed: 0,
+        leaving: 0,
+    };
+
+    /// Counts one peer more.
+    pub(crate) fn count(&mut self, state: State) {
+        let count = match state {
+            State::Greeting => &mut self.greeting,
+            State::Welcomed => &mut self.welcomed,
+            State::Leaving => &mut self.leaving,
+        };
+        *count = count.saturating_add(1);
+    }
+}
