@@ -1,6 +1,6 @@
 //! A file of logins that is read again where it has changed.
 
-ghost use Rattle.std.specs.Prelude.{◌≡◌, IfOk, IsErr, OnErr};
+ghost use Rattle.std.specs.Prelude.{◌≡◌, ◌-◌, ◌<◌, false, IfOk, IsErr, OnErr};
 ghost use Rattle.std_alloc.specs.Arc.{arc_value};
 
 use crate::fault::LoginsFault;
@@ -22,7 +22,6 @@ struct Stamp {
 }
 
 /// Who reads the logins again where their file has changed.
-#[derive(Drop)]
 pub struct Reloading<'a> {
     alloc: Global,
     /// The machine's files. They aren't those of a type parameter, since a thread looks at them.
@@ -39,6 +38,21 @@ pub struct Reloading<'a> {
     looked: u64,
 }
 
+// Written out, so that no crate above proves how a table is dropped.
+impl Drop for Reloading<'_> {
+    fn drop(self) {
+        let Reloading {
+            alloc: _,
+            files: _,
+            path: _,
+            every: _,
+            table: _,
+            stamp: _,
+            looked: _,
+        } = self;
+    }
+}
+
 impl<'a> Reloading<'a> {
     /// Begins with the table that was read before the server listened, and the file as it is now.
     pub fn new(
@@ -48,7 +62,11 @@ impl<'a> Reloading<'a> {
         every: u64,
         table: Arc<Logins>,
         now: u64,
-    ) -> Reloading<'a> {
+    ) -> Reloading<'a>
+        ensures table { result.table ≡ table }
+        ensures looked { result.looked ≡ now }
+        ensures every { result.every ≡ every }
+    {
         Reloading {
             alloc,
             files,
@@ -61,7 +79,11 @@ impl<'a> Reloading<'a> {
     }
 
     /// Whether it is time to look at the file, and that has changed since it was last read.
-    pub fn is_due(&mut self, now: u64) -> bool {
+    pub fn is_due(&mut self, now: u64) -> bool
+        ensures never { self.old.every ≡ 0 → result ≡ false }
+        ensures early { now - self.old.looked < self.old.every → result ≡ false }
+        ensures table { self.new.table ≡ self.old.table }
+    {
         if self.every == 0 || now.saturating_sub(self.looked) < self.every {
             return false;
         }
@@ -74,7 +96,9 @@ impl<'a> Reloading<'a> {
 
     /// Reads the logins, which are the newest table from now on, and gives that. Where they can't be
     /// had, the old table stays, and it is told why.
-    pub fn read(&mut self) -> Result<Arc<Logins>, LoginsFault> {
+    pub fn read(&mut self) -> Result<Arc<Logins>, LoginsFault>
+        ensures { IfOk result (λ newest. arc_value newest ≡ arc_value self.new.table) }
+    {
         self.renew(open_logins(self.files, self.path))?;
         Ok(Arc::try_clone(&self.table)?)
     }

@@ -1,47 +1,51 @@
 //! What the threads of a server tell each other.
 
 use crate::start::Start;
-use crate::tally::Tally;
-use crate::threads::OTHERS;
 use s4_keeping::Notebook;
+use s4_status::Tally;
 use s4_types::NoMemory;
 use std::alloc::Global;
 use std::sync::atomic::{AtomicBool, AtomicU64};
 
 /// Where each thread of a server reads what the others wrote.
 #[derive(Drop)]
-pub struct Board {
+pub(crate) struct Board {
     /// Where the threads wait for each other at the begin.
-    pub start: Start,
+    pub(crate) start: Start,
     /// No more connections are accepted.
-    pub accepted: AtomicBool,
+    pub(crate) accepted: AtomicBool,
     /// The time at which the sweeper began its round, in milliseconds.
-    pub time: AtomicU64,
+    pub(crate) time: AtomicU64,
     /// The cells in which a worker is to ask, since nobody did for long: a bit each.
-    pub quiet: AtomicU64,
+    pub(crate) quiet: AtomicU64,
     /// What is counted.
-    pub tally: Tally,
+    pub(crate) tally: Tally,
     /// What is left for the keeper of a journal.
-    pub notebook: Notebook,
+    pub(crate) notebook: Notebook,
     /// Before this moment no record is missing in the journal, as far as that is known to last; the
     /// greatest moment where none is kept.
-    pub kept: AtomicU64,
+    pub(crate) kept: AtomicU64,
     /// Calls of moments before this one are to claim their records.
-    pub due: AtomicU64,
+    pub(crate) due: AtomicU64,
     /// The records before this moment went, of all cells.
-    pub cut: AtomicU64,
+    pub(crate) cut: AtomicU64,
     /// The greatest moment to which a cell was cut, or was to be.
-    pub ahead: AtomicU64,
+    pub(crate) ahead: AtomicU64,
     /// A call has no record, or a record no call.
-    pub stray: AtomicBool,
+    pub(crate) stray: AtomicBool,
 }
 
 impl Board {
     /// The board of a server of so many workers that begins now. `keeps` says whether it keeps a
     /// journal.
-    pub fn new(alloc: Global, workers: u64, now: u64, keeps: bool) -> Result<Board, NoMemory> {
+    pub(crate) fn new(
+        alloc: Global,
+        workers: u64,
+        now: u64,
+        keeps: bool,
+    ) -> Result<Board, NoMemory> {
         Ok(Board {
-            start: Start::new(workers.saturating_add(OTHERS)),
+            start: Start::new(workers),
             accepted: AtomicBool::new(false),
             time: AtomicU64::new(now),
             quiet: AtomicU64::new(0),

@@ -3,8 +3,7 @@
 ghost use Rattle.std.specs.Prelude.{◌≡◌, ◌-◌, ◌*◌, ◌<◌, ◌≤◌, ◌^◌, max, min};
 
 use crate::desk::Desk;
-use crate::threads::Shared;
-use s4_pool::{Claimed, Gate, Names, Pass};
+use s4_pool::{Claimed, Names, Pass};
 use s4_sockets::{Post, Ticks};
 use s4_types::Moment;
 use std::sync::Wait;
@@ -16,7 +15,7 @@ const PIECE: usize = 128;
 
 /// Who has a worker's calls claim their records, and drops those whose records went.
 #[derive(Drop)]
-pub struct Claimant {
+pub(crate) struct Claimant {
     /// The millisecond in which it last looked after them.
     looked: u64,
     /// Whether calls were left then that are to claim their records, or to be dropped.
@@ -25,7 +24,7 @@ pub struct Claimant {
 
 impl Claimant {
     /// One for a worker that has made no calls.
-    pub fn new() -> Claimant {
+    pub(crate) fn new() -> Claimant {
         Claimant {
             looked: 0,
             behind: false,
@@ -33,24 +32,23 @@ impl Claimant {
     }
 
     /// Whether calls were left that are to claim their records, or to be dropped.
-    pub fn is_behind(&self) -> bool
+    pub(crate) fn is_behind(&self) -> bool
         ensures { result ≡ self.now.behind }
     {
         self.behind
     }
 
     /// Looks after a worker's calls, which made so many since the last time.
-    pub fn look<R: Wait, C: Ticks, G: Gate, N: Names>(
+    pub(crate) fn look<R: Wait, C: Ticks, N: Names>(
         &mut self,
-        shared: &Shared<'_, R, C, N>,
         post: &Post,
-        desk: &mut Desk<'_, R, C, G, N>,
+        desk: &mut Desk<'_, R, C, N>,
         made: usize,
     ) {
-        let now = desk.clock.moment().tick();
+        let now = desk.context.clock.moment().tick();
         let most = self.most(made, now);
         self.looked = now;
-        self.behind = claim_calls(shared, post, desk, most);
+        self.behind = claim_calls(post, desk, most);
     }
 
     /// How many calls to look after: twice as many as were made since the last time, and a piece at
@@ -70,22 +68,22 @@ impl Claimant {
 
 /// Has a worker's calls claim their records as far as they are to, and drops those whose records went:
 /// of either at most so many, in pieces. Tells whether there may be more of them.
-fn claim_calls<R: Wait, C, G: Gate, N: Names>(
-    shared: &Shared<'_, R, C, N>,
+fn claim_calls<R: Wait, C, N: Names>(
     post: &Post,
-    desk: &mut Desk<'_, R, C, G, N>,
+    desk: &mut Desk<'_, R, C, N>,
     most: usize,
 ) -> bool {
-    let cut = shared.board.cut.load(Ordering::SeqCst);
+    let context = desk.context;
+    let cut = context.board.cut.load(Ordering::SeqCst);
     let has_more = forget_calls(&mut desk.pass, Moment::new(cut), most);
-    let due = shared.board.due.load(Ordering::SeqCst);
+    let due = context.board.due.load(Ordering::SeqCst);
     let mut left = most;
     for _ in 0..most.div_ceil(PIECE) {
         let piece = left.min(PIECE);
         left -= piece;
-        match desk
+        match context
             .front
-            .claim(shared.rt, &mut desk.pass, Moment::new(due), piece)
+            .claim(context.rt, &mut desk.pass, Moment::new(due), piece)
         {
             Ok(Claimed::Most) => {}
             Ok(Claimed::All) => {
@@ -93,7 +91,7 @@ fn claim_calls<R: Wait, C, G: Gate, N: Names>(
                 return has_more;
             }
             Ok(Claimed::Stray) => {
-                shared.board.stray.store(true, Ordering::SeqCst);
+                context.board.stray.store(true, Ordering::SeqCst);
                 return has_more;
             }
             // The next time makes up for it.

@@ -2,7 +2,7 @@
 
 ghost use Rattle.std.specs.Prelude.{◌≡◌, ◌+◌, ◌-◌, ◌*◌, ◌/◌, ◌<◌, ◌≤◌, max, min};
 
-use crate::threads::Shared;
+use crate::context::Context;
 use s4_pool::Names;
 use s4_sockets::{Ticks, least_claimed};
 use s4_types::Moment;
@@ -26,7 +26,7 @@ const RESTS: u64 = 9;
 
 /// Who cuts, cell by cell and piece by piece, so that nobody waits for long.
 #[derive(Drop)]
-pub struct Cutter {
+pub(crate) struct Cutter {
     /// How far the next piece goes, in milliseconds of records.
     step: u64,
     /// Up to which moment calls had claimed their records in the last round.
@@ -57,7 +57,7 @@ impl Took {
 
 impl Cutter {
     /// One who hasn't cut yet.
-    pub fn new() -> Cutter {
+    pub(crate) fn new() -> Cutter {
         Cutter {
             step: 1,
             claimed: 0,
@@ -67,58 +67,62 @@ impl Cutter {
 
     /// Cuts the cells as far as all workers' calls have claimed their records, in a round that began at
     /// this moment, and says how far they are to claim them next.
-    pub fn cut<R: Wait + Clock, C: Ticks, N: Names>(
+    pub(crate) fn cut<R: Wait + Clock, C: Ticks, N: Names>(
         &mut self,
-        shared: &Shared<'_, R, C, N>,
+        context: &Context<'_, R, C, N>,
         begun: u64,
     ) {
-        let claimed = least_claimed(shared.posts);
-        let from = shared.board.cut.load(Ordering::SeqCst);
+        let claimed = least_claimed(context.posts);
+        let from = context.board.cut.load(Ordering::SeqCst);
         if claimed > self.claimed {
             self.late = from < self.claimed;
             self.claimed = claimed;
         }
-        let start = Instant::now(shared.rt).ok();
-        for _ in shared.rt.forever() {
-            let Some(took) = self.cut_piece(shared, claimed) else {
+        let start = Instant::now(context.rt).ok();
+        for _ in context.rt.forever() {
+            let Some(took) = self.cut_piece(context, claimed) else {
                 break;
             };
-            let passed = shared.clock.moment().tick().saturating_sub(begun);
+            let passed = context.clock.moment().tick().saturating_sub(begun);
             if passed >= CUTTING {
                 break;
             }
-            let rest = took.rest(self.ahead(shared, from, start));
+            let rest = took.rest(self.ahead(context, from, start));
             if rest > 0 {
-                thread::sleep(shared.rt, Duration::from_micros(rest));
+                thread::sleep(context.rt, Duration::from_micros(rest));
             }
         }
-        shared.board.due.store(due_in(shared), Ordering::SeqCst);
+        context.board.due.store(due_in(context), Ordering::SeqCst);
     }
 
     /// How many microseconds it is ahead of its pace, where it began at this moment then; 0 where it is
     /// late.
     fn ahead<R: Wait + Clock, C, N: Names>(
         &self,
-        shared: &Shared<'_, R, C, N>,
+        context: &Context<'_, R, C, N>,
         from: u64,
         start: Option<Instant>,
     ) -> u64 {
         if self.late {
             return 0;
         }
-        let went = shared.board.cut.load(Ordering::SeqCst).saturating_sub(from);
+        let went = context
+            .board
+            .cut
+            .load(Ordering::SeqCst)
+            .saturating_sub(from);
         went.saturating_mul(PACE)
-            .saturating_sub(since(shared.rt, start))
+            .saturating_sub(since(context.rt, start))
     }
 
     /// Cuts each cell one piece further, and tells how long that took; none where there is no more. A cut
     /// that memory was refused for is made up for by the next round.
     fn cut_piece<R: Wait + Clock, C, N: Names>(
         &mut self,
-        shared: &Shared<'_, R, C, N>,
+        context: &Context<'_, R, C, N>,
         claimed: u64,
     ) -> Option<Took> {
-        let board = shared.board;
+        let board = context.board;
         let before = board.cut.load(Ordering::SeqCst);
         let end = before.saturating_add(self.step).min(claimed);
         if end <= before {
@@ -126,10 +130,10 @@ impl Cutter {
         }
         board.ahead.store(end, Ordering::SeqCst);
         let mut took = Took { all: 0, longest: 0 };
-        for cell in 0..shared.cells {
-            let begun = Instant::now(shared.rt).ok();
-            cut_cell(shared, cell, end)?;
-            let passed = since(shared.rt, begun);
+        for cell in 0..context.cells {
+            let begun = Instant::now(context.rt).ok();
+            cut_cell(context, cell, end)?;
+            let passed = since(context.rt, begun);
             took.all = took.all.saturating_add(passed);
             took.longest = took.longest.max(passed);
         }
@@ -141,15 +145,19 @@ impl Cutter {
 
 /// Cuts a cell at this moment; none where memory was refused for that, or a record that no call claimed
 /// in time, and so has none, is in the way.
-fn cut_cell<R: Wait, C, N: Names>(shared: &Shared<'_, R, C, N>, cell: usize, end: u64) -> Option<()>
-    requires { cell < shared.now.front.now.cells }
+fn cut_cell<R: Wait, C, N: Names>(
+    context: &Context<'_, R, C, N>,
+    cell: usize,
+    end: u64,
+) -> Option<()>
+    requires { cell < context.now.front.now.cells }
 {
-    let cut = shared
+    let cut = context
         .front
-        .cut_one(shared.rt, cell, Moment::new(end))
+        .cut_one(context.rt, cell, Moment::new(end))
         .ok()?;
     if cut.tick() < end {
-        shared.board.stray.store(true, Ordering::SeqCst);
+        context.board.stray.store(true, Ordering::SeqCst);
         return None;
     }
     Some(())
@@ -179,10 +187,10 @@ fn step_after(step: u64, took: u64) -> u64
 
 /// To which moment calls are to claim their records: the least of the cells' horizons, and of what the
 /// journal has.
-fn due_in<R: Wait, C, N: Names>(shared: &Shared<'_, R, C, N>) -> u64 {
-    let mut due = shared.board.kept.load(Ordering::SeqCst);
-    for cell in 0..shared.cells {
-        if let Some(measure) = shared.front.measure(shared.rt, cell) {
+fn due_in<R: Wait, C, N: Names>(context: &Context<'_, R, C, N>) -> u64 {
+    let mut due = context.board.kept.load(Ordering::SeqCst);
+    for cell in 0..context.cells {
+        if let Some(measure) = context.front.measure(context.rt, cell) {
             due = due.min(measure.horizon.tick());
         }
     }

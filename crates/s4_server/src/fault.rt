@@ -27,7 +27,7 @@ pub enum ServerFault {
 
 impl ServerFault {
     /// The fault of a front that can't be closed.
-    pub fn of(why: Why) -> ServerFault
+    pub(crate) fn of(why: Why) -> ServerFault
         ensures { result ≡ fault_of why }
     {
         match why {
@@ -39,7 +39,7 @@ impl ServerFault {
     }
 
     /// The fault where the system gives no watch.
-    pub fn of_watch(error: io::Error) -> ServerFault {
+    pub(crate) fn of_watch(error: io::Error) -> ServerFault {
         match error.kind() {
             ErrorKind::OutOfMemory => ServerFault::NoMemory,
             _ => ServerFault::NoWatch,

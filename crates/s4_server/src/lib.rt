@@ -4,6 +4,7 @@
 
 mod board;
 mod claims;
+mod context;
 mod cutting;
 mod desk;
 mod fault;
@@ -12,15 +13,11 @@ mod places;
 mod quiet;
 mod server;
 mod start;
-mod status;
 mod sweeping;
-mod tally;
-mod telling;
 mod threads;
 mod upkeep;
 mod workers;
 
 pub use fault::ServerFault;
 pub use server::Server;
-pub use telling::beside;
 pub use upkeep::Upkeep;

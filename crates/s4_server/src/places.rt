@@ -3,8 +3,9 @@
 ghost use Rattle.std.specs.Prelude.{◌≡◌};
 ghost use Rattle.s4_server.specs.Places.{AreOf};
 
+use crate::context::Context;
 use crate::fault::ServerFault;
-use crate::threads::{Shared, run_threads};
+use crate::threads::run_threads;
 use crate::workers::{gather, staff};
 use s4_command::Settings;
 use s4_jobs::{Jobs, Seat};
@@ -24,7 +25,7 @@ const WAITING: usize = 64;
 /// The queue of connections, and where a server's threads take their places: the one who accepts has a
 /// seat and a watch over the listener, and so has each worker, over its peers.
 #[derive(Drop)]
-pub struct Places {
+pub(crate) struct Places {
     jobs: Jobs<Connection>,
     /// The seat of the one who accepts.
     seat: Seat<Connection>,
@@ -39,7 +40,7 @@ pub struct Places {
 
 impl Places {
     /// The places of a server of these settings, and each worker's post.
-    pub fn open<S: Net>(
+    pub(crate) fn open<S: Net>(
         net: &S,
         alloc: Global,
         settings: &Settings,
@@ -66,9 +67,13 @@ impl Places {
 
     /// Serves the connections of the listener by these passes, until the last of them has ended, and
     /// gives the passes back. `NoMemory` where a thread can't be had, or a growth was refused.
-    pub fn serve<R: Threads + Wait + Clock + Eprint + Sync, C: Ticks, N: Names + Send + Sync>(
+    pub(crate) fn serve<
+        R: Threads + Wait + Clock + Eprint + Sync,
+        C: Ticks,
+        N: Names + Send + Sync,
+    >(
         self,
-        shared: &Shared<'_, R, C, N>,
+        context: &Context<'_, R, C, N>,
         settings: &Settings,
         listener: &TcpListener,
         passes: Vec<Pass<N>>,
@@ -82,23 +87,23 @@ impl Places {
             watches,
             outer,
         } = self;
-        let mut workers = staff(shared, &jobs, seats, passes, watches)?;
+        let mut workers = staff(context, &jobs, seats, passes, watches)?;
         let door = Door::new(
             listener,
             outer,
-            shared.posts,
+            context.posts,
             settings.open,
-            shared.lobby,
-            shared.board.notebook.door(),
+            context.lobby,
+            context.board.notebook.door(),
         );
         let serving = workers.as_mut_slice();
         run_threads(
-            shared, settings, door, &jobs, seat, serving, reloading, keeper,
+            context, settings, door, &jobs, seat, serving, reloading, keeper,
         );
-        if shared.board.start.has_failed() {
+        if context.board.start.has_failed() {
             return Err(ServerFault::NoMemory);
         }
-        Ok(gather(shared.alloc, workers)?)
+        Ok(gather(context.alloc, workers)?)
     }
 }
 

@@ -2,9 +2,9 @@
 
 ghost use Rattle.std.specs.Prelude.{◌↔◌, ◌+◌, ◌-◌, ◌<◌, ◌/◌, max, IsTrue};
 
+use crate::context::Context;
 use crate::desk::Desk;
-use crate::threads::Shared;
-use s4_pool::{Gate, MOST_CELLS, Names};
+use s4_pool::{MOST_CELLS, Names};
 use s4_sockets::Ticks;
 use s4_talk::Answer;
 use s4_types::{Caller, Moment, Principal, Request, WireVersion};
@@ -19,11 +19,11 @@ const PARTS: u64 = 20;
 const LEAST: u64 = 1000;
 
 /// Has a worker ask in each cell that is behind, since it would hold up what is cut.
-pub fn find_quiet<R: Wait, C, N: Names>(shared: &Shared<'_, R, C, N>) {
+pub(crate) fn find_quiet<R: Wait, C, N: Names>(context: &Context<'_, R, C, N>) {
     let mut newest = 0;
     let mut horizon = 0;
-    for cell in 0..shared.cells {
-        if let Some(measure) = shared.front.measure(shared.rt, cell) {
+    for cell in 0..context.cells {
+        if let Some(measure) = context.front.measure(context.rt, cell) {
             newest = newest.max(measure.last.tick());
             horizon = horizon.max(measure.horizon.tick());
         }
@@ -33,16 +33,16 @@ pub fn find_quiet<R: Wait, C, N: Names>(shared: &Shared<'_, R, C, N>) {
         return;
     }
     let mut quiet = 0;
-    for cell in 0..shared.cells {
-        let last = shared
+    for cell in 0..context.cells {
+        let last = context
             .front
-            .measure(shared.rt, cell)
+            .measure(context.rt, cell)
             .map_or(0, |measure| measure.last.tick());
         if is_behind(last, newest, horizon) {
             quiet |= bit(cell);
         }
     }
-    shared.board.quiet.store(quiet, Ordering::SeqCst);
+    context.board.quiet.store(quiet, Ordering::SeqCst);
 }
 
 /// Whether a cell whose newest record has the moment `last` is behind the cells' newest record, by
@@ -63,17 +63,15 @@ fn bit(cell: usize) -> u64 {
 /// Asks in each cell that was found behind: the administrator, for the partitions of a principal
 /// there at a moment that isn't yet. That is answered Future, looks nothing up, and leaves a record,
 /// so the cell's horizon moves on.
-pub fn move_on<R: Wait, C: Ticks, G: Gate, N: Names>(
-    shared: &Shared<'_, R, C, N>,
-    desk: &mut Desk<'_, R, C, G, N>,
-) {
-    let quiet = shared.board.quiet.swap(0, Ordering::SeqCst);
+pub(crate) fn move_on<R: Wait, C: Ticks, N: Names>(desk: &mut Desk<'_, R, C, N>) {
+    let context = desk.context;
+    let quiet = context.board.quiet.swap(0, Ordering::SeqCst);
     if quiet == 0 {
         return;
     }
     desk.connection = 0;
     for cell in 0..MOST_CELLS {
-        if quiet & bit(cell) != 0 && !is_asked(shared, cell) {
+        if quiet & bit(cell) != 0 && !is_asked(context, cell) {
             if let Some(range) = Principal::new(cell as u32) {
                 desk.answer(steward(), in_the_future(range));
             }
@@ -82,11 +80,11 @@ pub fn move_on<R: Wait, C: Ticks, G: Gate, N: Names>(
 }
 
 /// Whether the cell was asked meanwhile: as when a worker asked there while it was looked for.
-fn is_asked<R: Wait, C: Ticks, N: Names>(shared: &Shared<'_, R, C, N>, cell: usize) -> bool {
-    let now = shared.clock.moment().tick();
-    shared
+fn is_asked<R: Wait, C: Ticks, N: Names>(context: &Context<'_, R, C, N>, cell: usize) -> bool {
+    let now = context.clock.moment().tick();
+    context
         .front
-        .measure(shared.rt, cell)
+        .measure(context.rt, cell)
         .is_none_or(|measure| measure.last.tick().saturating_add(LEAST) >= now)
 }
 

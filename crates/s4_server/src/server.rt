@@ -14,10 +14,10 @@ ghost use Rattle.s4_pool.specs.Numbers.{HasAll};
 ghost use Rattle.s4_server.specs.Setup.{CarriesOut, IsNamed};
 
 use crate::board::Board;
+use crate::context::Context;
 use crate::fault::ServerFault;
 use crate::noting::note_passes;
 use crate::places::Places;
-use crate::threads::Shared;
 use crate::upkeep::Upkeep;
 use s4_cells::Cell;
 use s4_closing::none_went;
@@ -155,7 +155,7 @@ impl<N: Names + Send + Sync> Server<N> {
         let lobby = Lobby::new(rt, alloc, logins, settings.patience)?;
         let board = Board::new(alloc, settings.workers, now, keeper.is_some())?;
         note_passes(rt, &board.notebook, &passes)?;
-        let shared = Shared {
+        let context = Context {
             rt,
             alloc,
             front: &front,
@@ -169,7 +169,7 @@ impl<N: Names + Send + Sync> Server<N> {
             cuts: settings.cuts,
         };
         let reloading = upkeep.reloading(alloc, lobby.logins()?, now);
-        let passes = places.serve(&shared, &settings, listener, passes, reloading, keeper)?;
+        let passes = places.serve(&context, &settings, listener, passes, reloading, keeper)?;
         align(rt, &front, &board)?;
         let closed = match front.close(alloc, passes) {
             Ok(closed) => closed,

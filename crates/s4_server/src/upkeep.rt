@@ -23,12 +23,12 @@ pub struct Upkeep<'a> {
 
 impl<'a> Upkeep<'a> {
     /// Who reads the logins again, from now on, beginning with this table.
-    pub fn reloading(&self, alloc: Global, table: Arc<Logins>, now: u64) -> Reloading<'a> {
+    pub(crate) fn reloading(&self, alloc: Global, table: Arc<Logins>, now: u64) -> Reloading<'a> {
         Reloading::new(alloc, self.files, self.logins, self.reload, table, now)
     }
 
     /// Whether the server is to end: the file is there. Where that can't be told it isn't.
-    pub fn is_over(&self) -> bool {
+    pub(crate) fn is_over(&self) -> bool {
         match self.until {
             Some(path) => fs::exists(self.files, path).unwrap_or(false),
             None => false,

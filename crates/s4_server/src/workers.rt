@@ -4,11 +4,11 @@ ghost use Rattle.std.specs.Prelude.{◌≡◌};
 ghost use Rattle.s4_server.specs.Places.{AreOf};
 
 use crate::claims::Claimant;
+use crate::context::Context;
 use crate::desk::Desk;
 use crate::quiet::move_on;
-use crate::threads::Shared;
 use s4_jobs::{Jobs, Seat};
-use s4_pool::{Names, OpenGate, Pass};
+use s4_pool::{Names, Pass};
 use s4_sockets::{Connection, Peers, Post, Ticks, Watch};
 use s4_types::NoMemory;
 use std::alloc::Global;
@@ -23,7 +23,7 @@ const NAP: u64 = 1;
 /// A worker's place: where it takes connections, where it waits for what their peers say, and where
 /// it answers their requests.
 #[derive(Drop)]
-pub struct Worker<'a, R, C, N: Names> {
+pub(crate) struct Worker<'a, R, C, N: Names> {
     jobs: &'a Jobs<Connection>,
     seat: Seat<Connection>,
     /// How many connections it took.
@@ -32,13 +32,13 @@ pub struct Worker<'a, R, C, N: Names> {
     watch: Watch,
     peers: Peers,
     claimant: Claimant,
-    desk: Desk<'a, R, C, OpenGate, N>,
-    pub ghost same: { seat.queue ≡ jobs.now.queue },
+    desk: Desk<'a, R, C, N>,
+    pub(crate) ghost same: { seat.queue ≡ jobs.now.queue },
 }
 
 /// A worker for each seat, pass, watch and post.
-pub fn staff<'a, R, C, N: Names>(
-    shared: &Shared<'a, R, C, N>,
+pub(crate) fn staff<'a, R, C, N: Names>(
+    context: &'a Context<'a, R, C, N>,
     jobs: &'a Jobs<Connection>,
     seats: Vec<Seat<Connection>>,
     passes: Vec<Pass<N>>,
@@ -47,19 +47,16 @@ pub fn staff<'a, R, C, N: Names>(
     requires { AreOf jobs.now.queue seats.items }
 {
     let mut seats = seats;
-    let mut workers = Vec::new(shared.alloc);
-    let places = shared
+    let mut workers = Vec::new(context.alloc);
+    let places = context
         .posts
         .iter()
-        .zip(shared.board.notebook.workers().iter());
+        .zip(context.board.notebook.workers().iter());
     let places = watches.into_iter().zip(places);
     for (pass, (watch, (post, notes))) in passes.into_iter().zip(places) {
         if let Some(seat) = seats.pop() {
             let desk = Desk {
-                rt: shared.rt,
-                clock: shared.clock,
-                front: shared.front,
-                tally: &shared.board.tally,
+                context,
                 notes,
                 connection: 0,
                 pass,
@@ -70,7 +67,7 @@ pub fn staff<'a, R, C, N: Names>(
                 taken: 0,
                 post,
                 watch,
-                peers: Peers::new(shared.alloc),
+                peers: Peers::new(context.alloc),
                 claimant: Claimant::new(),
                 desk,
             })?;
@@ -80,7 +77,7 @@ pub fn staff<'a, R, C, N: Names>(
 }
 
 /// The passes of all workers.
-pub fn gather<R, C, N: Names>(
+pub(crate) fn gather<R, C, N: Names>(
     alloc: Global,
     workers: Vec<Worker<'_, R, C, N>>,
 ) -> Result<Vec<Pass<N>>, NoMemory> {
@@ -94,24 +91,25 @@ pub fn gather<R, C, N: Names>(
 impl<R: Wait + Clock, C: Ticks, N: Names> Worker<'_, R, C, N> {
     /// Serves the connections that it is given, until no more are accepted and all of its own have
     /// ended.
-    pub fn run(&mut self, shared: &Shared<'_, R, C, N>) {
+    pub(crate) fn run(&mut self) {
+        let context = self.desk.context;
         self.post.begin();
-        if !shared.board.start.is_made(shared.rt) {
+        if !context.board.start.is_made(context.rt) {
             return;
         }
-        for _ in shared.rt.forever() {
-            let last = shared.board.accepted.load(Ordering::SeqCst);
-            self.take(shared);
+        for _ in context.rt.forever() {
+            let last = context.board.accepted.load(Ordering::SeqCst);
+            self.take();
             if last && self.taken == self.post.given() && self.peers.is_empty() {
                 return;
             }
-            self.go_round(shared);
+            self.go_round();
         }
     }
 
     /// Takes in the connections that it was given. One for which there is no memory, or that can't
     /// be watched, is closed.
-    fn take(&mut self, shared: &Shared<'_, R, C, N>) {
+    fn take(&mut self) {
         for _ in self.taken..self.post.given() {
             let Worker {
                 jobs,
@@ -123,10 +121,11 @@ impl<R: Wait + Clock, C: Ticks, N: Names> Worker<'_, R, C, N> {
                 desk,
                 ..
             } = &mut *self;
-            if let Some(connection) = jobs.take(shared.rt, seat) {
+            let context = desk.context;
+            if let Some(connection) = jobs.take(context.rt, seat) {
                 *taken = taken.wrapping_add(1);
-                let now = shared.board.time.load(Ordering::SeqCst);
-                if !peers.admit(shared.lobby, desk, watch, connection, now) {
+                let now = context.board.time.load(Ordering::SeqCst);
+                if !peers.admit(context.lobby, desk, watch, connection, now) {
                     post.end(1);
                 }
             }
@@ -144,7 +143,7 @@ impl<R: Wait + Clock, C: Ticks, N: Names> Worker<'_, R, C, N> {
     }
 
     /// Waits until something is told, and serves whom it is told of.
-    fn go_round(&mut self, shared: &Shared<'_, R, C, N>) {
+    fn go_round(&mut self) {
         let patience = self.patience();
         let Worker {
             post,
@@ -154,20 +153,21 @@ impl<R: Wait + Clock, C: Ticks, N: Names> Worker<'_, R, C, N> {
             desk,
             ..
         } = self;
+        let context = desk.context;
         let before = peers.len();
         let events = watch.wait(patience);
-        let now = shared.board.time.load(Ordering::SeqCst);
+        let now = context.board.time.load(Ordering::SeqCst);
         let calls = desk.pass.receipts().len();
-        peers.serve(shared.lobby, desk, events, now);
-        if peers.look(shared.lobby, desk, now) {
+        peers.serve(context.lobby, desk, events, now);
+        if peers.look(context.lobby, desk, now) {
             post.show(&peers.states());
-            move_on(shared, desk);
+            move_on(desk);
         }
-        if shared.cuts {
+        if context.cuts {
             let made = desk.pass.receipts().len().saturating_sub(calls);
-            claimant.look(shared, post, desk, made);
+            claimant.look(post, desk, made);
         }
-        if shared.lobby.is_over() {
+        if context.lobby.is_over() {
             peers.end(desk, now);
         }
         let ended = before.saturating_sub(peers.len());

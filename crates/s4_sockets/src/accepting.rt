@@ -25,7 +25,6 @@ const PAUSE: u64 = 10;
 const LOOK: u64 = 100;
 
 /// Where connections come in: a listener that is watched, and which connections are let in.
-#[derive(Drop)]
 pub struct Door<'a, R> {
     listener: &'a TcpListener,
     watch: Watch,
@@ -37,6 +36,20 @@ pub struct Door<'a, R> {
     notes: &'a Notes,
 }
 
+// Written out, so that no crate above proves how a watch is dropped.
+impl<R> Drop for Door<'_, R> {
+    fn drop(self) {
+        let Door {
+            listener: _,
+            watch: _,
+            posts: _,
+            most: _,
+            lobby: _,
+            notes: _,
+        } = self;
+    }
+}
+
 impl<'a, R> Door<'a, R> {
     /// A door at this listener.
     pub fn new(
@@ -46,7 +59,9 @@ impl<'a, R> Door<'a, R> {
         most: u32,
         lobby: &'a Lobby<'a, R>,
         notes: &'a Notes,
-    ) -> Door<'a, R> {
+    ) -> Door<'a, R>
+        ensures { result.most ≡ most }
+    {
         // Where this fails each connection may wait for some tenths of a second.
         let _ = watch.add_listener(listener);
         Door {

@@ -20,7 +20,7 @@ const DELAY: u64 = 1000;
 const SPAN: u64 = 60000;
 
 /// The failed logins of a principal: their count, and when the last two came, in milliseconds.
-#[derive(Clone, Copy, Debug, PartialEq, Eq)]
+#[derive(Clone, Copy)]
 pub(crate) struct Failures {
     pub count: u64,
     pub last: u64,
@@ -112,11 +112,22 @@ impl Attempts {
 }
 
 /// How many logins failed: in all, by principal, and of the principals that aren't counted apart.
-#[derive(Drop, Serialize)]
+#[derive(Serialize)]
 pub struct FailedLogins {
     pub all: u64,
     pub others: u64,
     pub principals: Vec<FailedBy>,
+}
+
+// Written out, so that no crate above proves how they are dropped.
+impl Drop for FailedLogins {
+    fn drop(self) {
+        let FailedLogins {
+            all: _,
+            others: _,
+            principals: _,
+        } = self;
+    }
 }
 
 /// How many logins of a principal failed.

@@ -37,7 +37,7 @@ impl Leaving {
 }
 
 /// What a read came to that nobody looks at.
-#[derive(Clone, Copy, Debug, PartialEq, Eq)]
+#[derive(Clone, Copy)]
 pub(crate) enum Drained {
     /// There may be more.
     Some,

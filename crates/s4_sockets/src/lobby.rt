@@ -1,5 +1,7 @@
 //! What the connections of a server go by.
 
+ghost use Rattle.std.specs.Prelude.{◌≡◌, IfOk};
+
 use crate::attempts::{Attempts, FailedLogins};
 use crate::tables::{Table, Tables};
 use s4_command::Patience;
@@ -43,7 +45,9 @@ impl<'a, R> Lobby<'a, R> {
         alloc: Global,
         logins: Logins,
         patience: Patience,
-    ) -> Result<Lobby<'a, R>, NoMemory> {
+    ) -> Result<Lobby<'a, R>, NoMemory>
+        ensures { IfOk result (λ lobby. lobby.patience ≡ patience) }
+    {
         Ok(Lobby {
             rt,
             tables: Tables::new(alloc, logins)?,

@@ -7,7 +7,7 @@ const LENGTH: usize = 14;
 
 /// The first bytes that were heard on a connection, up to those that name who wants to log in, and
 /// as which client (docs/PROTOCOL.md, "Greeting").
-#[derive(Clone, Copy, Debug)]
+#[derive(Clone, Copy)]
 pub(crate) struct Opening {
     bytes: [u8; LENGTH],
     count: usize,

@@ -1,5 +1,9 @@
 //! The peers of a worker.
 
+ghost use Rattle.std.specs.Prelude.{◌≡◌, ◌≢◌, ◌==◌, ◌<◌, true, false, None, IsSome};
+ghost use Rattle.std.specs.VecDeque.{deque_len};
+ghost use Rattle.slab.specs.Slab.{slab_len};
+
 use crate::connection::Connection;
 use crate::host::{Host, tell};
 use crate::lobby::Lobby;
@@ -41,7 +45,10 @@ impl Drop for Peers {
 
 impl Peers {
     /// No peers. Takes no memory.
-    pub fn new(alloc: Global) -> Peers {
+    pub fn new(alloc: Global) -> Peers
+        ensures none { slab_len result.places ≡ 0 }
+        ensures looked { result.looked ≡ 0 }
+    {
         Peers {
             alloc,
             places: Slab::new(alloc),
@@ -51,17 +58,24 @@ impl Peers {
     }
 
     /// How many peers there are.
-    pub fn len(&self) -> usize {
+    pub fn len(&self) -> usize
+        ensures { result ≡ slab_len self.now.places }
+    {
         self.places.len()
     }
 
     /// Whether there are none.
-    pub fn is_empty(&self) -> bool {
+    pub fn is_empty(&self) -> bool
+        ensures { result ≡ (slab_len self.now.places == 0) }
+    {
         self.places.is_empty()
     }
 
     /// How long a wait may be: not at all where some go on at once, else until something is told.
-    pub fn patience(&self) -> Option<Duration> {
+    pub fn patience(&self) -> Option<Duration>
+        ensures waits { deque_len self.now.eager ≡ 0 → result ≡ None }
+        ensures at_once { 0 < deque_len self.now.eager → IsSome result }
+    {
         if self.eager.is_empty() {
             None
         } else {
@@ -182,7 +196,11 @@ impl Peers {
     /// Looks after all, once at each time: closes those that were idle for too long, or whose login
     /// isn't in the newest table any more, and has those go on whose answer had to wait and is due.
     /// Tells whether it was time for that.
-    pub fn look<R: Wait, H: Host>(&mut self, lobby: &Lobby<'_, R>, host: &H, now: u64) -> bool {
+    pub fn look<R: Wait, H: Host>(&mut self, lobby: &Lobby<'_, R>, host: &H, now: u64) -> bool
+        ensures once { now ≡ self.old.looked → result ≡ false }
+        ensures again { now ≢ self.old.looked → result ≡ true }
+        ensures looked { self.new.looked ≡ now }
+    {
         if now == self.looked {
             return false;
         }

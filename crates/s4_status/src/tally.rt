@@ -5,13 +5,19 @@ use std::alloc::Global;
 use std::sync::atomic::{AtomicU64, Ordering};
 
 /// How many numbers there are of refusals, 0 among them, which stands for all other replies.
-pub const KINDS: usize = 17;
+pub(crate) const KINDS: usize = 17;
 
 /// What the threads of a server count together.
-#[derive(Drop)]
 pub struct Tally {
     /// The replies, by the number of their refusal.
     replies: Vec<AtomicU64>,
+}
+
+// Written out, so that no crate above proves how counts are dropped.
+impl Drop for Tally {
+    fn drop(self) {
+        let Tally { replies: _ } = self;
+    }
 }
 
 impl Tally {
@@ -32,7 +38,7 @@ impl Tally {
     }
 
     /// How many replies there were with this number of a refusal.
-    pub fn replies(&self, number: usize) -> u64 {
+    pub(crate) fn replies(&self, number: usize) -> u64 {
         match self.replies.get(number) {
             Some(count) => count.load(Ordering::SeqCst),
             None => 0,

@@ -1,17 +1,15 @@
 //! What a server tells of itself (docs/OPERATIONS.md, "Status").
 
+ghost use Rattle.std.specs.Prelude.{◌≡◌, ◌+◌, ◌-◌, ◌^◌, ◌++◌, ◌∷◌, [], min, OnOk};
+
+use crate::journal::JournalStatus;
 use crate::tally::{KINDS, Tally};
-use crate::threads::Shared;
-use s4_keeping::{FileKept, Keeper, Kept};
-use s4_pool::{Measure, Names};
-use s4_sockets::{FailedLogins, Lobby, Post, States, Ticks};
+use s4_sockets::{FailedLogins, Lobby, Post, States};
 use s4_types::NoMemory;
 use serde::Serialize;
-use std::alloc::Global;
-use std::sync::Wait;
 
 /// What a server tells of itself at a moment.
-#[derive(Drop, Serialize)]
+#[derive(Serialize)]
 pub struct Status {
     pub moment: u64,
     /// The port at which it listens.
@@ -29,28 +27,23 @@ pub struct Status {
     pub journal: Option<JournalStatus>,
 }
 
-/// The journal of a server.
-#[derive(Drop, Serialize)]
-pub struct JournalStatus {
-    /// The number of the start.
-    pub start: u64,
-    /// How many bytes its records have.
-    pub bytes: u64,
-    /// The newest sum of the records, as hexadecimal digits.
-    pub sum: String,
-    pub calls: FileStatus,
-    pub connections: FileStatus,
-    /// Whether it couldn't be written when that was last tried.
-    pub fails: bool,
-}
-
-/// A further file of a journal.
-#[derive(Drop, Serialize)]
-pub struct FileStatus {
-    /// How many bytes it has.
-    pub bytes: u64,
-    /// The newest sum, as hexadecimal digits.
-    pub sum: String,
+// Written out, so that no crate above proves how its parts are dropped.
+impl Drop for Status {
+    fn drop(self) {
+        let Status {
+            moment: _,
+            port: _,
+            resident_bytes: _,
+            connections: _,
+            failed_logins: _,
+            records: _,
+            values: _,
+            cells: _,
+            replies: _,
+            refusals: _,
+            journal: _,
+        } = self;
+    }
 }
 
 /// The connections of a server.
@@ -101,44 +94,9 @@ pub struct Refusals {
     pub no_memory: u64,
 }
 
-impl From<Measure> for CellStatus {
-    fn from(measure: Measure) -> CellStatus {
-        CellStatus {
-            records: measure.records,
-            values: measure.values,
-            last: measure.last.tick(),
-            horizon: measure.horizon.tick(),
-        }
-    }
-}
-
-impl JournalStatus {
-    /// What is told of a journal that is so far.
-    fn of(alloc: Global, kept: Kept) -> Result<JournalStatus, NoMemory> {
-        Ok(JournalStatus {
-            start: kept.start,
-            bytes: kept.records.bytes,
-            sum: hex::encode(alloc, kept.records.sum.as_slice())?,
-            calls: FileStatus::of(alloc, kept.calls)?,
-            connections: FileStatus::of(alloc, kept.events)?,
-            fails: kept.fails,
-        })
-    }
-}
-
-impl FileStatus {
-    /// What is told of a file that is so far.
-    fn of(alloc: Global, kept: FileKept) -> Result<FileStatus, NoMemory> {
-        Ok(FileStatus {
-            bytes: kept.bytes,
-            sum: hex::encode(alloc, kept.sum.as_slice())?,
-        })
-    }
-}
-
 impl Refusals {
     /// Those that were counted.
-    fn of(tally: &Tally) -> Refusals {
+    pub fn of(tally: &Tally) -> Refusals {
         Refusals {
             denied: tally.replies(1),
             no_object: tally.replies(2),
@@ -162,7 +120,7 @@ impl Refusals {
 
 impl Connections {
     /// Those that the workers were given.
-    fn of<R>(posts: &[Post], lobby: &Lobby<'_, R>) -> Connections {
+    pub fn of<R>(posts: &[Post], lobby: &Lobby<'_, R>) -> Connections {
         let mut all = Connections {
             accepted: 0,
             turned_away: lobby.turned_away(),
@@ -188,50 +146,20 @@ impl Connections {
 }
 
 impl Status {
-    /// What the server tells now.
-    pub fn now<R: Wait, C: Ticks, N: Names>(
-        shared: &Shared<'_, R, C, N>,
-        keeper: Option<&Keeper>,
-        resident_bytes: Option<u64>,
-    ) -> Result<Status, NoMemory> {
-        let mut status = Status {
-            moment: shared.clock.moment().tick(),
-            port: shared.port,
-            resident_bytes,
-            connections: Connections::of(shared.posts, shared.lobby),
-            failed_logins: shared.lobby.failed_logins(shared.alloc)?,
-            records: 0,
-            values: 0,
-            cells: Vec::new(shared.alloc),
-            replies: 0,
-            refusals: Refusals::of(&shared.board.tally),
-            journal: match keeper {
-                Some(keeper) => Some(JournalStatus::of(shared.alloc, keeper.kept())?),
-                None => None,
-            },
-        };
-        status.count_cells(shared)?;
-        status.count_replies(&shared.board.tally);
-        Ok(status)
-    }
-
-    /// Adds what the cells hold.
-    fn count_cells<R: Wait, C, N: Names>(
-        &mut self,
-        shared: &Shared<'_, R, C, N>,
-    ) -> Result<(), NoMemory> {
-        for cell in 0..shared.cells {
-            if let Some(measure) = shared.front.measure(shared.rt, cell) {
-                self.records = self.records.saturating_add(measure.records);
-                self.values = self.values.saturating_add(measure.values);
-                self.cells.push(CellStatus::from(measure))?;
-            }
-        }
+    /// Adds what a cell holds.
+    pub fn add_cell(&mut self, cell: CellStatus) -> Result<(), NoMemory>
+        ensures cells { OnOk result (self.new.cells.items ≡ self.old.cells.items ++ cell ∷ []) }
+        ensures records { self.new.records ≡ min (self.old.records + cell.records) (2 ^ 64 - 1) }
+        ensures values { self.new.values ≡ min (self.old.values + cell.values) (2 ^ 64 - 1) }
+    {
+        self.records = self.records.saturating_add(cell.records);
+        self.values = self.values.saturating_add(cell.values);
+        self.cells.push(cell)?;
         Ok(())
     }
 
     /// Adds up all replies.
-    fn count_replies(&mut self, tally: &Tally) {
+    pub fn add_replies(&mut self, tally: &Tally) {
         for number in 0..KINDS {
             self.replies = self.replies.saturating_add(tally.replies(number));
         }

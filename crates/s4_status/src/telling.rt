@@ -1,16 +1,11 @@
 //! Where a server tells of itself.
 
-ghost use Rattle.std.specs.Prelude.{◌≡◌, ◌++◌, IfOk, codes, string_bytes};
+ghost use Rattle.std.specs.Prelude.{◌≡◌, ◌++◌, None, IfOk, codes, string_bytes};
 
 use crate::status::Status;
-use crate::threads::Shared;
-use crate::upkeep::Upkeep;
 use s4_keeping::Keeper;
-use s4_pool::Names;
-use s4_sockets::Ticks;
+use s4_types::NoMemory;
 use std::alloc::{AllocError, Global};
-use std::sync::Wait;
-use std::sync::atomic::Ordering;
 use std::{fs, io};
 
 /// After how many milliseconds a server tells of itself again.
@@ -19,10 +14,19 @@ const EVERY: u64 = 1000;
 /// How many bytes a page of memory has.
 const PAGE: u64 = 4096;
 
+/// Who knows how a server is.
+pub trait Teller {
+    /// How the server is now, whose journal this one keeps, and whose process has so much memory. It
+    /// may wait.
+    fn status(&self, keeper: Option<&Keeper>, resident: Option<u64>) -> Result<Status, NoMemory>;
+}
+
 /// Who tells of the server in a file.
 #[derive(Drop)]
 pub struct Telling<'a> {
-    upkeep: &'a Upkeep<'a>,
+    files: &'a HostRuntime,
+    /// The path of the file; none where nothing is told.
+    path: Option<&'a str>,
     /// When it was last told, in milliseconds.
     told: Option<u64>,
     /// The last time it couldn't be told, and that was said.
@@ -31,9 +35,12 @@ pub struct Telling<'a> {
 
 impl<'a> Telling<'a> {
     /// Nothing was told.
-    pub fn new(upkeep: &'a Upkeep<'a>) -> Telling<'a> {
+    pub fn new(files: &'a HostRuntime, path: Option<&'a str>) -> Telling<'a>
+        ensures { result.told ≡ None }
+    {
         Telling {
-            upkeep,
+            files,
+            path,
             told: None,
             failed: false,
         }
@@ -41,45 +48,42 @@ impl<'a> Telling<'a> {
 
     /// Tells how the server is, where there is a file for that and it is time. Where it can't, it
     /// says so on standard error, once until it can again.
-    pub fn tell<R: Wait + Eprint, C: Ticks, N: Names>(
+    pub fn tell<R: Eprint, T: Teller>(
         &mut self,
-        shared: &Shared<'_, R, C, N>,
+        rt: &R,
+        teller: &T,
         keeper: Option<&Keeper>,
-    ) {
-        let now = shared.board.time.load(Ordering::SeqCst);
+        now: u64,
+    )
+        ensures { self.old.path ≡ None → self.new ≡ self.old }
+    {
         let is_told = self
             .told
             .is_some_and(|told| now.saturating_sub(told) < EVERY);
-        let Some(path) = self.upkeep.status else {
+        let Some(path) = self.path else {
             return;
         };
         if is_told {
             return;
         }
         self.told = Some(now);
-        let written = self.write(shared, keeper, path);
+        let written = self.write(teller, keeper, path);
         if written.is_err() && !self.failed {
             // Where this can't be written, nobody is told.
-            let _ = eprintln!(shared.rt; "s4d: cannot write {path}");
+            let _ = eprintln!(rt; "s4d: cannot write {path}");
         }
         self.failed = written.is_err();
     }
 
     /// Writes how the server is into a file beside the one that is wanted, and has it take that
     /// one's place.
-    fn write<R: Wait, C: Ticks, N: Names>(
-        &self,
-        shared: &Shared<'_, R, C, N>,
-        keeper: Option<&Keeper>,
-        path: &str,
-    ) -> io::Result<()> {
-        let alloc = shared.alloc;
-        let files = self.upkeep.files;
-        let status = Status::now(shared, keeper, resident(files))?;
+    fn write<T: Teller>(&self, teller: &T, keeper: Option<&Keeper>, path: &str) -> io::Result<()> {
+        let alloc = self.files.alloc();
+        let status = teller.status(keeper, resident(self.files))?;
         let text = serde_json::to_string(alloc, &status).map_err(|_| AllocError)?;
         let beside = beside(alloc, path)?;
-        fs::write(files, beside.as_str(), text.as_str())?;
-        fs::rename(files, beside.as_str(), path)
+        fs::write(self.files, beside.as_str(), text.as_str())?;
+        fs::rename(self.files, beside.as_str(), path)
     }
 }
 
