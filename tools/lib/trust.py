@@ -21,7 +21,7 @@ THEOREMS = [
     ("threads that share cells, once closed: one history, counts, and isolation of replies where uncut", "s4_pool", "closes.rt", "Front::close", ()),
     ("a server that has ended: the same", "s4_server", "server.rt", "Server::run", ()),
     ("what `s4d strike` writes of the lines that it kept", "s4_run", "strike.rt", "Script::write_struck", ("written",)),
-    ("one turn of a connection of a server", "s4_server", "conversation.rt", "Conversation::turn", ()),
+    ("one turn of a connection of a server", "s4_sockets", "conversation.rt", "Conversation::turn", ()),
     ("one call by `s4d call`", "s4_commands", "calling.rt", "call_over", ()),
     ("a map of chains", "s4_store", "store.rt", "Store", ()),
 ]
