@@ -40,7 +40,10 @@ fn the_secret_of_a_login_is_accepted(rt: HostRuntime) -> Result<(), Fail> {
 fn logins_that_fail_cannot_be_read(rt: HostRuntime) {
     let mut failing = Slow::failing(SEVEN, ErrorKind::BrokenPipe);
     let read = read_logins(rt.alloc(), &mut failing);
-    assert_eq!(rt; read.err().map(RunFault::from), Some(RunFault::CannotReadLogins));
+    assert_eq!(rt;
+        read.err().map(RunFault::from),
+        Some(RunFault::CannotReadLogins)
+    );
 }
 
 #[test]
