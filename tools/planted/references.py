@@ -4,10 +4,10 @@ import shutil
 import tempfile
 from pathlib import Path
 
-from tools.checks.references import wrong
 from tools.lib.findings import tell
 from tools.lib.page_bounds import MOST_BYTES, MOST_WORDS, ROWS, faults_of_sentences, faults_of_sizes, pages_at
 from tools.lib.pages import MADE, Checkout, wrong_references
+from tools.lib.picture_names import faults_of_pictures
 from tools.lib.programs import TOP
 from tools.lib.trust import PAGE, wrong_trust
 
@@ -73,6 +73,12 @@ def put(path, text):
     path.write_text(f"{path.read_text(encoding='utf-8')}\n{text}\n", encoding="utf-8")
 
 
+def found_in(room):
+    """The wrong references of a copy, in pages, code and pictures."""
+    checkout = Checkout(room)
+    return {*wrong_references(checkout), *faults_of_pictures(checkout)}
+
+
 def put_faults(room, before):
     """What isn't found of what is put at the ends of files, and what is found though nothing is wrong with it."""
     kept, wanted = {}, {}
@@ -82,7 +88,7 @@ def put_faults(room, before):
         kept.setdefault(path, old)
         wanted |= {(file, old.count("\n") + 2): fault} if fault else {}
         put(path, text)
-    found = {(it.file, it.line): it.fault for it in wrong(Checkout(room)) if it not in before}
+    found = {(it.file, it.line): it.fault for it in found_in(room) - before}
     for path, text in kept.items():
         path.write_text(text, encoding="utf-8")
     for place in sorted(wanted.keys() | found.keys()):
@@ -130,7 +136,7 @@ def self_test(_):
         room = Path(folder) / "copy"
         shutil.copytree(TOP, room, ignore=lambda _, names: [it for it in names if it in MADE or it in ("proofs", "wrong", "must-fail")])
         cite(room)
-        before = set(wrong(Checkout(room)))
+        before = {*found_in(room), *wrong_trust(room)}
         faults = [*put_faults(room, before), *renamed_faults(room, before), *bounds_faults(room)]
     count = sum(it[2] is not None for it in PUT) + len(RENAMED) + len(MOST_BYTES) + sum(it[1] for it in SCREENS)
     return tell([f"references: {it}" for it in faults], f"references: {count} planted references are found")
