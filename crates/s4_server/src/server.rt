@@ -30,8 +30,8 @@ use s4_types::{Caller, Moment, NoMemory, Reply, Request};
 use std::alloc::Global;
 use std::marker::Model;
 use std::net::{Net, TcpListener};
-use std::sync::Wait;
 use std::sync::atomic::Ordering;
+use std::sync::{Arc, Wait};
 use std::thread::Threads;
 use std::time::Clock;
 
@@ -152,9 +152,8 @@ impl<N: Names + Send + Sync> Server<N> {
             places,
         } = self;
         let now = clock.moment().tick();
-        let lobby = Lobby::new(rt, alloc, logins, settings.patience)?;
-        let board = Board::new(alloc, settings.workers, now, keeper.is_some())?;
-        note_passes(rt, &board.notebook, &passes)?;
+        let keeps = keeper.is_some();
+        let (lobby, board, table) = begun(rt, alloc, &settings, logins, keeps, now, &passes)?;
         let context = Context {
             rt,
             alloc,
@@ -168,7 +167,7 @@ impl<N: Names + Send + Sync> Server<N> {
             posts: posts.as_slice(),
             cuts: settings.cuts,
         };
-        let reloading = upkeep.reloading(alloc, lobby.logins()?, now);
+        let reloading = upkeep.reloading(alloc, table, now);
         let passes = places.serve(&context, &settings, listener, passes, reloading, keeper)?;
         align(rt, &front, &board)?;
         let closed = match front.close(alloc, passes) {
@@ -181,6 +180,24 @@ impl<N: Names + Send + Sync> Server<N> {
         }
         Ok(closed)
     }
+}
+
+/// What connections go by, what threads tell each other, and the login table, in a server that begins
+/// now. The calls that the passes have are noted, where the server `keeps` a journal.
+fn begun<'a, R: Wait, N: Names>(
+    rt: &'a R,
+    alloc: Global,
+    settings: &Settings,
+    logins: Logins,
+    keeps: bool,
+    now: u64,
+    passes: &[Pass<N>],
+) -> Result<(Lobby<'a, R>, Board, Arc<Logins>), NoMemory> {
+    let lobby = Lobby::new(rt, alloc, logins, settings.patience)?;
+    let board = Board::new(alloc, settings.workers, now, keeps)?;
+    note_passes(rt, &board.notebook, passes)?;
+    let table = lobby.logins()?;
+    Ok((lobby, board, table))
 }
 
 /// Has all cells be cut at one moment: the greatest to which one of them was.
