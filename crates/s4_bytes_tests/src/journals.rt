@@ -7,10 +7,22 @@ mod example;
 mod lines;
 mod scribes;
 
-use crate::journals::example::{CALLS, FIRST, FRONT, JOURNAL, TOLD, header_sum, held, record};
-use s4_journal::{Batch, Calls, Sum, Writer};
+use crate::journals::example::{
+    CALLS, FIRST, FRONT, JOURNAL, TOLD, header, header_sum, held, record,
+};
+use s4_journal::{Batch, Calls, Sum, Writer, open};
 use std::alloc::Global;
 use std::test::Fail;
+
+#[test]
+fn a_header_is_read(rt: HostRuntime) -> Result<(), Fail> {
+    let journal = hex::decode(rt.alloc(), JOURNAL)?;
+    let Ok((fields, _)) = open(&journal) else {
+        return Err("a header".into());
+    };
+    assert!(rt; fields == header());
+    Ok(())
+}
 
 /// The sum of the journal's first block.
 fn first_sum(alloc: Global, journal: &[u8]) -> Result<Sum, Fail> {
