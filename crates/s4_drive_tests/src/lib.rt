@@ -1,14 +1,15 @@
-//! Tests of the state and the drive. What is proved stands in their crates; here stands what no
-//! clause says. Scripts and what they are told are rows of `s4_row_tests`.
+//! Tests of the state and the drive: rows of data say what is called and what has to be answered. What
+//! is proved stands in their crates; here stands what no clause says. What the program shows is tested
+//! from outside.
 #![tactic(auto)]
 
+#[cfg(test)]
+mod asked;
 #[cfg(test)]
 mod counting;
 #[cfg(test)]
 mod drive;
 #[cfg(test)]
-mod given;
-#[cfg(test)]
 mod state;
 #[cfg(test)]
-mod versions;
+mod values;
