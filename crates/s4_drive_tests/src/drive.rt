@@ -91,30 +91,56 @@ fn check_row(
     check_spent(rt, drive, row)
 }
 
-/// That a drive which is given all rows at once, each with a sweep behind it, answers so.
-fn check_at_once(rt: &impl Abort, alloc: Global, rows: &[Row]) -> Result<(), Fail> {
-    let (of, reads) = (object((7, 0), 1)?, Cell::new(0));
+/// That a drive answers all rows in turn, and sees the records come.
+fn check_rows(
+    rt: &impl Abort,
+    alloc: Global,
+    drive: &mut Drive<Counting>,
+    reads: &Cell<usize>,
+    rows: &[Row],
+) -> Result<(), Fail> {
+    assert_eq!(rt; drive.last(), Moment::new(0));
+    for (index, row) in rows.iter().enumerate() {
+        assert_eq!(rt; drive.history().len(), index);
+        check_row(rt, alloc, drive, reads, row)?;
+    }
+    assert_eq!(rt; drive.history().len(), rows.len());
+    Ok(())
+}
+
+/// The steps of these rows, with a sweep behind each.
+fn steps(alloc: Global, rows: &[Row]) -> Result<Vec<Step>, Fail> {
+    let (of, caller) = (object((7, 0), 1)?, caller(7)?);
     let mut steps = Vec::new(alloc);
     for row in rows {
         steps.push(Step::Request {
             moment: Moment::new(row.0),
-            caller: caller(7)?,
+            caller,
             request: request(alloc, &of, &row.1)?,
         })?;
         steps.push(Step::Sweep { n: 1 })?;
     }
-    let mut drive = fresh(alloc, &reads, 100);
+    Ok(steps)
+}
+
+/// That a drive which is given all rows at once answers so.
+fn check_at_once(
+    rt: &impl Abort,
+    alloc: Global,
+    drive: &mut Drive<Counting>,
+    rows: &[Row],
+) -> Result<(), Fail> {
+    let (of, steps) = (object((7, 0), 1)?, steps(alloc, rows)?);
     assert!(rt; !never_down(Moment::new(u64::MAX), &steps));
     assert!(rt; never_down(drive.last(), &steps));
     let replies = drive.run(&steps)?;
-    assert_eq!(rt;
-        (drive.history().len(), replies.len()),
-        (rows.len(), rows.len())
-    );
+    assert_eq!(rt; drive.history().len(), rows.len());
+    assert_eq!(rt; replies.len(), rows.len());
     for (told, row) in replies.iter().zip(rows) {
-        assert_eq!(rt; *told, reply(alloc, &of, &row.2)?, "at {}", row.0);
+        let wanted = reply(alloc, &of, &row.2)?;
+        assert!(rt; *told == wanted, "at {}", row.0);
     }
-    check_spent(rt, &drive, rows.last().ok_or("a row")?)
+    check_spent(rt, drive, rows.last().ok_or("a row")?)
 }
 
 #[test]
@@ -122,14 +148,8 @@ fn steps_are_answered(rt: HostRuntime) -> Result<(), Fail> {
     let alloc = rt.alloc();
     for rows in [&READ, &SPENT] {
         let reads = Cell::new(0);
-        let mut drive = fresh(alloc, &reads, 100);
-        assert_eq!(rt; drive.last(), Moment::new(0));
-        for (index, row) in rows.iter().enumerate() {
-            assert_eq!(rt; drive.history().len(), index);
-            check_row(&rt, alloc, &mut drive, &reads, row)?;
-        }
-        assert_eq!(rt; drive.history().len(), rows.len());
-        check_at_once(&rt, alloc, rows)?;
+        check_rows(&rt, alloc, &mut fresh(alloc, &reads, 100), &reads, rows)?;
+        check_at_once(&rt, alloc, &mut fresh(alloc, &reads, 100), rows)?;
     }
     Ok(())
 }

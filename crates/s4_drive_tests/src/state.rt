@@ -1,7 +1,8 @@
 //! A state without records. The calls on one with records are tried through the drive.
 
-ghost use Rattle.s4_types.specs.Log.{fresh_log};
-ghost use Rattle.std.specs.Prelude.{◌≡◌};
+ghost use Rattle.std.specs.Prelude.{◌≤◌};
+ghost use Rattle.s4_types.specs.Play.{last_of};
+ghost use Rattle.s4_state.specs.Told.{IsTold};
 
 use crate::values::{caller, name, object};
 use s4_state::State;
@@ -24,12 +25,17 @@ fn check_object(rt: &impl Abort, state: &State<PlainStore<Version>>) -> Result<(
 }
 
 /// It has empty values, and no name is bound.
-fn check_values(rt: &impl Abort, state: &State<PlainStore<Version>>) -> Result<(), Fail>
-    requires { state.now ≡ fresh_log 100 }
+fn check_values(
+    rt: &impl Abort,
+    state: &State<PlainStore<Version>>,
+    at: Option<Moment>,
+) -> Result<(), Fail>
+    requires told { IsTold state.now at }
+    requires later { last_of state.now.history ≤ 5 }
 {
-    let (object, at) = (object((7, 0), 1)?, Some(Moment::new(3)));
+    let object = object((7, 0), 1)?;
     let data = state.data(&object, at).as_slice().ok_or("data")?;
-    let attributes = state.attributes(&object, None).as_slice();
+    let attributes = state.attributes(&object, at).as_slice();
     assert!(rt; data.is_empty() && attributes.ok_or("attributes")?.is_empty());
     assert!(rt; state.acl(&object, at).is_empty());
     let purse = object.purse;
@@ -45,5 +51,6 @@ fn check_values(rt: &impl Abort, state: &State<PlainStore<Version>>) -> Result<(
 fn a_fresh_state_has_no_object_and_no_names(rt: HostRuntime) -> Result<(), Fail> {
     let state = State::new(rt.alloc(), PlainStore::new(rt.alloc()), 100);
     check_object(&rt, &state)?;
-    check_values(&rt, &state)
+    check_values(&rt, &state, Some(Moment::new(3)))?;
+    check_values(&rt, &state, None)
 }

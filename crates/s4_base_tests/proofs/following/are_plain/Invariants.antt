@@ -1,6 +1,0 @@
-use Rattle.std.proofs.Common.{drop}
-use Rattle.s4_base_tests.specs.Plain.{ArePlain}
-use Rattle.s4_base_tests.proofs.following.are_plain.Given as goal
-
-abbrev pub invariant-loop-record : goal.invariant-loop-record
-invariant-loop-record l = ArePlain (drop l.record-index l.records) → ArePlain l.records
