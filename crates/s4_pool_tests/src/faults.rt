@@ -2,112 +2,51 @@
 //! another type, and a cell is lent to be read alone. So what is asked here is `reconcile`, as a closing
 //! asks it.
 
-ghost use Rattle.std.specs.Prelude.{◌≡◌};
-
-use crate::given::{Ask, closed, is_made, open_two};
+use crate::asked::{Told, What, asked};
+use crate::fronts::check;
+use crate::lines::{Call, Check, End, Line};
 use crate::pairs::records_of_two;
-use s4_cells::Cell;
-use s4_closing::{Verdict, reconcile};
-use s4_pool::{Blank, Names, Pass};
-use std::alloc::{AllocError, Global};
+use s4_pool::Blank;
 use std::marker::Brand;
-use std::process::Abort;
-use std::sync::Wait;
 use std::test::Fail;
 
 #[test]
 fn each_of_two_fronts_has_the_calls_of_its_pass(rt: HostRuntime) -> Result<(), Fail> {
-    let one = Blank::new(rt.alloc(), 1)?;
-    let other = Blank::new(rt.alloc(), 1)?;
-    let Ask {
-        caller,
-        request,
-        ..
-    } = Ask::create(7, 5)?;
+    let alloc = rt.alloc();
+    let one = Blank::new(alloc, 1)?;
+    let other = Blank::new(alloc, 1)?;
+    let asked = asked(alloc, 7, 5, &What::Create).ok_or("a request")?;
     let records = records_of_two::<Brand, Brand, HostRuntime>(
         &rt,
-        rt.alloc(),
+        alloc,
         one,
         other,
-        caller,
-        &request,
+        asked.caller,
+        &asked.request,
     )?;
     assert_eq!(rt; records, Some((1, 0)));
     Ok(())
 }
 
-// Whether the calls of these passes and the records of these cells don't match.
-fn are_stray<N: Names>(alloc: Global, cells: &[Cell], passes: &[Pass<N>]) -> Option<bool> {
-    if cells.is_empty() {
-        return None;
-    }
-    match reconcile(alloc, 100, cells, passes) {
-        Verdict::Whole(_) => Some(false),
-        Verdict::Stray => Some(true),
-        _ => None,
-    }
-}
+/// Two passes of one cell make a call each.
+const CALLED: &[Line] = &[Line::Calls(&[
+    Call(0, 7, 5, What::Create, Told::Made(7, 1), (5, 0, 0)),
+    Call(1, 7, 6, What::Create, Told::Made(7, 2), (6, 0, 1)),
+])];
 
-// A cell and two passes with a call each, of a front that was closed.
-fn called_by_two<N: Names, R: Abort + Wait>(
-    rt: &R,
-    alloc: Global,
-    blank: Blank,
-) -> Result<(Vec<Cell>, Vec<Pass<N>>), Fail>
-    requires ledger { blank.ledger ≡ N.ledger }
-    requires names { (N.ledger.words ≡ 1) × (N.window ≡ 100) × (N.passes ≡ 2) }
-{
-    let (front, mut a, mut b) = open_two::<N>(alloc, 1, blank)?;
-    assert!(rt; is_made(rt, &front, &mut a, (7, 5), 1)?);
-    assert!(rt; is_made(rt, &front, &mut b, (7, 6), 2)?);
-    let closed = closed(alloc, front, Vec::from_array(alloc, [a, b])?)?;
-    Ok((closed.cells, closed.passes))
-}
-
-// That records without a receipt are stray, and receipts without a record.
-fn check_stray<N: Names, R: Abort + Wait>(rt: &R, alloc: Global, blank: Blank) -> Result<(), Fail>
-    requires ledger { blank.ledger ≡ N.ledger }
-    requires names { (N.ledger.words ≡ 1) × (N.window ≡ 100) × (N.passes ≡ 2) }
-{
-    let (cells, passes) = called_by_two::<N, R>(rt, alloc, blank)?;
-    let empty = [Cell::open(alloc, 100)?];
-    assert_eq!(rt; passes.len(), 2);
-    assert_eq!(rt; are_stray(alloc, &cells, &passes), Some(false));
-    assert_eq!(rt; are_stray(alloc, &cells, &passes[..1]), Some(true));
-    assert_eq!(rt; are_stray(alloc, &cells, &passes[1..]), Some(true));
-    assert_eq!(rt; are_stray(alloc, &empty, &passes[..1]), Some(true));
-    assert_eq!(rt; are_stray(alloc, &empty, &passes[..0]), Some(false));
-    Ok(())
-}
+/// Records without a receipt are stray, and receipts without a record. Cells of another window are torn.
+const FOUND: &End = &End::Closed(&[
+    Check::Found(&[], 0, 2, "whole"),
+    Check::Found(&[], 0, 1, "stray"),
+    Check::Found(&[], 1, 2, "stray"),
+    Check::Found(&[100], 0, 1, "stray"),
+    Check::Found(&[100], 0, 0, "whole"),
+    Check::Found(&[100, 100], 0, 0, "whole"),
+    Check::Found(&[100, 50], 0, 0, "torn"),
+    Check::Found(&[50, 50], 0, 0, "torn"),
+]);
 
 #[test]
-fn records_without_a_receipt_are_stray_and_receipts_without_a_record(
-    rt: HostRuntime,
-) -> Result<(), Fail> {
-    let blank = Blank::new(rt.alloc(), 1)?;
-    check_stray::<Brand, HostRuntime>(&rt, rt.alloc(), blank)
-}
-
-// Cells of these windows.
-fn two_cells(alloc: Global, first: u64, second: u64) -> Result<[Cell; 2], AllocError> {
-    Ok([Cell::open(alloc, first)?, Cell::open(alloc, second)?])
-}
-
-// Whether cells of these windows are torn, where the front's is 100.
-fn are_torn(alloc: Global, first: u64, second: u64) -> Result<bool, Fail> {
-    let cells = two_cells(alloc, first, second)?;
-    let passes: [Pass<Brand>; 0] = [];
-    Ok(matches!(&reconcile(alloc, 100, &cells, &passes), Verdict::Torn))
-}
-
-#[test]
-fn cells_of_another_window_are_torn(rt: HostRuntime) -> Result<(), Fail> {
-    for (first, second, torn) in [(100, 100, false), (100, 50, true), (50, 50, true)] {
-        assert_eq!(rt;
-            are_torn(rt.alloc(), first, second)?,
-            torn,
-            "{first} {second}"
-        );
-    }
-    Ok(())
+fn what_does_not_fit_is_stray_or_torn(rt: HostRuntime) -> Result<(), Fail> {
+    check(&rt, rt.alloc(), (1, 100, 2), CALLED, FOUND)
 }

@@ -1,112 +1,239 @@
-//! Fronts of each number of cells, with windows of all kinds.
+//! The runner of fronts: it carries out what stands in lines.
 
 ghost use Rattle.std.specs.Prelude.{◌≡◌, ◌<◌, ◌≤◌};
 
-use crate::calls::is_set;
-use crate::given::{closed, is_made, receipt};
-use s4_pool::{Blank, Front, Names, OpenGate, Pass};
+use crate::asked::{Told, What, asked, reply};
+use crate::closed::close;
+use crate::gate::{Holding, Marks};
+use crate::lines::{Act, Call, End, Forgotten, Line};
+use crate::often::ask_often;
+use crate::parts::together;
+use crate::same::same;
+use s4_pool::{Blank, Front, Names, Pass};
+use s4_types::{Moment, Reply};
 use std::alloc::Global;
 use std::marker::Brand;
-use std::process::Abort;
+use std::slice;
 use std::sync::Wait;
+use std::sync::atomic::Ordering;
 use std::test::Fail;
+use std::thread::Threads;
 
-/// A number of cells, and a window.
-struct Row(usize, u64);
-
-const ROWS: [Row; 16] = [
-    Row(1, 100),
-    Row(2, 101),
-    Row(3, 0),
-    Row(4, 1),
-    Row(5, 2),
-    Row(6, 3),
-    Row(7, 99),
-    Row(8, 1024),
-    Row(9, 1023),
-    Row(10, 65535),
-    Row(11, 65536),
-    Row(12, 4294967295),
-    Row(13, 4294967296),
-    Row(14, 9223372036854775807),
-    Row(15, 18446744073709551614),
-    Row(16, 18446744073709551615),
-];
-
-/// In so many ranges, from 1 on, an object is made.
-const RANGES: u32 = 40;
-
-// That an object is made in each range, in the cell of its number modulo that of the cells.
-fn check_ranges<N: Names, R: Abort + Wait>(
-    rt: &R,
-    front: &Front<OpenGate, N>,
-    pass: &mut Pass<N>,
-    cells: usize,
-    serial: u16,
-) -> Result<(), Fail> {
-    for range in 1..=RANGES {
-        let place = pass.receipts().len();
-        assert!(rt; is_made(rt, front, pass, (range, 5), serial)?);
-        let cell = receipt(pass, place).map(|it| it.1);
-        assert_eq!(rt;
-            cell,
-            (range as usize).checked_rem(cells),
-            "{range} of {cells}"
-        );
-    }
-    Ok(())
-}
-
-// That objects are made in all ranges, before and after the window of all cells is set.
-fn check_calls<N: Names, R: Abort + Wait>(
-    rt: &R,
-    front: &Front<OpenGate, N>,
-    passes: &mut [Pass<N>],
-    cells: usize,
-) -> Result<(), Fail> {
-    if passes.is_empty() {
-        return Err("pass 0".into());
-    }
-    let pass = &mut passes[0];
-    check_ranges(rt, front, pass, cells, 1)?;
-    assert!(rt; is_set(rt, front, pass, 5, front.window())?);
-    check_ranges(rt, front, pass, cells, 2)
-}
-
-// That a front does all that is asked, and is closed then.
-fn check_front<N: Names, R: Abort + Wait>(
+/// That a front of so many cells, with a window and so many passes, comes out as it has to.
+pub fn check<R: Threads + Wait + Sync>(
     rt: &R,
     alloc: Global,
-    cells: usize,
-    window: u64,
-    blank: Blank,
-) -> Result<(), Fail>
-    requires some { 0 < cells }
-    requires few { cells ≤ 16 }
-    requires ledger { blank.ledger ≡ N.ledger }
-    requires names { (N.ledger.words ≡ cells) × (N.window ≡ window) × (N.passes ≡ 1) }
-{
-    let (front, mut passes) = Front::<OpenGate, N>::open(alloc, window, cells, 1, OpenGate, blank)?;
-    assert_eq!(rt; front.window(), window);
-    check_calls(rt, &front, &mut passes, cells)?;
-    assert_eq!(rt; closed(alloc, front, passes)?.history.len(), 81);
-    Ok(())
-}
-
-// The same of a front of a row.
-fn check_row<R: Abort + Wait>(rt: &R, alloc: Global, row: &Row) -> Result<(), Fail> {
-    let (cells, window) = (row.0, row.1);
-    if cells == 0 || cells > 16 {
-        return Err("a number of cells".into());
+    opened: (usize, u64, u64),
+    lines: &[Line],
+    end: &End,
+) -> Result<(), Fail> {
+    let (cells, _, passes) = opened;
+    if cells == 0 || cells > 16 || passes == 0 || passes > 32 {
+        return Err("cells and passes".into());
     }
+    let marks = Marks::new();
     let blank = Blank::new(alloc, cells)?;
-    check_front::<Brand, R>(rt, alloc, cells, window, blank)
+    check_front::<Brand, R>(rt, alloc, &marks, blank, opened, lines, end)
 }
 
-#[test]
-fn each_range_has_its_cell_and_each_front_is_closed(rt: HostRuntime) -> Result<(), Fail> {
-    for row in &ROWS {
-        check_row(&rt, rt.alloc(), row)?;
+// The same with this ledger.
+fn check_front<N: Names + Send + Sync, R: Threads + Wait + Sync>(
+    rt: &R,
+    alloc: Global,
+    marks: &Marks,
+    blank: Blank,
+    opened: (usize, u64, u64),
+    lines: &[Line],
+    end: &End,
+) -> Result<(), Fail>
+    requires ledger { blank.ledger ≡ N.ledger }
+    requires cells { N.ledger.words ≡ opened.0 }
+    requires window { N.window ≡ opened.1 }
+    requires passes { N.passes ≡ opened.2 }
+    requires some { (0 < opened.0) × (0 < opened.2) }
+    requires few { (opened.0 ≤ 16) × (opened.2 ≤ 32) }
+{
+    let (cells, window, passes) = opened;
+    let gate = Holding { marks };
+    let (front, mut passes) = Front::<Holding, N>::open(alloc, window, cells, passes, gate, blank)?;
+    same("the window", &front.window(), &window)?;
+    for line in lines {
+        carry_out(rt, alloc, marks, &front, cells, &mut passes, line)?;
+    }
+    same(
+        "what the gate marked",
+        &marks.marked.load(Ordering::SeqCst),
+        &0,
+    )?;
+    close(alloc, front, passes, end)
+}
+
+fn carry_out<N: Names + Send + Sync, R: Threads + Wait + Sync>(
+    rt: &R,
+    alloc: Global,
+    marks: &Marks,
+    front: &Front<Holding<'_>, N>,
+    cells: usize,
+    passes: &mut Vec<Pass<N>>,
+    line: &Line,
+) -> Result<(), Fail>
+    requires { front.now.cells ≡ cells }
+{
+    match line {
+        Line::Calls(calls) => serve_all(rt, alloc, front, passes.as_mut_slice(), calls),
+        Line::Pass(number, act) => {
+            let pass = passes.get_mut(*number).ok_or("a pass")?;
+            check_pass(rt, front, pass, act)
+        }
+        Line::Cut(moment, at) => {
+            let found = front.cut(rt, Moment::new(*moment))?;
+            same("the cut", &found.tick(), at)
+        }
+        Line::CutOne(cell, moment, at) if *cell < cells => {
+            let found = front.cut_one(rt, *cell, Moment::new(*moment))?;
+            same("the cut of a cell", &found.tick(), at)
+        }
+        Line::Sweep(cell, most, freed) if *cell < cells => {
+            same("what is freed", &front.sweep(rt, *cell, *most), freed)
+        }
+        Line::CutOne(..) | Line::Sweep(..) => Err("a cell".into()),
+        Line::Since(cell, place, most, wanted) => {
+            let found = records_since(rt, front, *cell, *place, *most)?;
+            same("the records from a place on", &found, wanted)
+        }
+        Line::Often(what) => {
+            let pass = passes.first_mut().ok_or("a pass")?;
+            ask_often(rt, alloc, front, cells, pass, what)
+        }
+        Line::Arm => {
+            marks.armed.store(1, Ordering::SeqCst);
+            Ok(())
+        }
+        Line::Together(what) => together(rt, alloc, marks, front, passes, what),
+    }
+}
+
+/// What is replied to a request. None where there is no memory for the request.
+pub fn ask<N: Names, R: Wait>(
+    rt: &R,
+    alloc: Global,
+    front: &Front<Holding<'_>, N>,
+    pass: &mut Pass<N>,
+    (who, tick): (u32, u64),
+    what: &What,
+) -> Option<Reply> {
+    let asked = asked(alloc, who, tick, what)?;
+    Some(front.serve(rt, pass, asked.caller, asked.clock, &asked.request))
+}
+
+/// That this is replied to a request.
+pub fn serve<N: Names, R: Wait>(
+    rt: &R,
+    alloc: Global,
+    front: &Front<Holding<'_>, N>,
+    pass: &mut Pass<N>,
+    at: (u32, u64),
+    what: &What,
+    told: &Told,
+) -> Result<(), Fail> {
+    let found = ask(rt, alloc, front, pass, at, what).ok_or("a request")?;
+    let wanted = reply(alloc, told).ok_or("a reply")?;
+    same("the reply", &found, &wanted)
+}
+
+// That these calls have their replies and receipts, one after the other.
+fn serve_all<N: Names, R: Wait>(
+    rt: &R,
+    alloc: Global,
+    front: &Front<Holding<'_>, N>,
+    passes: &mut [Pass<N>],
+    calls: &[Call],
+) -> Result<(), Fail> {
+    for call in calls {
+        let pass = passes.get_mut(call.0).ok_or("a pass")?;
+        serve(rt, alloc, front, pass, (call.1, call.2), &call.3, &call.4)?;
+        check_receipts(alloc, pass, slice::from_ref(call))?;
     }
     Ok(())
+}
+
+/// That the last receipts of a pass are those of its own ones of these calls.
+pub fn check_receipts<N: Names>(alloc: Global, pass: &Pass<N>, calls: &[Call]) -> Result<(), Fail> {
+    let mut place = pass.receipts().len();
+    for call in calls.iter().rev() {
+        if call.0 as u64 != pass.number() {
+            continue;
+        }
+        place = place.checked_sub(1).ok_or("a receipt")?;
+        let receipt = pass.receipts().get(place).ok_or("a receipt")?;
+        let found = (receipt.moment.tick(), receipt.cell, receipt.place);
+        same("the receipt", &found, &call.5)?;
+        let wanted = reply(alloc, &call.4).ok_or("a reply")?;
+        same("the reply of the receipt", &receipt.reply, &wanted)?;
+    }
+    Ok(())
+}
+
+fn check_pass<N: Names, R: Wait>(
+    rt: &R,
+    front: &Front<Holding<'_>, N>,
+    pass: &mut Pass<N>,
+    act: &Act,
+) -> Result<(), Fail> {
+    match act {
+        Act::Claim(moment, most, told, claimed) => {
+            let found = front.claim(rt, pass, Moment::new(*moment), *most)?;
+            same("what a claim is told", &found, told)?;
+            same("how many have claimed", &pass.claimed(), claimed)
+        }
+        Act::Before(moment, most, count) => {
+            let found = pass.claimed_before(Moment::new(*moment), *most);
+            same("how many have claimed before a moment", &found, count)
+        }
+        Act::Forget(count, left, forgotten) => {
+            if *count > pass.claimed() {
+                return Err("a call that has claimed its record".into());
+            }
+            same("whether calls are dropped", &pass.forget(*count), &true)?;
+            check_forgotten(pass, *left, forgotten)
+        }
+    }
+}
+
+// That so many calls are left, all of which have claimed their records, and what is kept of the others.
+fn check_forgotten<N: Names>(
+    pass: &Pass<N>,
+    left: usize,
+    forgotten: &Forgotten,
+) -> Result<(), Fail> {
+    same("how many calls are left", &pass.receipts().len(), &left)?;
+    same("how many have claimed", &pass.claimed(), &left)?;
+    let dropped = pass.dropped();
+    let counts = (
+        dropped.all(),
+        dropped.wide(),
+        dropped.in_cell(0),
+        dropped.in_cell(1),
+    );
+    same("what is counted", &counts, &forgotten.counts)?;
+    let last = (dropped.last().tick(), pass.last().tick());
+    same("the last moments", &last, &forgotten.last)
+}
+
+// The place of the first of these records, how many they are, and the moment of the last.
+fn records_since<N: Names, R: Wait>(
+    rt: &R,
+    front: &Front<Holding<'_>, N>,
+    cell: usize,
+    place: u64,
+    most: usize,
+) -> Result<Option<(u64, usize, Option<u64>)>, Fail> {
+    let Some(found) = front.records_since(rt, cell, place, most)? else {
+        return Ok(None);
+    };
+    let newest = match found.records.last() {
+        Some(record) => Some(record.moment.tick()),
+        None => None,
+    };
+    Ok(Some((found.first, found.records.len(), newest)))
 }

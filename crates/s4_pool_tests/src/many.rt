@@ -1,69 +1,95 @@
-//! A pass makes many calls, of all of which a front is closed.
+//! Many calls: of fronts of each number of cells, with windows of all kinds; before sweeps of cells; and of
+//! one pass.
 
-ghost use Rattle.std.specs.Prelude.{◌≡◌};
-
-use crate::given::{Ask, closed, object};
-use s4_pool::{Blank, Front, Names, OpenGate, Pass};
-use s4_types::{Refusal, Reply, Request, Right};
-use std::alloc::Global;
-use std::marker::Brand;
-use std::process::Abort;
-use std::sync::Wait;
+use crate::asked::{Told, What};
+use crate::fronts::check;
+use crate::lines::{Call, Case, Check, End, Line, Often};
 use std::test::Fail;
 
-/// How many calls.
-const CALLS: u32 = 200000;
+/// Numbers of cells, and windows.
+const ROWS: [(usize, u64); 16] = [
+    (1, 100),
+    (2, 101),
+    (3, 0),
+    (4, 1),
+    (5, 2),
+    (6, 3),
+    (7, 99),
+    (8, 1024),
+    (9, 1023),
+    (10, 65535),
+    (11, 65536),
+    (12, 4294967295),
+    (13, 4294967296),
+    (14, 9223372036854775807),
+    (15, 18446744073709551614),
+    (16, 18446744073709551615),
+];
 
-// Whether a read of what isn't there is denied, in a range by the number of the call.
-fn is_denied<N: Names, R: Wait>(
-    rt: &R,
-    front: &Front<OpenGate, N>,
-    pass: &mut Pass<N>,
-    number: u32,
-) -> Result<bool, Fail> {
-    let read = Request::Read {
-        object: object(8 + number % 100, 1)?,
-        offset: 0,
-        length: 1,
-        at: None,
-    };
-    let ask = Ask::new(7, u64::from(number), read)?;
-    Ok(ask.serve(rt, front, pass) == Reply::Refused(Refusal::Denied(Right::Read)))
-}
+const RANGES: &[Line] = &[Line::Often(Often::Ranges)];
 
-// Makes all calls. Tells how many were denied.
-fn ask_often<N: Names, R: Wait>(
-    rt: &R,
-    front: &Front<OpenGate, N>,
-    passes: &mut [Pass<N>],
-) -> Result<u32, Fail> {
-    if passes.is_empty() {
-        return Err("pass 0".into());
+const IN_RANGES: &End = &End::Closed(&[Check::Records(81)]);
+
+#[test]
+fn each_range_has_its_cell_and_each_front_is_closed(rt: HostRuntime) -> Result<(), Fail> {
+    for (cells, window) in ROWS {
+        println!(rt; "{cells} cells")?;
+        check(&rt, rt.alloc(), (cells, window, 1), RANGES, IN_RANGES)?;
     }
-    let pass = &mut passes[0];
-    let mut denied = 0u32;
-    for number in 0..CALLS {
-        if is_denied(rt, front, pass, number)? {
-            denied = denied.saturating_add(1);
-        }
-    }
-    Ok(denied)
-}
-
-// That all calls are made, and that the front is closed of all then.
-fn check_calls<N: Names, R: Abort + Wait>(rt: &R, alloc: Global, blank: Blank) -> Result<(), Fail>
-    requires ledger { blank.ledger ≡ N.ledger }
-    requires names { (N.ledger.words ≡ 16) × (N.window ≡ 100) × (N.passes ≡ 1) }
-{
-    let (front, mut passes) = Front::<OpenGate, N>::open(alloc, 100, 16, 1, OpenGate, blank)?;
-    assert_eq!(rt; ask_often(rt, &front, &mut passes)?, CALLS);
-    let closed = closed(alloc, front, passes)?;
-    assert_eq!(rt; closed.history.len(), 200000);
     Ok(())
 }
 
+/// Principals 4 to 7 write their objects in cells 0 to 3 so often that 7, 994, no and 11 values expire. The
+/// request that has them expire frees four of them.
+const SWEPT: &[Line] = &[
+    Line::Calls(&[Call(0, 4, 4000, What::Create, Told::Made(4, 1), (4000, 0, 0))]),
+    Line::Often(Often::Writes(4, 4001, 7)),
+    Line::Calls(&[Call(0, 5, 5000, What::Create, Told::Made(5, 1), (5000, 1, 0))]),
+    Line::Often(Often::Writes(5, 5001, 994)),
+    Line::Calls(&[
+        Call(0, 6, 6000, What::Create, Told::Made(6, 1), (6000, 2, 0)),
+        Call(0, 7, 7000, What::Create, Told::Made(7, 1), (7000, 3, 0)),
+    ]),
+    Line::Often(Often::Writes(7, 7001, 11)),
+    Line::Calls(&[
+        Call(0, 4, 9000, What::Write(4, b"a"), Told::Done, (9000, 0, 8)),
+        Call(0, 5, 9000, What::Write(5, b"a"), Told::Done, (9000, 1, 995)),
+        Call(0, 6, 9000, What::Write(6, b"a"), Told::Done, (9000, 2, 1)),
+        Call(0, 7, 9000, What::Write(7, b"a"), Told::Done, (9000, 3, 12)),
+    ]),
+    Line::Sweep(0, 0, 0),
+    Line::Sweep(0, 2, 2),
+    Line::Sweep(3, 1, 1),
+    Line::Sweep(1, 255, 255),
+    Line::Sweep(2, 9, 0),
+    Line::Sweep(3, 6, 6),
+    Line::Sweep(3, 6, 0),
+    Line::Sweep(0, u64::MAX, 1),
+    Line::Sweep(0, 1, 0),
+    Line::Sweep(1, 735, 735),
+    Line::Sweep(1, 1, 0),
+];
+
+const CASES: [Case; 2] = [
+    Case {
+        name: "each cell is swept of as much as is asked for",
+        opened: (4, 1000, 1),
+        lines: SWEPT,
+        end: End::Open,
+    },
+    Case {
+        name: "a pass makes 200000 calls in 16 cells",
+        opened: (16, 100, 1),
+        lines: &[Line::Often(Often::Reads(200000))],
+        end: End::Closed(&[Check::Records(200000)]),
+    },
+];
+
 #[test]
-fn a_pass_makes_200000_calls_in_16_cells(rt: HostRuntime) -> Result<(), Fail> {
-    let blank = Blank::new(rt.alloc(), 16)?;
-    check_calls::<Brand, HostRuntime>(&rt, rt.alloc(), blank)
+fn many_calls_are_made_and_swept(rt: HostRuntime) -> Result<(), Fail> {
+    for case in &CASES {
+        println!(rt; "{}", case.name)?;
+        check(&rt, rt.alloc(), case.opened, case.lines, &case.end)?;
+    }
+    Ok(())
 }

@@ -1,4 +1,0 @@
-use Rattle.s4_pool_tests.proofs.claims.check.Given as goal
-
-abbrev pub ghosts-check_row : goal.ghosts-check_row
-ghosts-check_row g a = record { ledger = a.blank.ledger; window = 100; passes = 1 }

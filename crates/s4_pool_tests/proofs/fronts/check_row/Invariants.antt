@@ -1,4 +1,0 @@
-use Rattle.s4_pool_tests.proofs.fronts.check_row.Given as goal
-
-abbrev pub ghosts-check_front : goal.ghosts-check_front
-ghosts-check_front g a = record { ledger = a.blank.ledger; window = a.window; passes = 1 }

@@ -1,0 +1,116 @@
+//! What is done with a front, line by line.
+
+use crate::asked::{Told, What};
+use s4_pool::Claimed;
+
+/// A call: by which pass, from 0; who asks; what the clock shows; and what is asked and replied. And the
+/// receipt: the moment, the cell and the place.
+pub struct Call(
+    pub usize,
+    pub u32,
+    pub u64,
+    pub What,
+    pub Told,
+    pub (u64, usize, u64),
+);
+
+/// What is done with a front, and what comes of it.
+pub enum Line {
+    /// These calls are made, one after the other.
+    Calls(&'static [Call]),
+    /// This is done with the pass of that number.
+    Pass(usize, Act),
+    /// All cells are cut at a moment, at that one.
+    Cut(u64, u64),
+    /// The cell of that number is cut at a moment, at that one.
+    CutOne(usize, u64, u64),
+    /// The cell of that number frees at most so many values: so many.
+    Sweep(usize, u64, u64),
+    /// Of the cell of that number, the records from a place on, at most so many: the place of the first of
+    /// them, how many there are, and the moment of the last. None where there is no such cell.
+    Since(usize, u64, usize, Option<(u64, usize, Option<u64>)>),
+    /// The first pass asks again and again.
+    Often(Often),
+    /// The gate holds a call in cell 1 from now on.
+    Arm,
+    /// This is done by threads.
+    Together(Together),
+}
+
+/// What is done with a pass, and what comes of it.
+pub enum Act {
+    /// Calls of moments before this one claim their records, at most so many: what is told, and how many
+    /// of all calls have.
+    Claim(u64, usize, Claimed, usize),
+    /// So many calls of moments before this one have claimed their records, of at most so many.
+    Before(u64, usize, usize),
+    /// So many calls are dropped, and so many are left.
+    Forget(usize, usize, Forgotten),
+}
+
+/// What a pass keeps of the calls that were dropped, and of all.
+pub struct Forgotten {
+    /// How many were dropped, how many of those were wide, and how many count in the first two cells.
+    pub counts: (u64, u64, u64, u64),
+    /// The moments of the last that was dropped, and of the last of all.
+    pub last: (u64, u64),
+}
+
+/// What a pass asks again and again.
+pub enum Often {
+    /// An object is made in each range up to 40, in the cell of its number modulo that of the cells; the
+    /// window of all cells is set to the one that they have; and an object is made in each range again.
+    Ranges,
+    /// A principal writes their object from a moment on, so often, a tick later each time.
+    Writes(u32, u64, u64),
+    /// Principal 7 reads what isn't there, so often.
+    Reads(u64),
+}
+
+/// What threads do with a front, each with a pass of its own.
+pub enum Together {
+    /// These calls are made. The second pass begins once the first is done, or is at the gate; and the
+    /// gate lets that go on once the second is done.
+    Calls(&'static [Call]),
+    /// Each pass makes 105 calls.
+    Often,
+    /// The first two calls are made by two workers: the second is put once the first is at the gate, and the
+    /// gate lets that go on once the second is done.
+    Jobs(&'static [Call]),
+}
+
+/// How a front ends.
+pub enum End {
+    /// It isn't closed.
+    Open,
+    /// It is closed, and this is so then.
+    Closed(&'static [Check]),
+    /// It isn't closed without its last pass, and then is with it.
+    ClosedAgain(&'static [Check]),
+}
+
+/// What is so of a front that was closed.
+pub enum Check {
+    /// The one history has so many records.
+    Records(usize),
+    /// It has these, by their moments and callers.
+    History(&'static [(u64, u32)]),
+    /// So many records of each cell went.
+    Gone(u64),
+    /// Each of two cells had so many records, and lost some of them. Each pass made so many calls, the
+    /// last at that moment, and some of them were dropped.
+    Counted(u64, u64, u64),
+    /// So the closing finds cells of these windows without records, or those of the front where there is
+    /// none, with the passes from one number on up to another.
+    Found(&'static [u64], usize, usize, &'static str),
+    /// The last cell is cut alone at a moment.
+    CutLast(u64),
+}
+
+/// What is done with a front of so many cells, with a window and so many passes; and how it ends.
+pub struct Case {
+    pub name: &'static str,
+    pub opened: (usize, u64, u64),
+    pub lines: &'static [Line],
+    pub end: End,
+}
