@@ -1,6 +1,6 @@
 //! What is asked and what is replied, as data.
 
-use s4_pool::Asked;
+use s4_passes::Asked;
 use s4_types::{
     Bytes, Caller, Grant, Moment, ObjectId, Principal, Purse, PurseNo, Refusal, Reply, Request,
     Right, Serial, WireVersion,

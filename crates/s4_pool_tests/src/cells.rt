@@ -184,7 +184,8 @@ pub fn check_wide(
         if cells.is_empty() || !request.is_wide(&by) {
             return Err("a wide request".into());
         }
-        let found = wide(cells, latest(cells, moment), by, &request);
+        let at = latest(cells, moment);
+        let found = wide(cells, at, by, &request);
         if found != Reply::Refused(Refusal::NoMemory) {
             same("the reply", &found, &Reply::Done)?;
             return check_counts(cells, count.saturating_add(1));

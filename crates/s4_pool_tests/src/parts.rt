@@ -35,26 +35,25 @@ pub fn together<N: Names + Send + Sync, R: Threads + Wait + Sync>(
     passes: &mut Vec<Pass<N>>,
     what: &Together,
 ) -> Result<(), Fail> {
-    let mut parts = Vec::new(alloc);
-    match what {
+    let calls: &[Call] = match what {
         Together::Jobs(calls) => return by_workers(rt, alloc, marks, front, passes, calls),
-        Together::Calls(calls) => {
-            for pass in passes.drain(..) {
-                parts.push(Part::Calls(pass))?;
-            }
-            take_parts(rt, alloc, marks, front, parts, calls, passes)?;
-            for pass in &*passes {
-                check_receipts(alloc, pass, calls)?;
-            }
-            Ok(())
-        }
-        Together::Often => {
-            for pass in passes.drain(..) {
-                parts.push(Part::Often(pass))?;
-            }
-            take_parts(rt, alloc, marks, front, parts, &[], passes)
-        }
+        Together::Calls(calls) => calls,
+        Together::Often => &[],
+    };
+    let mut parts = Vec::new(alloc);
+    for _ in 0..passes.len() {
+        let pass = passes.pop().ok_or("a pass")?;
+        let part = match what {
+            Together::Often => Part::Often(pass),
+            _ => Part::Calls(pass),
+        };
+        parts.push(part)?;
     }
+    take_parts(rt, alloc, marks, front, parts, calls, passes)?;
+    for pass in &*passes {
+        check_receipts(alloc, pass, calls)?;
+    }
+    Ok(())
 }
 
 /// Has threads take these parts, and puts their passes to the others.
