@@ -18,19 +18,31 @@ pub fn close<N: Names>(
     passes: Vec<Pass<N>>,
     end: &End,
 ) -> Result<(), Fail> {
-    let (front, passes, checks) = match end {
-        End::Open => return Ok(()),
-        End::Closed(checks) => (front, passes, checks),
+    match end {
+        End::Open => {
+            drop(front);
+            drop(passes);
+            Ok(())
+        }
+        End::Closed(checks) => check_all(alloc, front, passes, checks),
         End::ClosedAgain(checks) => {
             let (front, passes) = refused(alloc, front, passes)?;
-            (front, passes, checks)
+            check_all(alloc, front, passes, checks)
         }
+    }
+}
+
+// Closes a front, and looks at what is left.
+fn check_all<N: Names>(
+    alloc: Global,
+    front: Front<Holding<'_>, N>,
+    passes: Vec<Pass<N>>,
+    checks: &[Check],
+) -> Result<(), Fail> {
+    let Ok(mut closed) = front.close(alloc, passes) else {
+        return Err("not closed".into());
     };
-    let mut closed = match front.close(alloc, passes) {
-        Ok(closed) => closed,
-        Err(_) => return Err("not closed".into()),
-    };
-    for check in *checks {
+    for check in checks {
         check_closed(alloc, &mut closed, check)?;
     }
     Ok(())

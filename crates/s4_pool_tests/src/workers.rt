@@ -23,16 +23,27 @@ pub fn by_workers<N: Names + Send + Sync, R: Threads + Wait + Sync>(
     calls: &[Call],
 ) -> Result<(), Fail> {
     let (jobs, seats) = Jobs::open(alloc, 4, 3)?;
+    let parts = parts_of(alloc, places(alloc, &jobs, seats)?, passes)?;
+    take_parts(rt, alloc, marks, front, parts, calls, passes)
+}
+
+// A part for each place: one puts, and each other works with a pass.
+fn parts_of<'a, N: Names>(
+    alloc: Global,
+    places: Vec<Place<'a>>,
+    passes: &mut Vec<Pass<N>>,
+) -> Result<Vec<Part<'a, N>>, Fail> {
     let mut parts = Vec::new(alloc);
-    for place in places(alloc, &jobs, seats)? {
-        if place.puts {
-            parts.push(Part::Puts(place))?;
+    for place in places {
+        let part = if place.puts {
+            Part::Puts(place)
         } else {
             let pass = passes.pop().ok_or("a pass")?;
-            parts.push(Part::Works(place, pass))?;
-        }
+            Part::Works(place, pass)
+        };
+        parts.push(part)?;
     }
-    take_parts(rt, alloc, marks, front, parts, calls, passes)
+    Ok(parts)
 }
 
 /// Puts the call that is held, once that is at the gate the call that lets it go on, and two stops. Marks
