@@ -39,13 +39,26 @@ fn check_all<N: Names>(
     passes: Vec<Pass<N>>,
     checks: &[Check],
 ) -> Result<(), Fail> {
-    let Ok(mut closed) = front.close(alloc, passes) else {
-        return Err("not closed".into());
-    };
+    let mut closed = closed(alloc, front, passes)?;
     for check in checks {
         check_closed(alloc, &mut closed, check)?;
     }
     Ok(())
+}
+
+// A front that has to close.
+fn closed<N: Names>(
+    alloc: Global,
+    front: Front<Holding<'_>, N>,
+    passes: Vec<Pass<N>>,
+) -> Result<Closed<N>, Fail> {
+    match front.close(alloc, passes) {
+        Ok(closed) => Ok(closed),
+        Err(fault) => {
+            drop(fault);
+            Err("not closed".into())
+        }
+    }
 }
 
 // The front and its passes, where it can't be closed without the last of them.
