@@ -1,5 +1,5 @@
 //! Calls of the library that can want memory, each on a worked case. They are made with plenty of
-//! memory, and by `./refusals calls` with each allocation of them refused in turn. For each case it is
+//! memory, and by `./check refusals calls` with each allocation of them refused in turn. For each case it is
 //! told whether all was as expected, and how many calls told that there was no memory.
 
 mod asked;

@@ -33,7 +33,7 @@ impl<'a> Case<'a> {
         self.rt.alloc()
     }
 
-    /// Marks on standard error that the call begins: `tools/refuse.c` counts and refuses what comes
+    /// Marks on standard error that the call begins: `tools/lib/refuse.c` counts and refuses what comes
     /// up to its end, and nothing else.
     pub fn begins(&self) {
         if self.is_marking {

@@ -1,5 +1,5 @@
 //! Many requests by one pass. One that met want of memory leaves no receipt, and is made again. What
-//! is asked for in all is measured (`tools/calls.py`).
+//! is asked for in all is measured (`tools/lib/calls.py`).
 
 use crate::calls::asked::{asked, is_no_memory};
 use crate::calls::case::Case;

@@ -1,4 +1,4 @@
-//! Many reads of one value by one pass. What they hold in the end is measured (`tools/calls.py`): a
+//! Many reads of one value by one pass. What they hold in the end is measured (`tools/lib/calls.py`): a
 //! read leaves its record and its receipt, and no copy of the value.
 
 use crate::calls::asked::asked;

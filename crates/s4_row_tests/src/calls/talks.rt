@@ -1,5 +1,5 @@
 //! What a talk holds beside what was carried out in it, by what its peer did. That is measured
-//! (`tools/calls.py`).
+//! (`tools/lib/calls.py`).
 
 use crate::calls::asked::asked;
 use crate::calls::case::Case;

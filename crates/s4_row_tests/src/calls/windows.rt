@@ -1,5 +1,5 @@
 //! A SetWindow on two cells, behind as many records of each. Where the cells hold values it asks for no
-//! more memory than where they hold none (`tools/calls.py`).
+//! more memory than where they hold none (`tools/lib/calls.py`).
 
 use crate::calls::asked::asked;
 use crate::calls::case::Case;
