@@ -56,7 +56,7 @@ pub fn together<N: Names + Send + Sync, R: Threads + Wait + Sync>(
     Ok(())
 }
 
-/// Has threads take these parts, and puts their passes to the others.
+/// Has threads take these parts, of which there are three at most, and puts their passes to the others.
 pub fn take_parts<N: Names + Send + Sync, R: Threads + Wait + Sync>(
     rt: &R,
     alloc: Global,
@@ -66,12 +66,23 @@ pub fn take_parts<N: Names + Send + Sync, R: Threads + Wait + Sync>(
     calls: &[Call],
     passes: &mut Vec<Pass<N>>,
 ) -> Result<(), Fail> {
-    let taken = thread::map_vec(
+    let mut parts = parts;
+    let (third, second, first) = (parts.pop(), parts.pop(), parts.pop());
+    if !parts.is_empty() {
+        return Err("three parts".into());
+    }
+    let (first, (second, third)) = thread::join(
         rt,
-        parts,
-        &|part: Part<'_, N>| take_part(rt, alloc, marks, front, part, calls),
-    )?;
-    for pass in taken {
+        || take_part(rt, alloc, marks, front, first, calls),
+        || {
+            thread::join(
+                rt,
+                || take_part(rt, alloc, marks, front, second, calls),
+                || take_part(rt, alloc, marks, front, third, calls),
+            )
+        },
+    );
+    for pass in [first, second, third] {
         if let Some(pass) = pass {
             passes.push(pass)?;
         }
@@ -79,15 +90,16 @@ pub fn take_parts<N: Names + Send + Sync, R: Threads + Wait + Sync>(
     Ok(())
 }
 
+// What comes of a part, where there is one.
 fn take_part<N: Names, R: Wait>(
     rt: &R,
     alloc: Global,
     marks: &Marks,
     front: &Front<Holding<'_>, N>,
-    part: Part<'_, N>,
+    part: Option<Part<'_, N>>,
     calls: &[Call],
 ) -> Option<Pass<N>> {
-    match part {
+    match part? {
         Part::Calls(mut pass) => {
             call_in_turn(rt, alloc, marks, front, &mut pass, calls);
             Some(pass)
