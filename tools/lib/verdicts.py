@@ -6,6 +6,8 @@ import tempfile
 
 OF_FUNCTION = re.compile(r"fn (\S+?)(?:;|:) (proved|no holes|depends on a hole|no proof|not proved|could not tell)(.*)")
 CALLS = re.compile(r"[:;] it (?:calls|waits)")
+# A goal that is left open.
+OPEN = re.compile(r"^(?:it is not proved that|`search` found no proof)")
 OF_TEXT = re.compile(r"(?:note: )?(?:\./)?((?:src|specs|proofs)/[^\s:]+):(\d+):\d+: (.*)")
 # A written proof that names what an edit took away, and what cites that proof.
 NAMES = re.compile(r"has no field|is not in scope|has no `|was not admitted")
@@ -29,13 +31,20 @@ class Report:
         whole = self.path_of(function)
         for path, (verdict, rest) in self.functions.items():
             is_inside = path == whole or path.startswith(inner(whole))
-            if is_inside and verdict in ("no proof", "not proved") and not CALLS.match(rest):
+            if not is_inside or verdict not in ("no proof", "not proved"):
+                continue
+            if CALLS.match(rest):
+                # (what it calls is a hole, or is edited too: a goal that is open all the same is its own)
+                said = [it for it in self.open_goals(function) if OPEN.search(it)]
+                if not said:
+                    continue
+            else:
                 said = [text for file, _, text in self.texts if file.startswith(proofs_of(path)) and text.startswith("error")]
                 if said and all(NAMES.search(it) for it in said):
                     said = self.open_goals(function)
                     if not said:
                         return None
-                return f"fn {path}: {verdict}{(': ' + said[0] if said else rest)[:110]}"
+            return f"fn {path}: {verdict}{(': ' + said[0] if said else rest)[:110]}"
         return None
 
     def has_proved(self, path):
