@@ -100,6 +100,8 @@ PLANTS = {
     "unreadable": ("half(half(x))", "half(half(z))", "BAD EDIT"),
     "not_there": ("x / 9", "x / 8", "BAD EDIT"),
 }
+# Of these the ones that lie in functions with others: behind `rt ci` they are tried in copies, and else each in a check of its own.
+OF_COPIES = ("wrong_in_another_way", "right_in_another_way", "under_a_written_proof_wrong", "under_a_written_proof_wrong_too", "under_a_written_proof_right")
 
 
 def planted(room, left_out=()):

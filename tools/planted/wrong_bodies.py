@@ -4,14 +4,14 @@ from pathlib import Path
 
 from tools.lib.findings import tell
 from tools.planted.after_ci import self_test_over_libraries
-from tools.planted.small_crate import PLANTS, faults_in, planted, said_of
+from tools.planted.small_crate import OF_COPIES, PLANTS, faults_in, planted, said_of
 
 
 def self_test_over_proofs():
     """Tries what is planted. Returns whether each edit comes out as it should."""
     with tempfile.TemporaryDirectory(prefix="wrong-bodies-") as room:
-        faults = faults_in(said_of(planted(Path(room)))[0])
-    return tell(faults, f"wrong-bodies: {len(PLANTS)} planted edits come out as they should, one right body as not refused")
+        faults = faults_in(said_of(planted(Path(room), OF_COPIES))[0], OF_COPIES)
+    return tell(faults, f"wrong-bodies: {len(PLANTS) - len(OF_COPIES)} planted edits come out as they should, one right body as not refused")
 
 
 def self_test(_):
