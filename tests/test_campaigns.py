@@ -4,7 +4,7 @@ import tempfile
 import unittest
 from pathlib import Path
 
-from examples import client as it
+from tools.lib import client as it
 from tests import ways
 from tests.campaigns import CAMPAIGNS, NEAR, kept, script, scripts, told
 from tests.program import run

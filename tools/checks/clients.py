@@ -1,7 +1,7 @@
-"""Has examples/client.py ask a server in both versions of the wire, and compares what comes with the pages.
+"""Has the client for Python ask a server in both versions of the wire, and compares what comes with the pages.
 
   ./check clients       each frame that docs/PROTOCOL.md shows; each of the twenty requests, by version 1 and by version 2; both versions on
-                        one object; what can't be served; and the client's own example
+                        one object; and what can't be served
       --program PATH    the program; else bin/s4d or crates/s4d/out/s4d, the one that was built last
       --look            no program: the frames of the page alone, and a line only for each case that is wrong
       --self-test       a client with planted mistakes, each of which has to be told
@@ -11,7 +11,7 @@ and where a reply is the one that docs/MODEL.md gives the request; none comes fr
 """
 from tools.lib.cases import Cases, outcome
 from tools.lib.commands import Options
-from tools.lib.conversations import compare_example, compare_faults, converse, converse_ahead, converse_on_one
+from tools.lib.conversations import compare_faults, converse, converse_ahead, converse_on_one
 from tools.lib.page_frames import PAGE, compare_page
 from tools.lib.programs import TOP, program_of
 from tools.lib.servers import Server
@@ -28,7 +28,6 @@ def compare(program, cases):
     with Server(program) as server:
         parts = [(part, cases, server, version) for part in (converse, converse_ahead) for version in (1, 2)]
         parts += [(converse_on_one, cases, server), (compare_faults, cases, server, page)]
-        parts += [(compare_example, cases, server, version) for version in (1, 2)]
         for part, *given in parts:
             ended = outcome(lambda part=part, given=given: part(*given))
             if ended is not None:

@@ -1,4 +1,4 @@
-"""Runs the tests of the built program that ask it from outside (tests/), many side by side.
+"""Runs the tests of the built program that ask it from outside (tests/), and those of the client for Python (clients/python/tests/), many side by side.
 
   ./check outside [WORD..]
                          all of them, or those whose names have one of these words
@@ -21,6 +21,8 @@ from tools.lib.commands import Options
 from tools.lib.processes import spent
 from tools.lib.programs import TOP, is_program
 
+# Where tests are.
+FOLDERS = ("tests", "clients/python/tests")
 OPTIONS = Options(flags=("times", "list"), numbers={"jobs": 8}, texts=("program",), words="WORD")
 
 
@@ -54,10 +56,16 @@ def has_set_up(test):
     return type(test).setUpClass.__func__ is not unittest.TestCase.setUpClass.__func__
 
 
+def all_tests():
+    """The tests of all folders."""
+    for folder in FOLDERS:
+        yield from tests_in(unittest.TestLoader().discover(str(TOP / folder), top_level_dir=str(TOP)))
+
+
 def groups(words):
     """The tests whose names have one of the words, or all: lists of those that have to run in one row."""
     found = {}
-    for test in tests_in(unittest.defaultTestLoader.discover(str(TOP / "tests"), top_level_dir=str(TOP))):
+    for test in all_tests():
         if not words or any(word in test.id() for word in words):
             found.setdefault(type(test) if has_set_up(test) else test.id(), []).append(test)
     return list(found.values())

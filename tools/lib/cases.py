@@ -1,5 +1,5 @@
 """Cases that are tried one by one, each with what is wanted of it."""
-from examples import client as it
+from tools.lib import client as it
 
 
 class Cases:

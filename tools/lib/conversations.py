@@ -1,12 +1,9 @@
-"""Conversations of the client of examples/client.py with a server, and what each request is replied."""
-import re
-import subprocess
-import sys
+"""Conversations of the client for Python with a server, and what each request is replied."""
+from dataclasses import astuple
 
-from examples import client as it
+from tools.lib import client as it
 from tools.lib.cases import outcome
 from tools.lib.page_frames import frames_of
-from tools.lib.programs import TOP
 from tools.lib.servers import SECRETS
 
 # Of an audit the lines of a conversation below: who, and the code, whether it is wide, and the number of the refusal.
@@ -69,13 +66,13 @@ def converse(cases, server, version):
     name, number, made = f"version {version}", 10 + version, it.ObjectId(7, 0, version)
     with server.log_in(7, number, version) as tenant, server.log_in(0, number, version) as administrator:
         cases.ask(name, tenant, it.Create(0), it.Made(made))
-        since = [line for line in tenant.audit(7) if line.client == number][0].moment
+        since = [line for line in tenant.whole_audit(7) if line.client == number][0].moment
         for asked, wanted in asked_by_tenant(made, f"home-{version}", since):
             cases.ask(name, tenant, asked, wanted)
         for asked, wanted in asked_by_administrator(made):
             cases.ask(f"{name}, as administrator", administrator, asked, wanted)
     with server.log_in(0, number + 10, version) as reader:
-        told = [line[1:] for line in reader.audit(7) if line.client == number]
+        told = [astuple(line)[1:] for line in reader.whole_audit(7) if line.client == number]
         cases.add(f"{name}: what the audit shows of all these", told, [(who, number, *shown) for who, shown in AUDITED])
 
 
@@ -142,10 +139,3 @@ def compare_faults(cases, server, page):
         cases.add(f"version {version}: the client with another secret", outcome(lambda version=version: server.log_in(9, 1, version, bytes(16))), it.BadLogin())
         with server.log_in(9, 1, version) as drive:
             cases.ask(f"version {version}, a second time", drive, it.Hello(version, 9, 1, SECRETS[9]), it.Malformed())
-
-
-def compare_example(cases, server, version):
-    """What the client's example prints of the present and of the past."""
-    words = [sys.executable, TOP / "examples/client.py", server.address, "7", str(40 + version), SECRETS[7].hex(), "--wire", str(version)]
-    done = subprocess.run(words, capture_output=True, text=True, check=False)
-    cases.add(f"version {version}: the client's example", (done.returncode, re.findall(r"^  Data\(.*data=(b'pay \d+')\)$", done.stdout, re.M)), (0, ["b'pay 66'", "b'pay 12'"]))

@@ -6,7 +6,7 @@ import time
 from dataclasses import dataclass
 from pathlib import Path
 
-from examples import client as it
+from tools.lib import client as it
 from tools.lib.findings import Wrong
 from tools.lib.keeping import told
 from tools.lib.servers import PATIENCE, Server

@@ -2,7 +2,7 @@
 import csv
 from typing import NamedTuple
 
-from tools.lib.loads import REST
+from tools.lib.crews import REST
 from tools.lib.memory import Run, Sample, Used, mebibytes, share_name
 from tools.lib.plots import Line, Plot
 

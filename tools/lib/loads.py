@@ -1,31 +1,24 @@
 """A load for a served drive: processes that keep it busy, and one that takes the time of each reply that it has."""
 import array
-import gc
 import heapq
 import itertools
-import multiprocessing
-import os
 import select
-import signal
-import socket
 import time
 from typing import NamedTuple
 
-from examples import client as it
+from tools.lib import client as it
+from tools.lib.crews import PATIENCE, REST, Crew
 from tools.lib.findings import Wrong
-from tools.lib.processes import end_with_parent
-from tools.lib.servers import host_and_port, secret_of
+from tools.lib.servers import secret_of
 
-FORK = multiprocessing.get_context("fork")
 VERSION, PURSE, CLIENT = 1, 0, 1
 # The bytes of a small and of a large value, and how many objects of each size a connection has.
 SMALL, LARGE, OBJECTS = 16, 1024, 16
 # How many kinds of requests there are, in equal numbers: a write and a read of a small value, and of a large one.
 KINDS = 4
-# In seconds: how long anything may take that isn't measured, how long a connection may be behind its rate and make up for it, how long one waits
-# at most before it looks whether the load is over, and how long the process that takes times rests before it asks again.
-PATIENCE, LATE, LOOK, REST = 60, 0.5, 0.05, 0.001
-PREFERRED = -20
+# In seconds: how long a connection may be behind its rate and make up for it, and how long one waits at most before it looks whether the load is
+# over.
+LATE, LOOK = 0.5, 0.05
 
 
 class Shape(NamedTuple):
@@ -46,13 +39,6 @@ def shape_of(processes, connections, depth, cells, idle):
     """A load of such a size that asks nothing in the idle cell."""
     outside = (who for who in itertools.count(1) if who % cells != idle)
     return Shape(processes, connections, depth, tuple(itertools.islice(outside, 1 + processes * connections)))
-
-
-class Stage:
-    """What the processes of a load share: since when it goes on (by the clock that all have), whether it is over, and the replies of each."""
-
-    def __init__(self, processes):
-        self.begin, self.is_over, self.replies = FORK.RawValue("d", 0), FORK.RawValue("b", 0), FORK.RawArray("Q", processes)
 
 
 def said(frames):
@@ -90,9 +76,8 @@ class Caller:
     """A connection that asks for the same things again and again, so many at once."""
 
     def __init__(self, address, who):
-        self.drive = it.Connection(*host_and_port(address), who, CLIENT, secret_of(who), VERSION, PATIENCE)
+        self.drive = it.Connection(address, who, CLIENT, secret_of(who), VERSION, PATIENCE)
         self.socket, self.batch, self.came, self.due, self.prepared = self.drive.socket, None, 0, 0.0, 0
-        self.socket.setsockopt(socket.IPPROTO_TCP, socket.TCP_NODELAY, 1)
 
     def prepare(self, size):
         """Makes objects that have so many bytes. Gives for each a write of them and a read, each with its reply."""
@@ -200,90 +185,19 @@ def take_times(address, shape, stage, place):
     yield whens, times
 
 
-def act(here, is_preferred, stage, work, *given):
-    """What a process does: it prepares, says so, waits for the load's begin, and tells what its work comes to, or why it can't go on."""
-    signal.signal(signal.SIGINT, signal.SIG_IGN)
-    signal.signal(signal.SIGTERM, signal.SIG_DFL)
-    end_with_parent()
-    gc.disable()
-    try:
-        if is_preferred and os.geteuid() == 0:
-            os.setpriority(os.PRIO_PROCESS, 0, PREFERRED)
-        steps = work(*given)
-        here.send((next(steps), None))
-        while not stage.begin.value:
-            time.sleep(REST)
-        here.send((next(steps), None))
-    except (Wrong, OSError, it.Refused, it.Fault, it.Unreadable) as why:
-        here.send((None, str(why) if isinstance(why, Wrong) else repr(why)))
-
-
-class Load:
+class Load(Crew):
     """A load of a server, at a rate of requests a second in all, or as much as it takes. It is over where its `with` ends."""
 
     def __init__(self, address, shape, rate):
-        self.stage, self.helpers = Stage(shape.processes + 1), []
+        super().__init__(shape.processes + 1)
         # (of the processes that ask much, each connection has its turn once in so many seconds)
         each = shape.processes * shape.connections * shape.depth / rate if rate else 0
-        try:
+        with self.killed_if_raised():
             for place in range(shape.processes):
                 self.start(False, ask_much, address, shape, each, self.stage, place)
             self.start(True, take_times, address, shape, self.stage, shape.processes)
-            self.prepared = sum(self.told(there) for _, there in self.helpers)
-        except BaseException:
-            self.kill()
-            raise
-
-    def start(self, is_preferred, work, *given):
-        there, here = FORK.Pipe(duplex=False)
-        helper = FORK.Process(target=act, args=(here, is_preferred, self.stage, work, *given), daemon=True)
-        helper.start()
-        here.close()
-        self.helpers.append((helper, there))
-
-    def __enter__(self):
-        return self
-
-    def __exit__(self, *_):
-        self.kill()
-
-    def kill(self):
-        for helper, there in self.helpers:
-            helper.kill()
-            helper.join()
-            there.close()
-
-    def told(self, there):
-        """What a process tells next."""
-        try:
-            if not there.poll(2 * PATIENCE):
-                raise Wrong("a process of the load hangs")
-            value, why = there.recv()
-        except EOFError as error:
-            raise Wrong("a process of the load ended") from error
-        if why:
-            raise Wrong(why)
-        return value
-
-    def begin(self):
-        """Begins it, and tells when."""
-        self.stage.begin.value = time.monotonic()
-        return self.stage.begin.value
-
-    def look(self):
-        """Raises why a process doesn't go on, where one doesn't."""
-        for _, there in self.helpers:
-            if there.poll():
-                self.told(there)
-
-    def replies(self):
-        """How many replies were had since it began."""
-        return sum(self.stage.replies)
+            self.prepared = sum(self.prepare())
 
     def end(self):
         """Ends it once all is answered, and gives the times that were taken."""
-        self.stage.is_over.value = 1
-        return [self.told(there) for _, there in self.helpers][-1]
-
-    def process_ids(self):
-        return [helper.pid for helper, _ in self.helpers]
+        return self.ended()[-1]

@@ -1,7 +1,7 @@
-"""The frames that docs/PROTOCOL.md shows: whether the client of examples/client.py spells them so, and reads them as that."""
+"""The frames that docs/PROTOCOL.md shows: whether the client for Python spells them so, and reads them as that."""
 import re
 
-from examples import client as it
+from tools.lib import client as it
 from tools.lib.cases import outcome
 from tools.lib.servers import SECRETS
 
@@ -78,7 +78,7 @@ def frames_of(page, heading):
 
 def is_whole(body, version):
     """Whether a body is read, and isn't with a byte less or with one more."""
-    return not any(isinstance(outcome(lambda given=given: it.read_body(given, version)), tuple(set(it.COMES.values()))) for given in (body[:-1], body + b"\0"))
+    return not any(isinstance(outcome(lambda given=given: it.read_body(given, version)), tuple({kind for kind, _ in it.COMES.values()})) for given in (body[:-1], body + b"\0"))
 
 
 def compare_page(cases, page):

@@ -3,7 +3,7 @@ import struct
 from concurrent.futures import ThreadPoolExecutor
 from dataclasses import dataclass, field, replace
 
-from examples import client
+from tools.lib import client
 from tools.lib.findings import Wrong
 from tools.lib.judging import ENDED, REFUSED, frames_in, judged
 from tools.lib.refusing import NONE, Refusal
@@ -155,7 +155,7 @@ def audited(heard):
     """What the last audit that was answered for each range shows, as pairs of a moment and a record, and behind which request it came."""
     found = {}
     for at, it in enumerate(heard.asked):
-        if it.code == client.ReadAudit.front[0] and CALLERS[it.conn] == 0 and it.reply and it.reply[4] == 7 and it.conn in AUDITORS:
+        if it.code == client.ReadAudit.code and CALLERS[it.conn] == 0 and it.reply and it.reply[4] == 7 and it.conn in AUDITORS:
             lines = struct.iter_unpack(">QIIBBB", it.reply[6 : 6 + 19 * it.reply[5]])
             found[it.range] = (at, [(moment, (who, client, code, reply)) for moment, who, client, code, _, reply in lines])
     return found

@@ -9,7 +9,7 @@ import tempfile
 import threading
 from pathlib import Path
 
-from examples import client as it
+from tools.lib import client as it
 from tools.lib.findings import Wrong
 
 # Each address is another one of this machine, and so are those of other processes. The system gives this port to nobody who asks for any.
@@ -118,7 +118,7 @@ class Server:
 
     def log_in(self, who, number, version, secret=None):
         """A connection on which a principal was welcomed as the client of this number."""
-        return it.Connection(*host_and_port(self.address), who, number, secret or SECRETS[who], version, PATIENCE)
+        return it.Connection(self.address, who, number, secret or SECRETS[who], version, PATIENCE)
 
     def tell(self, *frames):
         """What a peer is sent that says these frames and then no more."""

@@ -2,7 +2,7 @@
 each other's objects, and here and there one who says what may not be said."""
 import random
 
-from examples import client as it
+from tools.lib import client as it
 from tools.lib.chance import Chance
 
 # How many bytes are written, read or kept: those of small values, and those at the limits of one version and of the other.

@@ -18,7 +18,7 @@ import socket
 import time
 from typing import NamedTuple
 
-from examples import client as it
+from tools.lib import client as it
 from tools.lib.commands import Options
 from tools.lib.processes import resident
 from tools.lib.programs import program_of

@@ -1,7 +1,7 @@
-"""Mistakes that are planted in the client of examples/client.py, to see that each is told."""
+"""Mistakes that are planted in the client for Python, to see that each is told."""
 from unittest.mock import patch
 
-from examples import client as it
+from tools.lib import client as it
 from tools.checks.clients import compare
 from tools.lib.cases import Cases
 from tools.lib.findings import tell_all
@@ -16,7 +16,7 @@ def reversed_replies(ask_all):
 PLANTED = {
     "a length of data in two bytes by version 2": lambda: patch.dict(it.LENGTH_OF_DATA, {2: 2}),
     "a read whose length comes before its offset": lambda: patch.dict(it.Read.parts, {name: it.Read.parts[name] for name in ("object", "length", "offset", "at")}, clear=True),
-    "a refusal that is taken for another": lambda: patch.dict(it.COMES, {b"\x08\x02": it.NoPartition}),
+    "a refusal that is taken for another": lambda: patch.dict(it.COMES, {b"\x08\x02": (it.NoPartition, {})}),
     "replies in another order": lambda: patch.object(it.Connection, "ask_all", reversed_replies(it.Connection.ask_all)),
 }
 

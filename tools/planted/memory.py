@@ -2,7 +2,7 @@
 import random
 from dataclasses import replace
 
-from examples import client as it
+from tools.lib import client as it
 from tools.lib.falling import judge_fall
 from tools.lib.findings import Wrong, tell_all
 from tools.lib.levels import judge

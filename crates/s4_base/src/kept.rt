@@ -7,7 +7,7 @@ use s4_types::{Acl, Bytes, Moment, NoMemory, Serial};
 use std::marker::Model;
 
 /// An object's three current values, and the moments at which they began.
-#[derive(Debug, Drop)]
+#[derive(Drop)]
 pub struct Kept {
     pub bytes: Bytes,
     pub bytes_begin: Moment,
@@ -49,7 +49,7 @@ impl Exact for Kept {
 }
 
 /// The serial of the object that a name is bound to, and the moment at which that began.
-#[derive(Clone, Copy, Debug)]
+#[derive(Clone, Copy)]
 pub struct Bound {
     pub serial: Serial,
     pub begin: Moment,

@@ -3,7 +3,7 @@
 use s4_types::Moment;
 
 /// How much a cell holds, and up to when and from when on it tells.
-#[derive(Clone, Copy, Debug, PartialEq, Eq)]
+#[derive(Clone, Copy)]
 pub struct Measure {
     /// How many records there are.
     pub records: u64,

@@ -31,7 +31,7 @@ pub fn has_length(version: WireVersion, count: usize) -> bool
 }
 
 /// What stands at the front of bytes.
-#[derive(Clone, Copy, Debug, PartialEq, Eq)]
+#[derive(Clone, Copy, Debug)]
 pub enum Front<'a> {
     /// A whole frame: its body, and the bytes after it.
     Whole { body: &'a [u8], rest: &'a [u8] },

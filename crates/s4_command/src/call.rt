@@ -9,7 +9,7 @@ use s4_types::Request;
 use std::alloc::Global;
 
 /// A call: where, as whom, and what is asked.
-#[derive(Debug, PartialEq, Drop)]
+#[derive(Drop)]
 pub struct Call {
     pub address: String,
     pub hello: Hello,

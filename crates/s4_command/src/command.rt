@@ -6,7 +6,7 @@ use crate::service::Service;
 use s4_types::Principal;
 
 /// What the program is asked to do.
-#[derive(Debug, PartialEq, Drop)]
+#[derive(Drop)]
 pub enum Command {
     /// To show this text, which was asked for.
     Show(String),

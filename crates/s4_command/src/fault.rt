@@ -11,7 +11,7 @@ use std::fmt;
 use thiserror::Error;
 
 /// Why the words of a command line spell no command.
-#[derive(Debug, PartialEq, Drop, Error)]
+#[derive(Debug, Drop, Error)]
 pub enum WordsFault {
     /// They are wrong; the text says how.
     Wrong(String),

@@ -3,7 +3,7 @@
 use s4_types::Moment;
 
 /// What is asked of a journal.
-#[derive(Clone, Copy, Debug, PartialEq, Eq)]
+#[derive(Clone, Copy, PartialEq, Eq)]
 pub enum Telling {
     /// A line for each record.
     List,
@@ -16,7 +16,7 @@ pub enum Telling {
 }
 
 /// A folder of journals, and what is to be told of them.
-#[derive(Debug, PartialEq, Drop)]
+#[derive(Drop)]
 pub struct History {
     pub telling: Telling,
     pub folder: String,

@@ -3,7 +3,7 @@
 use crate::settings::Settings;
 
 /// A served drive: where it listens, the file of who may log in, and how it is set up.
-#[derive(Debug, PartialEq, Drop)]
+#[derive(Drop)]
 pub struct Service {
     pub address: String,
     pub logins: String,
@@ -21,7 +21,7 @@ pub struct Service {
 }
 
 /// Where a server keeps its history (docs/JOURNAL.md).
-#[derive(Debug, PartialEq, Drop)]
+#[derive(Drop)]
 pub struct Journal {
     /// The path of the folder of its starts.
     pub folder: String,

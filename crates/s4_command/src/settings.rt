@@ -3,7 +3,7 @@
 ghost use Rattle.std.specs.Prelude.{◌<◌, ◌≤◌};
 
 /// For how long a server has patience with a peer, in milliseconds; 0 for ever.
-#[derive(Clone, Copy, Debug, PartialEq, Eq)]
+#[derive(Clone, Copy, PartialEq, Eq)]
 pub struct Patience {
     /// With one that sends no whole frame, and takes nothing of what it is sent.
     pub idle: u64,
@@ -12,7 +12,7 @@ pub struct Patience {
 }
 
 /// What a server is told at its start (docs/OPERATIONS.md, "Flags").
-#[derive(Clone, Copy, Debug, PartialEq, Eq)]
+#[derive(Clone, Copy, PartialEq, Eq)]
 pub struct Settings {
     /// The window at the opening, in milliseconds.
     pub window: u64,

@@ -17,7 +17,7 @@ use std::fmt;
 use thiserror::Error;
 
 /// Why the program ends without success.
-#[derive(Debug, PartialEq, Drop, Error)]
+#[derive(Debug, Drop, Error)]
 pub enum Fault {
     /// The words of the command line spell no command.
     CommandLine(WordsFault),

@@ -12,7 +12,7 @@ use s4_store::Store;
 use s4_types::{Name, Request, Version};
 
 /// What the values and the binding cost that a request makes past, in bytes.
-#[derive(Clone, Copy, Debug)]
+#[derive(Clone, Copy)]
 pub enum Past {
     /// It makes nothing past.
     Nothing,

@@ -11,7 +11,7 @@ use std::collections::BTreeMap;
 use std::marker::Model;
 
 /// A purse that has an account, and the place of it among those of its ledger. It stays there.
-#[derive(Clone, Copy, Debug)]
+#[derive(Clone, Copy)]
 pub struct Payer {
     pub purse: Purse,
     pub place: usize,

@@ -4,7 +4,7 @@ use crate::accounts::Payer;
 use s4_types::{Moment, Purse};
 
 /// What a past value or a past binding costs its purse, until the horizon reaches its end.
-#[derive(Clone, Copy, Debug)]
+#[derive(Clone, Copy)]
 pub struct Charge {
     /// The moment at which the value became past.
     pub end: Moment,
@@ -15,7 +15,7 @@ pub struct Charge {
 }
 
 /// A charge that waits for its end. One that was forgiven waits on, and costs nothing.
-#[derive(Clone, Copy, Debug)]
+#[derive(Clone, Copy)]
 pub struct Entry {
     /// The moment at which the value became past.
     pub end: Moment,

@@ -10,7 +10,7 @@ use s4_types::{Moment, ObjectId};
 use std::collections::VecDeque;
 
 /// The end of a past value that is held: when it ended, and on which track.
-#[derive(Clone, Copy, Debug, PartialEq, Eq)]
+#[derive(Clone, Copy)]
 pub struct Ended {
     pub end: Moment,
     pub object: ObjectId,

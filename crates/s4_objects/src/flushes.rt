@@ -18,7 +18,7 @@ use std::collections::BTreeMap;
 
 /// What a flush takes back of a purse's charges: those for one value, which had that end and that
 /// cost.
-#[derive(Clone, Copy, Debug, PartialEq, Eq)]
+#[derive(Clone, Copy, PartialEq, Eq)]
 pub struct Refund {
     pub purse: Purse,
     pub end: Moment,

@@ -5,7 +5,7 @@ ghost use Rattle.std.specs.Prelude.{◌≡◌};
 use s4_tracks::Track;
 
 /// An object has a track for its data, one for its attributes and one for its ACL.
-#[derive(Clone, Copy, Debug, PartialEq, Eq)]
+#[derive(Clone, Copy)]
 pub enum Which {
     Data,
     Attributes,
@@ -13,7 +13,7 @@ pub enum Which {
 }
 
 /// The tracks of an object that is kept, each on a chain of its own.
-#[derive(Clone, Copy, Debug, PartialEq, Eq)]
+#[derive(Clone, Copy)]
 pub struct Kept {
     pub data: Track,
     pub attributes: Track,

@@ -10,7 +10,7 @@ use std::collections::VecDeque;
 use std::marker::Model;
 
 /// The end of a binding that is still held: when it ended, and of which name in which purse.
-#[derive(Debug, Drop)]
+#[derive(Drop)]
 pub struct Ended {
     pub end: Moment,
     pub purse: Purse,

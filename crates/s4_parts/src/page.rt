@@ -37,7 +37,7 @@ pub trait Visible {
 }
 
 /// At most 64 names, and whether more would follow.
-#[derive(Debug, Drop)]
+#[derive(Drop)]
 pub struct Page {
     pub lines: NameLines,
     pub more: bool,

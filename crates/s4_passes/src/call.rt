@@ -3,7 +3,7 @@
 use s4_types::{Caller, Moment, Reply, Request};
 
 /// What was asked: by whom, at which moment of the caller's clock, and what.
-#[derive(Debug, PartialEq, Drop)]
+#[derive(Drop)]
 pub struct Asked {
     pub caller: Caller,
     pub clock: Moment,
@@ -12,7 +12,7 @@ pub struct Asked {
 
 /// What a caller has in hand of a call: where its record stands, at which moment it was carried out,
 /// and what was replied.
-#[derive(Debug, PartialEq, Drop)]
+#[derive(Drop)]
 pub struct Receipt {
     /// The number of the cell, from 0. It is 0 where the request was wide.
     pub cell: usize,

@@ -23,7 +23,7 @@ pub struct Closed<N: Names> {
 }
 
 /// Why a front can't be closed.
-#[derive(Clone, Copy, Debug, PartialEq, Eq)]
+#[derive(Clone, Copy)]
 pub enum Why {
     /// The passes aren't those that the front was opened with, each once.
     Missing,

@@ -8,7 +8,7 @@ use s4_types::{Bytes, Moment};
 use std::alloc::Global;
 
 /// A line of arrivals after the first.
-#[derive(Debug, PartialEq, Drop)]
+#[derive(Debug, Drop)]
 pub enum ArrivalLine {
     /// Bytes come on a connection at a moment.
     Arrive {

@@ -9,7 +9,7 @@ use std::fmt;
 use thiserror::Error;
 
 /// Why a line or a word of it isn't taken.
-#[derive(Clone, Copy, Debug, PartialEq, Eq, Error)]
+#[derive(Clone, Copy, Debug, Error)]
 pub enum ParseError {
     /// It spells nothing.
     Bad,

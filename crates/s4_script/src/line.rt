@@ -8,7 +8,7 @@ use s4_types::{Caller, Moment, Principal, Step, WireVersion};
 use std::alloc::Global;
 
 /// A line after the first.
-#[derive(Debug, PartialEq, Drop)]
+#[derive(Debug, Drop)]
 pub enum Line {
     /// What the drive is to do: a request at a moment, or a sweep.
     Step(Step),

@@ -11,7 +11,7 @@ use std::alloc::Global;
 use std::fmt;
 
 /// What the first line of a script opens, and the line itself.
-#[derive(Clone, Copy, Debug, PartialEq, Eq)]
+#[derive(Clone, Copy, Debug)]
 pub struct Opening {
     /// The window that the drive begins with, in ticks.
     pub window: u64,

@@ -11,7 +11,7 @@ use std::{fmt, io};
 use thiserror::Error;
 
 /// Why a server ends without success (docs/OPERATIONS.md, "Faults").
-#[derive(Debug, PartialEq, Drop, Error)]
+#[derive(Debug, Drop, Error)]
 pub enum ServerFault {
     /// Not all passes came back.
     Missing,

@@ -3,7 +3,7 @@
 use s4_types::{Bytes, Moment};
 
 /// One step of a run of the hall.
-#[derive(Debug, Drop)]
+#[derive(Drop)]
 pub enum HallStep {
     /// Bytes that come on a connection at a moment.
     Arrive {

@@ -10,7 +10,7 @@ use s4_judge::Held;
 use s4_types::{Bytes, Item, Version};
 
 /// What is told of a value of the data or of the attributes.
-#[derive(Clone, Copy, Debug)]
+#[derive(Clone, Copy)]
 pub enum Stored<'a> {
     /// There is no value.
     Nothing,

@@ -30,7 +30,7 @@ impl SessionFault {
 }
 
 /// What a whole frame says.
-#[derive(Debug, PartialEq, Drop)]
+#[derive(Drop)]
 pub enum Event {
     /// A good Hello.
     Welcome(Caller),
@@ -41,7 +41,7 @@ pub enum Event {
 }
 
 /// Where a connection stands.
-#[derive(Clone, Copy, Debug, PartialEq, Eq)]
+#[derive(Clone, Copy)]
 pub enum SessionState {
     /// Its Hello is still to come.
     Greeting,

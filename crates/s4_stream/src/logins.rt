@@ -11,7 +11,7 @@ use std::collections::BTreeMap;
 use std::marker::Model;
 
 /// Why a text is no table of logins. Lines count from 1, and the first faulty line is the one told.
-#[derive(Clone, Copy, Debug, PartialEq, Eq)]
+#[derive(Clone, Copy)]
 pub enum LoginFault {
     /// The line of this number isn't a principal, a space and a secret.
     BadLine(usize),

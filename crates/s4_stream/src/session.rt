@@ -28,7 +28,7 @@ const PIECE: usize = 4096;
 const KEPT: usize = 16384;
 
 /// Why a piece was not taken.
-#[derive(Clone, Copy, Debug, PartialEq, Eq)]
+#[derive(Clone, Copy)]
 pub enum FeedError {
     /// A fault ended the session.
     Closed,
@@ -37,7 +37,7 @@ pub enum FeedError {
 }
 
 /// Why no bytes came.
-#[derive(Debug, Drop)]
+#[derive(Drop)]
 pub enum FillError {
     /// A growth was refused, and nothing was read.
     NoMemory,

@@ -17,7 +17,7 @@ const FRAMES: usize = 64;
 const BYTES: usize = 65536;
 
 /// How much of what a session holds was served.
-#[derive(Clone, Copy, Debug, PartialEq, Eq)]
+#[derive(Clone, Copy)]
 pub enum Service {
     /// Nothing, since it held no whole frame.
     Nothing,

@@ -187,7 +187,7 @@ fn turn<R: Read, W: Write, A: Answer>(
 }
 
 /// What a read came to.
-#[derive(Clone, Copy, Debug, PartialEq, Eq)]
+#[derive(Clone, Copy)]
 enum Intake {
     Served,
     Enough,
@@ -241,7 +241,7 @@ fn take_in<R: Read, A: Answer>(
 }
 
 /// What a writer took.
-#[derive(Clone, Copy, Debug, PartialEq, Eq)]
+#[derive(Clone, Copy)]
 enum Sending {
     All,
     Later,

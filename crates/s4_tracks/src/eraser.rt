@@ -15,7 +15,7 @@ use s4_types::{Moment, Version};
 /// A walk along a track that erases the past values that begin at or after a moment and end at or
 /// before another, one after the other. It goes from each place of the store to the next newer one,
 /// and looks at no value twice.
-#[derive(Clone, Copy, Debug, PartialEq, Eq)]
+#[derive(Clone, Copy)]
 pub struct Eraser<P> {
     chain: Chain,
     from: Moment,

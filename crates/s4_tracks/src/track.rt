@@ -14,7 +14,7 @@ use s4_types::{Item, Moment, Version};
 
 /// The values of one track, oldest first, on a chain of a store that its calls are lent
 /// (docs/MODEL.md, "Tracks").
-#[derive(Clone, Copy, Debug, PartialEq, Eq)]
+#[derive(Clone, Copy)]
 pub struct Track {
     pub chain: Chain,
 }

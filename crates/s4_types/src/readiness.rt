@@ -2,7 +2,7 @@
 
 /// For which wide requests, a Flush or a SetWindow of the administrator, room was made: the next record
 /// of such a request takes no memory.
-#[derive(Clone, Copy, Debug, PartialEq, Eq)]
+#[derive(Clone, Copy)]
 pub enum Readiness {
     /// For none.
     ForNone,

@@ -8,7 +8,7 @@ use std::marker::Model;
 
 /// The detection window in ticks, and the floor below which the horizon doesn't go any more
 /// (docs/MODEL.md, "The horizon"). Takes no memory.
-#[derive(Clone, Copy, Debug)]
+#[derive(Clone, Copy)]
 pub struct Window {
     ticks: u64,
     floor: Moment,
