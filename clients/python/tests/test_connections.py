@@ -1,6 +1,6 @@
 """Connections that threads share, that are cut at any byte, and in whose middle something is raised."""
+import queue
 import threading
-import time
 import unittest
 from concurrent.futures import ThreadPoolExecutor
 from unittest import mock
@@ -13,7 +13,7 @@ MADE = ObjectId(7, 0, 1)
 
 
 def drive_of(peer, **more):
-    return Drive(peer.address, 7, 1, SECRET, **{"timeout": 10.0, **more})
+    return Drive(peer.address, 7, 1, SECRET, **{"timeout": 60.0, **more})
 
 
 class Sharing(unittest.TestCase):
@@ -26,10 +26,21 @@ class Sharing(unittest.TestCase):
         self.assertEqual(told, [it.to_bytes(4, "big") for it in offsets])
 
     def test_one_is_closed_while_another_waits(self):
-        with Peer(serving(lambda *_: time.sleep(5) or DONE)) as peer, drive_of(peer) as drive:
-            threading.Timer(0.2, drive.close).start()
-            with self.assertRaises(Lost):
+        asked, lost = threading.Event(), threading.Event()
+        with Peer(serving(lambda *_: asked.set() or lost.wait(60) and DONE)) as peer, drive_of(peer) as drive:
+            threading.Thread(target=lambda: asked.wait(60) and drive.close()).start()
+            with self.assertRaisesRegex(Lost, "it was closed"):
                 drive.append(MADE, b"x")
+            lost.set()
+
+    def test_one_is_closed_while_another_waits_for_many(self):
+        for _ in range(20):
+            asked = threading.Event()
+            with Peer(serving(lambda *_, asked=asked: asked.set() or DONE)) as peer, drive_of(peer) as drive:
+                threading.Thread(target=lambda: asked.wait(60) and drive.close()).start()
+                with self.assertRaises((Lost, Closed)):
+                    for _ in range(10000):
+                        drive.ask_all([Write(MADE, 0, b"x")] * 100)
 
 
 class Cutting(unittest.TestCase):
@@ -120,10 +131,13 @@ class Raising(unittest.TestCase):
                         self.assertFalse(drive.is_open)
                         drive.reconnect()
                     self.assertEqual(drive.read(MADE, 77).data, b"\0\0\0\x4d")
-        self.assertGreater(raised, 4)
+        # (each is sent at once, and comes at once at least)
+        self.assertGreaterEqual(raised, 4)
 
     def test_a_reply_that_does_not_come_in_time_is_lost(self):
-        with Peer(serving(lambda *_: b"\0\0")) as peer, drive_of(peer, timeout=0.2) as drive:
+        with Peer(serving(lambda *_: b"\0\0")) as peer, drive_of(peer) as drive:
+            drive.timeout = 0.2
+            drive._socket.settimeout(0.2)
             with self.assertRaisesRegex(Lost, "0.2 seconds"):
                 drive.read(MADE)
             with self.assertRaisesRegex(Closed, "0.2 seconds"):
@@ -132,7 +146,8 @@ class Raising(unittest.TestCase):
     def test_an_interrupt_closes_and_a_late_reply_is_nobody_s(self):
         """The first connection replies late: the reply to what was asked behind the interrupt isn't that one."""
         with Peer(serving(echo)) as peer, drive_of(peer) as drive:
-            with mock.patch("visorgal.exchange.Incoming.add", side_effect=KeyboardInterrupt), self.assertRaises(KeyboardInterrupt):
+            # (of this connection alone: other tests run beside this one)
+            with mock.patch.object(drive._incoming, "add", side_effect=KeyboardInterrupt), self.assertRaises(KeyboardInterrupt):
                 drive.read(MADE, 1)
             with self.assertRaisesRegex(Closed, "KeyboardInterrupt was raised in the middle"):
                 drive.read(MADE, 2)
@@ -253,11 +268,12 @@ class Given(unittest.TestCase):
             self.assertNotIn(repr(SECRET), repr(drive))
 
     def test_a_secret_may_be_digits(self):
-        hellos = []
-        with Peer(lambda talk, _: hellos.append(talk.greet())) as peer:
+        hellos = queue.Queue()
+        with Peer(lambda talk, _: hellos.put(talk.greet())) as peer:
             for secret in (SECRET, SECRET.hex()):
                 Drive(peer.address, 7, 1, secret).close()
-        self.assertEqual(hellos, [b"\0\2\0\0\0\7\0\0\0\1" + SECRET] * 2)
+                # (the peer welcomes first, and tells then what it was told)
+                self.assertEqual(hellos.get(timeout=60), b"\0\2\0\0\0\7\0\0\0\1" + SECRET)
 
     def test_addresses_and_versions_that_are_none(self):
         for address in ("127.0.0.1", ":4710", "127.0.0.1:", "127.0.0.1:x", "127.0.0.1:65536", "127.0.0.1:0"):

@@ -155,6 +155,8 @@ class Files(unittest.TestCase):
 
     def test_the_command_writes_pages_and_ends_where_nobody_reads_on(self):
         self.path.write_text(json.dumps(TOLD), encoding="utf-8")
+        # (so that it isn't old, however slow the machine is)
+        os.utime(self.path, (time.time() + 3600,) * 2)
         words = [sys.executable, "-m", "visorgal", "watch", str(self.path)]
         where = {"cwd": Path(__file__).resolve().parent.parent / "src", "text": True, "stdout": subprocess.PIPE, "stderr": subprocess.PIPE}
         once = subprocess.run([*words, "--once"], **where, check=True)

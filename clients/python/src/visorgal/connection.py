@@ -68,7 +68,7 @@ class Connection:
                 self._socket, self._incoming = made, Incoming(self.version)
                 with self._breaking():
                     made.sendall(self._hello)
-                    check_welcome(next(self._bodies(1)), self.version)
+                    check_welcome(next(self._bodies(made, 1)), self.version)
             except BaseException:
                 made.close()
                 raise
@@ -102,7 +102,7 @@ class Connection:
         here = self._open()
         if count <= 1:
             here.sendall(frames)
-            yield from self._bodies(count)
+            yield from self._bodies(here, count)
             return
         left = memoryview(frames)
         here.setblocking(False)
@@ -118,7 +118,7 @@ class Connection:
 
     def _step(self, here: socket.socket, left: memoryview) -> memoryview:
         """Waits until something can be written or read, and does that. Gives what is left to be written."""
-        readable, writable, _ = select.select([here], [here] if left else [], [], self.timeout)
+        readable, writable = self._ready(here, bool(left), self.timeout)
         if not readable and not writable:
             raise Lost(f"nothing came for {self.timeout} seconds")
         if writable:
@@ -129,7 +129,16 @@ class Connection:
                 self._take(here)
         return left
 
-    def _bodies(self, count: int) -> Iterator[bytes]:
+    def _ready(self, here: socket.socket, writes: bool, seconds: float | None) -> tuple[bool, bool]:
+        """Whether something can be read, and be written where that is wanted, once either is so or the time is over."""
+        try:
+            readable, writable, _ = select.select([here], [here] if writes else [], [], seconds)
+        except ValueError as why:
+            # (another thread has closed it)
+            raise Lost(f"the connection is closed: {self._why}") from why
+        return bool(readable), bool(writable)
+
+    def _bodies(self, here: socket.socket, count: int) -> Iterator[bytes]:
         """The next bodies, as they come."""
         while count:
             for body in self._incoming.bodies():
@@ -137,13 +146,13 @@ class Connection:
                 count -= 1
                 if not count:
                     return
-            self._take(self._open())
+            self._take(here)
 
     def _take(self, here: socket.socket) -> None:
         """Takes what came."""
         piece = here.recv(PIECE)
         if not piece:
-            raise Lost("the drive closed the connection")
+            raise Lost("the drive closed the connection" if self._socket is here else f"the connection is closed: {self._why}")
         self._incoming.add(piece)
 
     def _open(self) -> socket.socket:
@@ -154,7 +163,7 @@ class Connection:
     def _prepare(self) -> None:
         """That the connection is open. One that the drive has closed since the last exchange is opened anew: nothing was sent on it that may have been carried out."""
         here = self._open()
-        if select.select([here], [], [], 0)[0]:
+        if self._ready(here, False, 0)[0]:
             # (unasked the drive says nothing: so this is the end, or a fault before it)
             self._break("the drive closed it")
             self.reconnect()
@@ -181,4 +190,7 @@ class Connection:
         here, self._socket = self._socket, None
         if here is not None:
             self._why = why
+            # (a thread that waits for bytes isn't told of a close, but of an end)
+            with contextlib.suppress(OSError):
+                here.shutdown(socket.SHUT_RDWR)
             here.close()
