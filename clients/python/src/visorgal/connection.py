@@ -32,7 +32,8 @@ class Connection:
             raise ValueError(f"there is no version {version} of the wire: it is 1 or 2")
         self.address, self.who, self.client, self.version, self.timeout = address, who, client, version, timeout
         self._hello = Hello(version, who, client, secret_of(secret)).frame(version)
-        self._lock = threading.RLock()
+        # (the first is held for an exchange; the second where it's ended, so that nobody ends a socket that is closed already)
+        self._lock, self._ending = threading.RLock(), threading.Lock()
         self._socket: socket.socket | None = None
         self._why = "it was closed"
         self.reconnect()
@@ -53,8 +54,17 @@ class Connection:
         return self._socket is not None
 
     def close(self) -> None:
-        """Closes it. What was carried out stays."""
-        self._break("it was closed")
+        """Closes it. What was carried out stays. A thread that waits for a reply on it is told that it's lost."""
+        with self._ending:
+            here, self._socket = self._socket, None
+            if here is None:
+                return
+            self._why = "it was closed"
+            # (that thread hears of an end, and not of a close, behind which the socket's number may be another one's)
+            with contextlib.suppress(OSError):
+                here.shutdown(socket.SHUT_RDWR)
+        with self._lock:
+            here.close()
 
     def reconnect(self) -> None:
         """Opens it anew, where it is closed: for whoever knows what became of what was asked last. BadLogin where the secret is another one."""
@@ -187,10 +197,9 @@ class Connection:
             raise
 
     def _break(self, why: str) -> None:
-        here, self._socket = self._socket, None
-        if here is not None:
-            self._why = why
-            # (a thread that waits for bytes isn't told of a close, but of an end)
-            with contextlib.suppress(OSError):
-                here.shutdown(socket.SHUT_RDWR)
-            here.close()
+        """Closes it, for whoever has it to itself."""
+        with self._ending:
+            here, self._socket = self._socket, None
+            if here is not None:
+                self._why = why
+                here.close()
