@@ -4,7 +4,8 @@ use s4_store::{Chain, PlainPlace, PlainStore, Store};
 use s4_types::{Item, NoMemory, Version};
 use std::cell::Cell;
 
-/// A plain store that counts how often `get` and `newest` show the data of an object.
+/// A plain store that counts how often `get`, `newest` and `item` show the data of an object, and so the
+/// steps of a search.
 #[derive(Drop)]
 pub struct Counting<'a> {
     pub store: PlainStore<Version>,
@@ -83,7 +84,9 @@ impl Store<Version> for Counting<'_> {
     }
 
     fn item(&self, place: PlainPlace) -> &Version {
-        self.store.item(place)
+        let shown = self.store.item(place);
+        self.count(shown);
+        shown
     }
 
     fn set_at(&mut self, place: PlainPlace, item: Version) -> Version {

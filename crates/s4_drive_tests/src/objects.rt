@@ -1,6 +1,7 @@
 //! Each public call of objects, over a plain store.
 
-ghost use Rattle.std.specs.Prelude.{◌≡◌, ◌∷◌, [], is_some, OnOk};
+ghost use Rattle.std.specs.Prelude.{◌≡◌, ◌≤◌, ◌∷◌, [], true, is_some, IfSome, OnOk};
+ghost use Rattle.s4_store.specs.Chains.{newest_of};
 ghost use Rattle.s4_store.specs.PlainStore.{chains_of};
 ghost use Rattle.s4_tracks.specs.Chain.{current_of};
 ghost use Rattle.s4_objects.specs.Table.{Holds, held_in, ends_in};
@@ -29,6 +30,26 @@ fn is_current(
         (held_in (chains_of store.now) objects.now object.now which)) }
 {
     objects.version(store, object, which, None).is_some()
+}
+
+/// Whether a track of an object has a current value that began by the moment.
+fn began_by(
+    objects: &Objects,
+    store: &PlainStore<Version>,
+    object: &ObjectId,
+    which: Which,
+    moment: Moment,
+) -> bool
+    requires { Holds (chains_of store.now) objects.now }
+    ensures current { result ≡ true → is_some (current_of
+        (held_in (chains_of store.now) objects.now object.now which)) ≡ true }
+    ensures begun { result ≡ true → IfSome (newest_of
+        (held_in (chains_of store.now) objects.now object.now which)) (λ v. v.begin ≤ moment) }
+{
+    match objects.version(store, object, which, None) {
+        Some(version) => version.begin.tick() <= moment.tick(),
+        None => false,
+    }
 }
 
 /// Makes an object at 2 that isn't kept yet.
@@ -65,9 +86,9 @@ fn change(
 {
     store.reserve(1)?;
     objects.reserve(1)?;
-    let item = data(alloc, "a")?;
-    assert!(rt; is_current(objects, store, object, Which::Data));
-    objects.put(store, Moment::new(5), object, Which::Data, item);
+    let (item, moment) = (data(alloc, "a")?, Moment::new(5));
+    assert!(rt; began_by(objects, store, object, Which::Data, moment));
+    objects.put(store, moment, object, Which::Data, item);
     Ok(())
 }
 

@@ -1,15 +1,16 @@
 //! Each public call of partitions, over a plain store.
 
-ghost use Rattle.std.specs.Prelude.{◌≡◌, ⊤, Some, None, [], ◌==◌, if◌then◌else◌, OnOk};
+ghost use Rattle.std.specs.Prelude.{◌≡◌, ◌≤◌, ℕ, ⊤, true, Some, None, IfSome, [], ◌∷◌, ◌==◌, if◌then◌else◌, OnOk};
+ghost use Rattle.s4_store.specs.Chains.{newest_of};
 ghost use Rattle.s4_store.specs.PlainStore.{chains_of};
-ghost use Rattle.s4_parts.specs.Table.{Holds};
-ghost use Rattle.s4_parts.specs.Waiting.{Waits, waiting_in};
+ghost use Rattle.s4_parts.specs.Table.{Holds, bindings_in};
+ghost use Rattle.s4_parts.specs.Waiting.{Waits, all_by, waiting_in};
 ghost use Rattle.s4_types.specs.declared.reply.Grant.TheVariants as grant;
 
 use crate::values::{name, object, purse};
 use s4_parts::{Parts, Visible};
 use s4_store::{PlainStore, Store};
-use s4_types::{After, Grant, Moment, ObjectId, Purse, PurseNo, Serial, Version};
+use s4_types::{After, Grant, Moment, Name, ObjectId, Purse, PurseNo, Serial, Version};
 use std::process::Abort;
 use std::test::Fail;
 
@@ -83,22 +84,25 @@ fn bind(
     store: &mut PlainStore<Version>,
     parts: &mut Parts,
     tick: u64,
-    text: &str,
+    name: &Name,
     object: &ObjectId,
 ) -> Result<(), Fail>
     requires holds { Holds (chains_of store.old) parts.old }
     requires waits { Waits (chains_of store.old) parts.old }
+    requires later { all_by tick (waiting_in parts.old) ≡ true }
     ensures holds { OnOk result (Holds (chains_of store.new) parts.new) }
     ensures waits { OnOk result (Waits (chains_of store.new) parts.new) }
     ensures waiting { OnOk result (waiting_in parts.new ≡ waiting_in parts.old) }
+    ensures begun { OnOk result ((t : ℕ) → tick ≤ t → IfSome (newest_of
+        (bindings_in (chains_of store.new) parts.new object.now.purse name.now))
+        (λ v. v.begin ≤ t)) }
 {
-    let name = name(text)?;
     store.reserve(1)?;
-    parts.reserve(store, &object.purse, &name)?;
-    if parts.mount(store, &object.purse, &name, None).is_some() {
+    parts.reserve(store, &object.purse, name)?;
+    if parts.mount(store, &object.purse, name, None).is_some() {
         return Err(Fail::from("a name that is bound already"));
     }
-    parts.bind(store, Moment::new(tick), &name, object);
+    parts.bind(store, Moment::new(tick), name, object);
     Ok(())
 }
 
@@ -107,20 +111,23 @@ fn unbind(
     store: &mut PlainStore<Version>,
     parts: &mut Parts,
     tick: u64,
-    text: &str,
+    name: &Name,
     purse: &Purse,
 ) -> Result<(), Fail>
     requires holds { Holds (chains_of store.old) parts.old }
     requires waits { Waits (chains_of store.old) parts.old }
     requires waiting { waiting_in parts.old ≡ [] }
+    requires begun { IfSome (newest_of
+        (bindings_in (chains_of store.old) parts.old purse.now name.now)) (λ v. v.begin ≤ tick) }
     ensures holds { OnOk result (Holds (chains_of store.new) parts.new) }
     ensures waits { OnOk result (Waits (chains_of store.new) parts.new) }
+    ensures waiting { OnOk result (waiting_in parts.new
+        ≡ record { end = tick; purse = purse.now; name = name.now } ∷ []) }
 {
-    let name = name(text)?;
-    if parts.mount(store, purse, &name, None).is_none() {
+    if parts.mount(store, purse, name, None).is_none() {
         return Err(Fail::from("a name that isn't bound"));
     }
-    parts.unbind(store, Moment::new(tick), purse, &name);
+    parts.unbind(store, Moment::new(tick), purse, name);
     Ok(())
 }
 
@@ -197,11 +204,12 @@ fn names_are_bound_and_unbound_and_freed(rt: HostRuntime) -> Result<(), Fail> {
     let mut store = PlainStore::new(alloc);
     let mut parts = Parts::new(alloc);
     let (first, second) = (object((9, 0), 1)?, object((9, 0), 2)?);
-    bind(&mut store, &mut parts, 2, "a", &first)?;
+    let (a, b) = (name("a")?, name("b")?);
+    bind(&mut store, &mut parts, 2, &a, &first)?;
     ask(&rt, &store, &parts, "bound", &BOUND)?;
-    unbind(&mut store, &mut parts, 5, "a", &first.purse)?;
+    unbind(&mut store, &mut parts, 5, &a, &first.purse)?;
     ask(&rt, &store, &parts, "unbound", &UNBOUND)?;
-    bind(&mut store, &mut parts, 6, "b", &second)?;
+    bind(&mut store, &mut parts, 6, &b, &second)?;
     expire(&rt, &mut store, &mut parts);
     ask(&rt, &store, &parts, "freed", &FREED)
 }

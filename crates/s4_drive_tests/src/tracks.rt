@@ -1,7 +1,8 @@
 //! Each public call of tracks, over a plain store.
 
-ghost use Rattle.std.specs.Prelude.{IfOk, OnOk};
-ghost use Rattle.s4_store.specs.Chains.{IsOpen};
+ghost use Rattle.std.specs.Prelude.{◌≡◌, true, IfOk, OnOk};
+ghost use Rattle.std.specs.List.Sorted.{IsNonDecreasingBy};
+ghost use Rattle.s4_store.specs.Chains.{IsOpen, items_of};
 ghost use Rattle.s4_store.specs.PlainStore.{chains_of};
 ghost use Rattle.s4_tracks.specs.Chain.{IsSmall};
 
@@ -106,6 +107,23 @@ fn erased(told: Option<(Moment, u32)>) -> Option<(u64, u32)> {
     Some((end.tick(), cost))
 }
 
+/// Whether no value begins before an older one.
+fn is_in_order(store: &PlainStore<Version>, track: &Track) -> bool
+    requires { IsOpen (chains_of store.now) track.now.chain }
+    ensures { result ≡ true
+        → IsNonDecreasingBy (λ v. v.begin) (items_of (chains_of store.now) track.now.chain) }
+{
+    let mut newest = 0;
+    for index in 0..store.len(track.chain) {
+        let begin = store.get(track.chain, index).begin.tick();
+        if begin < newest {
+            return false;
+        }
+        newest = begin;
+    }
+    true
+}
+
 /// Takes a step, and tells whether the answer is what is wanted.
 fn holds(
     alloc: Global,
@@ -147,7 +165,10 @@ fn holds(
         Step::Expire(horizon, most, wanted) => {
             Ok(track.expire(store, Moment::new(horizon), most) == wanted)
         }
-        Step::At(tick, wanted) => Ok(shown(track.at(store, Moment::new(tick))) == wanted),
+        Step::At(tick, wanted) => {
+            let is_in_order = is_in_order(store, track);
+            Ok(is_in_order && shown(track.at(store, Moment::new(tick))) == wanted)
+        }
         Step::Current(wanted) => Ok(shown(track.current(store)) == wanted),
         Step::Used(wanted) => Ok(store.used() == wanted),
     }

@@ -23,6 +23,10 @@ use Rattle.s4_objects.specs.Ends.{is_of, ends_of, all_ends, all_by, IsRising, Ha
 use Rattle.s4_objects.specs.Flushes.{flushed_on, Flushes}
 use Rattle.s4_objects.specs.Opening.{Begins, first_on, IsHollow, without}
 use Rattle.s4_objects.specs.Table.{holds_any, HoldsFor, SparesOthers, LeavesNone, Frees}
+use Rattle.std.proofs.Common.{arith}
+use Rattle.std.proofs.lemmas.List.Sorted.{IsNonDecreasingBy-short, IsNonDecreasingBy-drop}
+use Rattle.s4_tracks.proofs.Beginning.{InOrder}
+use Rattle.s4_objects.proofs.Beginning.{order_flushed}
 use Rattle.s4_objects.proofs.Flushing.{flushed_chained}
 use Rattle.s4_objects.proofs.Opening.{items_without, open_without, open_within}
 use Rattle.s4_objects.proofs.Standing.{which_self, which_is, open_before, chained_still, held_now}
@@ -102,8 +106,13 @@ module _ {chains new : Chains Version} {found : ObjectId → Option Kept} {queue
   held-kept : items_of chains (chain_of w k) ≡ held chains (found o) w
   held-kept = sym (ap (λ x. held chains x w) kept)
 
-  pub holds_more : HasEnds (ends_of o w queue ++ t ∷ []) (f (held chains (found o) w)) → is_any (f (held chains (found o) w)) ≡ true → all_by t (all_ends queue) ≡ true → HoldsFor new found (queue ++ ended_now ∷ [])
-  holds_more has some later = record {
+  pub holds_more : HasEnds (ends_of o w queue ++ t ∷ []) (f (held chains (found o) w)) → is_any (f (held chains (found o) w)) ≡ true → all_by t (all_ends queue) ≡ true → InOrder (f (held chains (found o) w)) → HoldsFor new found (queue ++ ended_now ∷ [])
+  holds_more has some later in_order = record {
+    begun = λ q u. subst InOrder (sym (held_by h.chained o k kept w f changed q u)) (by_test (same_object o q && same_which w u)
+        (λ e. let parts = both (same_object o q) (same_which w u) e in
+        subst (λ b. InOrder (if b then f (held chains (found q) u) else held chains (found q) u)) (sym e)
+        (subst (λ x. InOrder (f (held chains (found q) x))) (which_is w u parts.1) (subst (λ x. InOrder (f (held chains (found x) w))) (object_is o q parts.0) in_order)))
+        (λ e. subst (λ b. InOrder (if b then f (held chains (found q) u) else held chains (found q) u)) (sym e) (h.begun q u)));
     chained = chained_by h.chained o k kept w f changed;
     queued = λ q u. subst (λ x. HasEnds x (held new (found q) u)) (sym (ends_more q u queue ended_now)) (queued q u);
     rising = subst IsRising (sym (all_ends_more queue ended_now)) (rising_more (all_ends queue) t h.rising later);
@@ -140,6 +149,7 @@ module _ {chains new : Chains Version} {found : ObjectId → Option Kept} {queue
   pub holds_flushed : {asked : ObjectId → Bool} {rs : List Refund} → Flushes chains new found asked from to rs → HoldsFor new found queue
   holds_flushed {asked} f = record {
     chained = flushed_chained from to h.chained f;
+    begun = λ o w. subst InOrder (sym (f.tracks o w)) (order_flushed from to w (asked o) (held chains (found o) w) (h.begun o w));
     queued = λ o w. subst (HasEnds (ends_of o w queue)) (sym (f.tracks o w)) (has-flushed from to w (asked o) (ends_of o w queue) (held chains (found o) w) (h.queued o w));
     rising = h.rising;
     living = λ o k got. any-still chains new k (λ w e.
@@ -210,6 +220,9 @@ module _ {chains new : Chains Version} {found found' : ObjectId → Option Kept}
   pub holds_made : HoldsFor new found' queue
   holds_made = record {
     chained = chained-made;
+    begun = λ q w. subst InOrder (sym (held_made q w)) (by_test (same_object o q)
+        (λ e. subst (λ x. InOrder (if x then first_on w m creator ∷ [] else held chains (found q) w)) (sym e) (IsNonDecreasingBy-short (λ (v : Version). v.begin) (first_on w m creator ∷ []) (omega arith)))
+        (λ e. subst (λ x. InOrder (if x then first_on w m creator ∷ [] else held chains (found q) w)) (sym e) (h.begun q w)));
     queued = λ q w. subst (HasEnds (ends_of q w queue)) (sym (held_made q w)) (by_test (same_object o q)
         (λ e. subst (λ x. HasEnds (ends_of q w queue) (if x then first_on w m creator ∷ [] else held chains (found q) w)) (sym e)
         (subst (λ x. HasEnds (ends_of x w queue) (first_on w m creator ∷ [])) (object_is o q e)
@@ -364,6 +377,9 @@ module _ {chains : Chains Version} {found : ObjectId → Option Kept} {queue : L
     pub holds_drained : HoldsFor new found' queue
     holds_drained = record {
       chained = f.chained;
+      begun = λ q u. subst InOrder (sym (f.tracks q u)) (by_test (same_object e.object q && same_which e.which u)
+          (λ t. subst (λ b. InOrder (if b then drop 1 (held chains (found q) u) else held chains (found q) u)) (sym t) (IsNonDecreasingBy-drop (λ (v : Version). v.begin) 1 (held chains (found q) u) (h.begun q u)))
+          (λ t. subst (λ b. InOrder (if b then drop 1 (held chains (found q) u) else held chains (found q) u)) (sym t) (h.begun q u)));
       queued = λ q u. subst (HasEnds (ends_of q u queue)) (sym (f.tracks q u)) (by_test (same_object e.object q && same_which e.which u)
           (λ t. subst (λ b. HasEnds (ends_of q u queue) (if b then drop 1 (held chains (found q) u) else held chains (found q) u)) (sym t)
           (freed_has e.end (ends_of q u queue) (held chains (found q) u) (subst (λ b. HasEnds (if b then e.end ∷ ends_of q u queue else ends_of q u queue) (held chains (found q) u)) t (h.queued q u))))

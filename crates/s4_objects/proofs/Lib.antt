@@ -5,6 +5,7 @@ pub mod Mapping
 pub mod Opening
 pub mod Standing
 pub mod Queueing
+pub mod Beginning
 pub mod Holding
 pub mod Using
 pub mod Fitting

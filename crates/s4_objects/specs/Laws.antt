@@ -1,6 +1,7 @@
 -- What a change of other chains leaves of what is kept.
 use Rattle.std.proofs.Common.{◌≡◌, Option, Some, None, refl, sym, ◌∙◌, ap, subst}
 use Rattle.std.specs.Prelude.{◌||◌}
+use Rattle.std.specs.List.Sorted.{IsNonDecreasingBy}
 use Rattle.s4_store.specs.Chains.{Chains, items_of, IsOpen}
 use Rattle.s4_types.specs.declared.object.ObjectId.{ObjectId}
 use Rattle.s4_types.specs.declared.version.Version.{Version}
@@ -33,6 +34,7 @@ module _ {old new : Chains Version} {objects : Objects} (k : KeepsObjects old ne
     chained = record { opened = k.opened; apart = h.chained.apart };
     queued = λ o w. subst (HasEnds (ends_of o w objects.ends.items)) (sym (held_still o w)) (h.queued o w);
     rising = h.rising;
+    begun = λ o w. subst (IsNonDecreasingBy (λ (v : Version). v.begin)) (sym (held_still o w)) (h.begun o w);
     living = λ o l got.
         ap (λ vs. is_any vs || is_any (items_of new l.attributes.chain) || is_any (items_of new l.acl.chain)) (k.items o l which.Data got)
         ∙ ap (λ vs. is_any (items_of old l.data.chain) || is_any vs || is_any (items_of new l.acl.chain)) (k.items o l which.Attributes got)

@@ -2,6 +2,7 @@
 use Rattle.std.specs.Prelude.{◌≡◌, ℕ, Bool, true, false, ◌-◌, ◌||◌, ◌&&◌, ◌==◌, is_some, Option, Some, List, drop, if◌then◌else◌}
 use Rattle.std.specs.VecDeque.{deque_len, deque_capacity}
 use Rattle.std.specs.BTreeMap.{get}
+use Rattle.std.specs.List.Sorted.{IsNonDecreasingBy}
 use Rattle.s4_store.specs.Chains.{Chains, items_of, IsOpen}
 use Rattle.s4_types.specs.declared.object.ObjectId.{ObjectId}
 use Rattle.s4_types.specs.declared.version.Version.{Version}
@@ -47,6 +48,8 @@ pub record HoldsFor (chains : Chains Version) (found : ObjectId → Option Kept)
   -- the ends of a track's past values wait in their order, and only its newest value may have none
   pub queued : (o : ObjectId) (w : Which) → HasEnds (ends_of o w queue) (held chains (found o) w)
   pub rising : IsRising (all_ends queue)
+  -- no value of a track begins before an older one
+  pub begun : (o : ObjectId) (w : Which) → IsNonDecreasingBy (λ v. v.begin) (held chains (found o) w)
   -- an object without values isn't kept
   pub living : (o : ObjectId) (k : Kept) → found o ≡ Some k → holds_any chains k ≡ true
 

@@ -1,13 +1,13 @@
 //! The objects that are kept.
 
-ghost use Rattle.std.specs.Prelude.{◌≡◌, ◌+◌, ◌<◌, ◌≤◌, ℕ, true, false, ◌||◌, ◌&&◌, is_some, Some, [], ◌∷◌, ◌++◌, IsOk, OnOk, OnErr, vec_capacity, min, drop, count_by, if◌then◌else◌};
+ghost use Rattle.std.specs.Prelude.{◌≡◌, ◌+◌, ◌<◌, ◌≤◌, ℕ, true, false, ◌||◌, ◌&&◌, is_some, Some, IfSome, [], ◌∷◌, ◌++◌, IsOk, OnOk, OnErr, vec_capacity, min, drop, count_by, if◌then◌else◌};
 ghost use Rattle.std.specs.List.{prefix_len};
 ghost use Rattle.std.specs.BTreeMap.{get};
 ghost use Rattle.std.specs.Option.{option_copied};
 ghost use Rattle.s4_types.specs.declared.object.ObjectId.{ObjectId};
 ghost use Rattle.s4_types.specs.declared.version.Version.{Version};
 ghost use Rattle.s4_types.specs.Names.{same_object};
-ghost use Rattle.s4_store.specs.Chains.{Chains, item_count};
+ghost use Rattle.s4_store.specs.Chains.{Chains, item_count, newest_of};
 ghost use Rattle.s4_tracks.specs.Chain.{IsSmall, current_of, version_in, with_end, with_put};
 ghost use Rattle.s4_tracks.specs.Swept.{IsSwept};
 ghost use Rattle.s4_objects.specs.declared.kept.Which.{Which};
@@ -134,8 +134,8 @@ impl Objects {
     }
 
     /// Ends the current value of a track and puts another after it, in room that was reserved here
-    /// and in the store. The moment isn't before the end of any past value that is held. Takes no
-    /// memory.
+    /// and in the store. The moment isn't before the begin of the current value, nor before the end of
+    /// any past value that is held. Takes no memory.
     pub fn put<S: Store<Version>>(
         &mut self,
         store: &mut S,
@@ -148,6 +148,8 @@ impl Objects {
         requires current { is_some (current_of
             (held_in (S.chains store.old) self.old object.now which)) ≡ true }
         requires later { all_by moment (ends_in self.old) ≡ true }
+        requires begun { IfSome (newest_of (held_in (S.chains store.old) self.old object.now which))
+            (λ v. v.begin ≤ moment) }
         requires small { IsSmall item }
         requires room { 0 < room_in self.old }
         requires store_room { 0 < S.room store.old }

@@ -2,6 +2,8 @@
 use Rattle.std.proofs.Common.{◌≡◌, ℕ, ◌+◌, Bool, true, false, Option, Some, None, List, [], ◌∷◌, refl, sym, ◌∙◌, ap, subst, arith, length}
 use Rattle.std.specs.Prelude.{◌==◌, ◌||◌, is_some, nat_lt, count_by}
 use Rattle.std.specs.List.{list_any}
+use Rattle.s4_parts.specs.Table.{items_on, IsTimely}
+use Rattle.s4_parts.proofs.Beginning.{timely_none}
 use Rattle.s4_types.specs.declared.object.Purse.{Purse}
 use Rattle.s4_types.specs.declared.version.Version.{Version}
 use Rattle.std.specs.List.Sorted.{IsStrictlySortedBy}
@@ -70,6 +72,7 @@ module _ (chains : Chains Version) (parts : Parts) (none : (p : Purse) → shelf
     apart = λ p q n m c got has. absurd (no-chain p n c got);
     named = λ p n. ap (λ x. is_some (chain_on x n)) (none p) ∙ sym (ap (λ x. list_any (Rattle.s4_types.specs.Name.same_name n) (names_on x)) (none p));
     sorted = λ p. subst (λ x. IsStrictlySortedBy name_cmp (names_on x)) (sym (none p)) sorted-none;
+    timely = λ p n. subst (λ x. IsTimely (items_on chains (chain_on x n))) (sym (none p)) timely_none;
     known = λ p test. ap (λ x. count_by test (serials_on x)) (none p) ∙ sym (ap (λ x. count_by (λ n. passes test (serial_now (bindings_in chains parts p n))) (names_on x)) (none p));
   }
     where

@@ -9,6 +9,8 @@ use Rattle.std.specs.FinMap as finmap
 use Rattle.std.specs.BTreeMap.{get, keys}
 use Rattle.std.proofs.lemmas.Bool.{eqb-true, eq-eqb}
 use Rattle.std.proofs.lemmas.List.Sums.{length-filter}
+use Rattle.s4_parts.specs.Table.{IsTimely}
+use Rattle.s4_parts.proofs.Beginning.{timely_rest}
 use Rattle.s4_types.specs.declared.object.Purse.{Purse}
 use Rattle.s4_types.specs.declared.version.Version.{Version}
 use Rattle.s4_types.specs.Names.{same_purse, purse_cmp}
@@ -91,6 +93,7 @@ module _ {chains : Chains Version} {chain : Purse → List ℕ → Option ℕ} {
     pub holds-closed : (serials' : Purse → List ℕ) → ((q : Purse) (m : List ℕ) → is_some (chain' q m) ≡ list_any (same_name m) (names' q)) → ((q : Purse) → IsStrictlySortedBy name_cmp (names' q)) → ((q : Purse) → serials' q ≡ serials q) → HoldsFor new chain' names' serials'
     holds-closed serials' named sorted same = record {
       opened = opened-closed;
+      timely = λ q m. subst IsTimely (sym (bindings-closed q m)) (s.timely q m);
       apart = λ q o m k d got other. s.apart q o m k d (own-closed q m d got) (own-closed o k d other);
       named = named;
       sorted = sorted;
@@ -131,6 +134,7 @@ module _ (chains new : Chains Version) (before after : Parts) (s : Holds chains 
   holds-mid = holds-changed s purse name g.chain has left mid refl (λ q. serials_on (shelf_of before q))
       (λ test. ap (λ x. count_by test (serials_on (shelf_of before purse)) + tally (passes test x)) (sym ended ∙ ap (λ vs. serial_now (drop 1 vs)) old-here))
       (λ q e. refl)
+      (timely_rest (items_of chains g.chain) (subst IsTimely old-here (s.timely purse name)))
 
   serials-own : (q : Purse) → serials_on (shelf_of after q) ≡ serials_on (shelf_of before q)
   serials-own q = alike before after purse shelf w found replaced serials_on g.serials q

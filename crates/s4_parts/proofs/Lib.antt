@@ -8,6 +8,7 @@ pub mod Rebinding
 pub mod Reserving
 pub mod Listing
 pub mod Queueing
+pub mod Beginning
 pub mod Totals
 pub mod Awaiting
 pub mod Freeing

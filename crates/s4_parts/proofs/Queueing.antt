@@ -70,13 +70,13 @@ ends-more p n (x ∷ es) e = by_test (is_of p n x)
     (λ f. ap (λ b. if b then x.end ∷ ends_of p n (es ++ e ∷ []) else ends_of p n (es ++ e ∷ [])) f ∙ ends-more p n es e
     ∙ sym (ap (λ b. (if b then x.end ∷ ends_of p n es else ends_of p n es) ++ (if is_of p n e then e.end ∷ [] else [])) f))
 
-newest-tail : (v w : Version) (vs : List Version) → newest_of (v ∷ w ∷ vs) ≡ newest_of (w ∷ vs)
+pub newest-tail : (v w : Version) (vs : List Version) → newest_of (v ∷ w ∷ vs) ≡ newest_of (w ∷ vs)
 newest-tail v w vs =
     let down : suc (suc (length vs)) - 1 ≡ suc (length vs) = omega arith in
     let again : length vs ≡ suc (length vs) - 1 = omega arith in
     ap (slice_get (v ∷ w ∷ vs)) down ∙ ap (slice_get (w ∷ vs)) again
 
-current-tail : (v w : Version) (vs : List Version) → current_of (v ∷ w ∷ vs) ≡ current_of (w ∷ vs)
+pub current-tail : (v w : Version) (vs : List Version) → current_of (v ∷ w ∷ vs) ≡ current_of (w ∷ vs)
 current-tail v w vs = ap endless (newest-tail v w vs)
 
 -- the current binding ends

@@ -25,6 +25,7 @@ use Rattle.s4_parts.specs.declared.parts.Parts.{Parts}
 use Rattle.s4_parts.specs.declared.shelf.Shelf.{Shelf}
 use Rattle.s4_parts.specs.Table.{shelf_of, chain_at, chain_on, names_on, serials_on, items_on, bindings_in, names_in, is_any, object_of, serial_now, passes, binding, HoldsFor, Holds, KeepsOthers}
 use Rattle.s4_types.proofs.Ordered.{tally}
+use Rattle.s4_parts.specs.Table.{IsTimely}
 use Rattle.s4_parts.proofs.Counting.{any-count}
 use Rattle.s4_parts.proofs.Shelving.{alike, any-at, count-more, count-less}
 use Rattle.s4_parts.proofs.Standing.{changed-at, names-more, names-same, holds-changed}
@@ -37,6 +38,7 @@ moved chains f g a b x y e d z s = record {
   apart = λ p q n m c got has. s.apart p q n m c (sym (e p n) ∙ got) (sym (e q m) ∙ has);
   named = λ p n. ap is_some (e p n) ∙ s.named p n ∙ ap (list_any (same_name n)) (sym (d p));
   sorted = λ p. subst (λ ks. Rattle.std.specs.List.Sorted.IsStrictlySortedBy name_cmp ks) (sym (d p)) (s.sorted p);
+  timely = λ p n. subst (λ o. IsTimely (items_on chains o)) (sym (e p n)) (s.timely p n);
   known = λ p test. ap (count_by test) (z p) ∙ s.known p test ∙ sym (λ i. count_by (λ n. passes test (serial_now (items_on chains (e p n i)))) (d p i));
 }
 
@@ -73,13 +75,13 @@ module _ (chains : Chains Version) (before after : Parts) (s : Holds chains befo
   pub rebound-same : is_any (f (items_of chains c)) ≡ is_any (items_of chains c) → (q : Purse) → names_in opened after q ≡ names_in chains before q
   rebound-same same q = names-through q ∙ names-same s purse name c has (f (items_of chains c)) opened changed (same ∙ ap is_any (sym old)) q
 
-  pub rebound-holds : ((test : ℕ → Bool) → count_by test (serials_on (Some new)) + tally (passes test (serial_now (items_of chains c))) ≡ count_by test (serials_on (Some shelf)) + tally (passes test (serial_now (f (items_of chains c))))) → Holds opened after
-  rebound-holds counted = moved opened (chain_at before) (chain_at after) (λ p. names_on (shelf_of before p)) (λ p. names_on (shelf_of after p)) (λ p. serials_on (shelf_of after p)) (λ p. serials_on (shelf_of after p)) own names-own (λ p. refl)
+  pub rebound-holds : ((test : ℕ → Bool) → count_by test (serials_on (Some new)) + tally (passes test (serial_now (items_of chains c))) ≡ count_by test (serials_on (Some shelf)) + tally (passes test (serial_now (f (items_of chains c))))) → IsTimely (f (items_of chains c)) → Holds opened after
+  rebound-holds counted timely = moved opened (chain_at before) (chain_at after) (λ p. names_on (shelf_of before p)) (λ p. names_on (shelf_of after p)) (λ p. serials_on (shelf_of after p)) (λ p. serials_on (shelf_of after p)) own names-own (λ p. refl)
       (holds-changed s purse name c has (f (items_of chains c)) opened changed (λ p. serials_on (shelf_of after p))
       (λ test. ap (λ x. count_by test (serials_on x) + tally (passes test (serial_now (bindings_in chains before purse name)))) (Rattle.s4_parts.proofs.Shelving.shelf-here before after purse shelf new found replaced purse (Rattle.s4_types.proofs.SameNames.purse_self purse))
       ∙ ap (λ vs. count_by test (serials_on (Some new)) + tally (passes test (serial_now vs))) old ∙ counted test
       ∙ ap (λ x. count_by test (serials_on x) + tally (passes test (serial_now (f (items_of chains c))))) (sym found))
-      (λ q e. ap serials_on (Rattle.s4_parts.proofs.Shelving.shelf-there before after purse shelf new found replaced q e)))
+      (λ q e. ap serials_on (Rattle.s4_parts.proofs.Shelving.shelf-there before after purse shelf new found replaced q e)) timely)
 
   pub rebound-others : KeepsOthers chains opened before
   rebound-others = record {

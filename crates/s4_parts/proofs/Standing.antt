@@ -17,6 +17,7 @@ use Rattle.s4_store.specs.Chains.{Chains, items_of, IsOpen, StillOpen}
 use Rattle.s4_store.specs.Laws.{items_here, items_elsewhere, open_here, fresh_differs, fresh_is_closed, StillOpen-insert}
 use Rattle.s4_parts.specs.Table.{items_on, is_any, serial_now, passes, HoldsFor}
 use Rattle.s4_parts.specs.Shelf.{or_else, with_chain}
+use Rattle.s4_parts.specs.Table.{IsTimely}
 use Rattle.s4_parts.proofs.Leaving.{open-elsewhere}
 use Rattle.s4_types.proofs.Ordered.{tally, count-one, filter-one}
 
@@ -79,8 +80,11 @@ module _ {chains : Chains Version} {chain : Purse → List ℕ → Option ℕ} {
   pub holds-changed : (serials' : Purse → List ℕ)
       → ((test : ℕ → Bool) → count_by test (serials' p) + tally (passes test (serial_now (items_on chains (chain p n)))) ≡ count_by test (serials p) + tally (passes test (serial_now xs)))
       → ((q : Purse) → same_purse p q ≡ false → serials' q ≡ serials q)
-      → HoldsFor new chain names serials'
-  holds-changed serials' counted others = record {
+      → IsTimely xs → HoldsFor new chain names serials'
+  holds-changed serials' counted others timely = record {
+    timely = λ q m. subst IsTimely (sym (changed-at q m)) (by_test (same_purse p q && same_name n m)
+        (λ e. subst (λ b. IsTimely (if b then xs else items_on chains (chain q m))) (sym e) timely)
+        (λ e. subst (λ b. IsTimely (if b then xs else items_on chains (chain q m))) (sym e) (s.timely q m)));
     opened = λ q m d got. StillOpen-insert chains new c xs changed d (s.opened q m d got);
     apart = s.apart;
     named = s.named;
@@ -220,6 +224,7 @@ module _ {chains : Chains Version} {chain : Purse → List ℕ → Option ℕ} {
     pub holds-opened : (serials' : Purse → List ℕ) → ((q : Purse) (m : List ℕ) → is_some (chain' q m) ≡ list_any (same_name m) (names' q)) → ((q : Purse) → IsStrictlySortedBy name_cmp (names' q)) → ((q : Purse) → serials' q ≡ serials q) → HoldsFor new chain' names' serials'
     holds-opened serials' named sorted same = record {
       opened = opened-all;
+      timely = λ q m. subst IsTimely (sym (bindings-kept q m)) (s.timely q m);
       apart = apart-all;
       named = named;
       sorted = sorted;

@@ -5,7 +5,7 @@ use Rattle.s4_types.specs.declared.object.Purse.{Purse}
 use Rattle.s4_types.specs.declared.version.Version.{Version}
 use Rattle.s4_store.specs.Chains.{Chains, items_of, IsOpen}
 use Rattle.s4_parts.specs.declared.parts.Parts.{Parts}
-use Rattle.s4_parts.specs.Table.{shelf_of, names_on, chain_at, items_on, bindings_in, names_in, is_any, passes, serial_now, Holds}
+use Rattle.s4_parts.specs.Table.{shelf_of, names_on, chain_at, items_on, bindings_in, names_in, is_any, passes, serial_now, IsTimely, Holds}
 use Rattle.s4_parts.specs.Waiting.{HasEnds, ends_of, waiting_in, Waits}
 
 -- the chains of the table's names are open, and hold what they held
@@ -41,5 +41,6 @@ module _ {old new : Chains Version} {parts : Parts} (k : KeepsTable old new part
     apart = s.apart;
     named = s.named;
     sorted = s.sorted;
+    timely = λ p n. subst IsTimely (sym (bindings_still p n)) (s.timely p n);
     known = λ p test. s.known p test ∙ sym (ap (λ f. count_by f (names_on (shelf_of parts p))) (λ i n. passes test (serial_now (bindings_still p n i))));
   }

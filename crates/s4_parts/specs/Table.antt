@@ -1,7 +1,7 @@
 -- The table of partitions, as its callers see it: the names of each purse, and the bindings of each name.
-use Rattle.std.specs.Prelude.{◌≡◌, ◌≢◌, ℕ, Bool, true, false, ◌+◌, ◌-◌, ◌<◌, ◌≤◌, ◌&&◌, is_some, Option, Some, None, List, [], ◌∷◌, length, filter, count_by}
+use Rattle.std.specs.Prelude.{◌≡◌, ◌≢◌, ℕ, Bool, true, false, ◌+◌, ◌-◌, ◌<◌, ◌≤◌, ◌&&◌, is_some, IfSome, Option, Some, None, List, [], ◌∷◌, length, filter, count_by}
 use Rattle.std.specs.List.{list_any}
-use Rattle.std.specs.List.Sorted.{IsStrictlySortedBy}
+use Rattle.std.specs.List.Sorted.{IsStrictlySortedBy, IsNonDecreasingBy}
 use Rattle.std.specs.Option.{option_map}
 use Rattle.std.specs.Vec.{vec_len, vec_capacity}
 use Rattle.std.specs.BTreeMap.{get, keys}
@@ -86,12 +86,24 @@ binding m name object = record { begin = m; end = None; item = Some (Bind object
 -- WHAT HOLDS OF A TABLE OVER A STORE
 
 -- each name has an open chain of its own, the names are in order, and what is bound now is known
+-- none of the values ends before it begins
+abbrev pub AreLasting : List Version → Type 0
+AreLasting [] = Unit {0}
+AreLasting (v ∷ vs) = IfSome v.end (λ e. v.begin ≤ e) × AreLasting vs
+
+-- the values stand in the order of their begins, and none ends before it begins
+pub record IsTimely (vs : List Version) : Type 0 where
+  pub order : IsNonDecreasingBy (λ v. v.begin) vs
+  pub lasting : AreLasting vs
+
 pub record HoldsFor (chains : Chains Version) (chain : Purse → List ℕ → Option ℕ) (names : Purse → List (List ℕ))
     (serials : Purse → List ℕ) : Type 0 where
   pub opened : (p : Purse) (n : List ℕ) (c : ℕ) → chain p n ≡ Some c → IsOpen chains c
   pub apart : (p q : Purse) (n m : List ℕ) (c : ℕ) → chain p n ≡ Some c → chain q m ≡ Some c → (p ≡ q) × (n ≡ m)
   pub named : (p : Purse) (n : List ℕ) → is_some (chain p n) ≡ list_any (same_name n) (names p)
   pub sorted : (p : Purse) → IsStrictlySortedBy name_cmp (names p)
+  -- no binding of a name begins before an older one, or ends before it begins
+  pub timely : (p : Purse) (n : List ℕ) → IsTimely (items_on chains (chain p n))
   pub known : (p : Purse) (test : ℕ → Bool) → count_by test (serials p)
       ≡ count_by (λ n. passes test (serial_now (items_on chains (chain p n)))) (names p)
 

@@ -1,6 +1,7 @@
 //! Pages of names.
 
 ghost use Rattle.std.specs.Prelude.{◌≡◌, ◌≤◌, ℕ, List, Option, ◌++◌, IfOk, IfSome, IfNone, take, length, nat_lt, false, vec_capacity};
+ghost use Rattle.std.specs.List.Sorted.{IsNonDecreasingBy};
 ghost use Rattle.std.specs.BTreeMap.Range.{is_from_start};
 ghost use Rattle.std.specs.Range.Bound.{bound_map};
 ghost use Rattle.s4_types.specs.declared.object.ObjectId.{ObjectId};
@@ -141,6 +142,7 @@ fn line_of<S: Store<Version>, V: Visible>(
     visible: &V,
 ) -> Option<NameLine>
     requires open { IsOpen (S.chains store.now) track.chain }
+    requires order { IsNonDecreasingBy (λ v. v.begin) (items_of (S.chains store.now) track.chain) }
     requires ready { V.is_ready visible.now }
     ensures { result ≡ line (V.shown visible.now) at.now name.now (items_of (S.chains store.now) track.chain) }
 {

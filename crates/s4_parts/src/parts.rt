@@ -2,12 +2,13 @@
 
 ghost use Rattle.std.specs.Prelude.{◌≡◌, ◌<◌, ◌≤◌, ◌+◌, ◌==◌, ◌&&◌, ℕ, true, IfSome, slice_get, Some, None, List, [], ◌∷◌, ◌++◌, OnOk, OnErr, IsOk, is_some, count_by, min, drop, filter, if◌then◌else◌};
 ghost use Rattle.std.specs.List.{list_any};
+ghost use Rattle.std.specs.List.Sorted.{IsNonDecreasingBy};
 ghost use Rattle.s4_types.specs.declared.object.Purse.{Purse};
 ghost use Rattle.s4_types.specs.declared.version.Version.{Version};
 ghost use Rattle.s4_types.specs.Bindings.{is_serial, with_name};
 ghost use Rattle.s4_types.specs.Name.{same_name};
 ghost use Rattle.s4_types.specs.Names.{same_purse};
-ghost use Rattle.s4_store.specs.Chains.{Chains, items_of, item_count, IsOpen, StillOpen};
+ghost use Rattle.s4_store.specs.Chains.{Chains, items_of, item_count, newest_of, IsOpen, StillOpen};
 ghost use Rattle.s4_tracks.specs.Chain.{current_of, version_in, with_end};
 ghost use Rattle.s4_parts.specs.Table.{bindings_in, binding, chain_at, names_in, names_on, object_of, serial_now, serials_on, shelf_of, is_any, names_room, HasRoom, KeepsRoom, TakesRoom, Holds, KeepsOthers, KeepsForeign, KeepsChains, LeavesNoChain, GivesUpEmpty, OpensFor};
 ghost use Rattle.s4_parts.specs.Waiting.{waiting_in, all_by, bound_in, is_gone, Waits, Sweeps};
@@ -102,8 +103,8 @@ impl Parts {
     }
 
     /// Binds a name to an object, in the object's purse, from the moment on, in room that was
-    /// reserved here and in the store. Takes no memory. Another name that has room keeps it, where there
-    /// was room for two.
+    /// reserved here and in the store. The moment isn't before the end of any binding that is still held.
+    /// Takes no memory. Another name that has room keeps it, where there was room for two.
     pub fn bind<S: Store<Version>>(
         &mut self,
         store: &mut S,
@@ -115,6 +116,7 @@ impl Parts {
         requires waits { Waits (S.chains store.old) self.old }
         requires reserved { HasRoom self.old object.now.purse name.now }
         requires unbound { object_of (current_of (bindings_in (S.chains store.old) self.old object.now.purse name.now)) ≡ None }
+        requires later { all_by moment (waiting_in self.old) ≡ true }
         requires room { 0 < S.room store.old }
         ensures holds { Holds (S.chains store.new) self.new }
         ensures waits { Waits (S.chains store.new) self.new }
@@ -146,8 +148,8 @@ impl Parts {
         store.push(track.chain, begun);
     }
 
-    /// Ends the binding of a name that is bound. The moment isn't before the end of any binding that is
-    /// still held. Takes no memory.
+    /// Ends the binding of a name that is bound. The moment isn't before its begin, nor before the end
+    /// of any binding that is still held. Takes no memory.
     pub fn unbind<S: Store<Version>>(
         &mut self,
         store: &mut S,
@@ -159,6 +161,9 @@ impl Parts {
         requires waits { Waits (S.chains store.old) self.old }
         requires later { all_by moment (waiting_in self.old) ≡ true }
         requires bound { is_some (serial_now (bindings_in (S.chains store.old) self.old purse.now name.now)) ≡ true }
+        requires begun { IfSome
+            (newest_of (bindings_in (S.chains store.old) self.old purse.now name.now))
+            (λ v. v.begin ≤ moment) }
         ensures holds { Holds (S.chains store.new) self.new }
         ensures waits { Waits (S.chains store.new) self.new }
         ensures waiting { waiting_in self.new ≡ waiting_in self.old ++ record { end = moment; purse = purse.now; name = name.now } ∷ [] }
@@ -282,7 +287,8 @@ pub(crate) fn bound_object<S: Store<Version>>(
     track: Track,
     at: Option<Moment>,
 ) -> Option<ObjectId>
-    requires { IsOpen (S.chains store.now) track.chain }
+    requires open { IsOpen (S.chains store.now) track.chain }
+    requires order { IsNonDecreasingBy (λ v. v.begin) (items_of (S.chains store.now) track.chain) }
     ensures { result ≡ object_of (version_in at (items_of (S.chains store.now) track.chain)) }
 {
     match track.version(store, at) {

@@ -1,6 +1,6 @@
 -- Names: what is held of them tells what they are bound to, and records that bind them.
 use Rattle.std.proofs.Common.{◌≡◌, ℕ, ◌+◌, ◌≤◌, Bool, true, false, cond, Option, Some, None, List, [], ◌∷◌, ◌++◌, refl, sym, ◌∙◌, ap, subst, arith, length, filter}
-use Rattle.std.specs.Prelude.{◌&&◌, ◌==◌, nat_le, is_some, count_by, map, replicate, if◌then◌else◌}
+use Rattle.std.specs.Prelude.{◌&&◌, ◌==◌, nat_le, is_some, IfSome, count_by, map, replicate, if◌then◌else◌}
 use Rattle.std.specs.List.{list_all, list_any}
 use Rattle.std.specs.List.Sorted.{IsStrictlySortedBy}
 use Rattle.std.specs.Option.{option_map}
@@ -30,7 +30,7 @@ use Rattle.s4_types.specs.Play.{last_of}
 use Rattle.s4_types.proofs.Booleans.{by_test, both, not_both, &&-false}
 use Rattle.s4_types.proofs.Snoc.{newest-snoc, bindings-snoc, names_of-snoc}
 use Rattle.s4_types.proofs.SameNames.{purse_is, name_is, name_self}
-use Rattle.s4_store.specs.Chains.{Chains, items_of, item_count, IsOpen, StillOpen}
+use Rattle.s4_store.specs.Chains.{Chains, items_of, item_count, newest_of, IsOpen, StillOpen}
 use Rattle.s4_tracks.specs.Chain.{endless, current_of, version_in, with_end, end_at}
 use Rattle.s4_tracks.specs.Swept.{unexpired, AgreesWith, IsFrom}
 use Rattle.s4_tracks.proofs.Ending.{with_end-snoc}
@@ -50,6 +50,7 @@ use Rattle.s4_types.specs.Counts.{made_by, values_ended_by, bindings_ended_by, c
 use Rattle.s4_state.specs.Laid.{laid, laid_by, version_by, versions_on, bindings_on}
 use Rattle.s4_state.specs.Sound.{IsSound, IsNext, EndsBy, ValuesStand}
 use Rattle.s4_state.specs.Stands.{horizon_now, is_lasting, ObjectsStand, NamesStand, IsTidy, Balances, StandsFor, MakesNone}
+use Rattle.s4_state.proofs.Begun.{by_then, newest-then}
 use Rattle.s4_state.proofs.Reading.{in_force-laid}
 use Rattle.s4_state.proofs.Living.{all_by-up, none-newer, floor-now}
 use Rattle.s4_state.proofs.Naming.{lasting_as}
@@ -115,6 +116,23 @@ module _ {base : Base} {size : ℕ} {chains : Chains Version} {kept : Objects} {
       sym (any-filter _ _ (names_in chains table o.purse) none) ∙ ap (list_any (λ n. is_serial o.serial (serial_now (bindings_in chains table o.purse n)))) (s.partitions.names o.purse)
       ∙ any-filter _ _ (names_of base o.purse h) none
       ∙ ap (λ f. list_any f (names_of base o.purse h)) (λ i n. is_serial o.serial (serial-now o.purse n t l i))
+
+  -- the current binding of a name began by now
+  pub binding_began : (p : Purse) (n : List ℕ) (t : ℕ) → last_of h ≤ t → is_some (serial_now (bindings_in chains table p n)) ≡ true → IfSome (newest_of (bindings_in chains table p n)) (λ v. v.begin ≤ t)
+  binding_began p n t l now =
+      let told : current_of (bindings_in chains table p n) ≡ option_map (as_version p n) (in_force_by t (bindings base p n h)) =
+      agrees_version_in (horizon_now base h) None (bindings_in chains table p n) (bindings_on base p n h) tt (s.partitions.bindings p n)
+      ∙ current-bound p n (last_of h) t (bindings base p n h) l (s.sound.bindings p n) in
+      newest-then t (newest_of (bindings_in chains table p n)) (there (current_of (bindings_in chains table p n)) now)
+      (subst (λ (x : Option Version). IfSome x (λ v. v.begin ≤ t)) (sym told) (of (in_force_by t (bindings base p n h)) (by_then t (bindings base p n h))))
+    where
+      there : (x : Option Version) → is_some (option_map (λ o. o.serial) (object_of x)) ≡ true → is_some x ≡ true
+      there None e = e
+      there (Some v) e = refl
+
+      of : (x : Option (Value ℕ)) → IfSome x (λ v. v.begin ≤ t) → IfSome (option_map (as_version p n) x) (λ v. v.begin ≤ t)
+      of None h = h
+      of (Some v) h = h
 
 -- OPEN CHAINS
 

@@ -7,6 +7,7 @@ pub mod Fitting
 pub mod Limits
 pub mod Granting
 pub mod Reading
+pub mod Begun
 pub mod Sounding
 pub mod Waiting
 pub mod Standing

@@ -7,9 +7,10 @@ ghost use Rattle.std.specs.FinMap as finmap;
 ghost use Rattle.s4_store.specs.Chains.{items_of, IsOpen, StillOpen};
 ghost use Rattle.s4_types.specs.Versions.{ends_by};
 ghost use Rattle.s4_tracks.specs.Chain.{IsSmall, begun, in_force, current_of, latest as latest_of, version_in, with_end, with_put, cost_of as cost, first_told, with_first_erased, is_expired, IsInOrder};
+ghost use Rattle.std.specs.List.Sorted.{IsNonDecreasingBy};
 
 use crate::eraser::Eraser;
-use s4_store::{Chain, Store};
+use s4_store::{Chain, Key, Store};
 use s4_types::{Item, Moment, Version};
 
 /// The values of one track, oldest first, on a chain of a store that its calls are lent
@@ -19,14 +20,27 @@ pub struct Track {
     pub chain: Chain,
 }
 
+/// A value by its begin.
+struct Began;
+
+impl Key<Version> for Began {
+    ghost key = { λ v. v.begin };
+
+    fn of(item: &Version) -> u64 {
+        item.begin.tick()
+    }
+}
+
 impl Track {
-    /// The value in force at the moment, with its begin and its end. It looks at the values from
-    /// the newest to the one that it finds, each once.
+    /// The value in force at the moment, with its begin and its end. The values stand in the order of
+    /// their begins. The store finds it.
     pub fn at<'a, S: Store<Version>>(&self, store: &'a S, moment: Moment) -> Option<&'a Version>
-        requires { IsOpen (S.chains store.now) self.now.chain }
+        requires open { IsOpen (S.chains store.now) self.now.chain }
+        requires order { IsNonDecreasingBy (λ v. v.begin)
+            (items_of (S.chains store.now) self.now.chain) }
         ensures { option_copied result ≡ in_force moment (items_of (S.chains store.now) self.now.chain) }
     {
-        let found = latest(store, self.chain, moment)?;
+        let found = store.newest_by::<Began>(self.chain, moment.tick())?;
         if is_by(found.end, moment) {
             None
         } else {
@@ -53,7 +67,9 @@ impl Track {
         store: &'a S,
         at: Option<Moment>,
     ) -> Option<&'a Version>
-        requires { IsOpen (S.chains store.now) self.now.chain }
+        requires open { IsOpen (S.chains store.now) self.now.chain }
+        requires order { IsNonDecreasingBy (λ v. v.begin)
+            (items_of (S.chains store.now) self.now.chain) }
         ensures { option_copied result ≡ version_in at (items_of (S.chains store.now) self.now.chain) }
     {
         match at {
@@ -199,40 +215,4 @@ pub(crate) fn is_by(end: Option<Moment>, moment: Moment) -> bool
         Some(end) => end.tick() <= moment.tick(),
         None => false,
     }
-}
-
-// The newest value that began by the moment. The first look is at the newest value of all, so that
-// a store that counts its calls of `newest` sees each look-up.
-fn latest<'a, S: Store<Version>>(store: &'a S, chain: Chain, moment: Moment) -> Option<&'a Version>
-    requires { IsOpen (S.chains store.now) chain }
-    ensures { option_copied result ≡ latest_of moment (items_of (S.chains store.now) chain) }
-{
-    let newest = store.newest(chain)?;
-    if begins_by(newest, moment) {
-        return Some(newest);
-    }
-    let place = store.newest_place(chain)?;
-    latest_before(store, place, moment)
-}
-
-// The newest value that began by the moment, of those that are older than the one at the place.
-fn latest_before<S: Store<Version>>(store: &S, place: S::Place, moment: Moment) -> Option<&Version>
-    requires { S.is_place store.now place }
-    ensures { option_copied result ≡ latest_of moment (take (S.index_at place) (items_of (S.chains store.now) (S.chain_at place))) }
-{
-    let mut at = store.older(place);
-    while let Some(older) = at {
-        let version = store.item(older);
-        if begins_by(version, moment) {
-            return Some(version);
-        }
-        at = store.older(older);
-    }
-    None
-}
-
-fn begins_by(version: &Version, moment: Moment) -> bool
-    ensures { result ≡ nat_le version.now.begin moment }
-{
-    version.begin.tick() <= moment.tick()
 }

@@ -1,6 +1,7 @@
 use Rattle.std.proofs.Common.{sym, subst}
 use Rattle.s4_names.specs.Drawn.{drawn_in}
 use Rattle.s4_state.specs.Stands.{base_in, size_in, StandsFor}
+use Rattle.s4_state.proofs.Begun.{newest_began}
 use Rattle.s4_state.proofs.Reading.{current-held}
 use Rattle.s4_state.proofs.Standing.{ends_then, stands_room, stands_put}
 use Rattle.s4_state.proofs.change.put.Given.{Over}
@@ -20,6 +21,9 @@ put-requires-clause-current g c = current-held (ready g (goal.at.put-requires-cl
 
 pub put-requires-clause-later : goal.put-requires-clause-later
 put-requires-clause-later g c = ends_then (ready g (goal.at.put-requires-clause-later g c).In_ok-reserve-2) c.args.added.now.moment c.requires.next.later
+
+pub put-requires-clause-begun : goal.put-requires-clause-begun
+put-requires-clause-begun g c = newest_began (ready g (goal.at.put-requires-clause-begun g c).In_ok-reserve-2) c.args.object.now c.args.added.now.moment c.requires.next.later c.requires.lives c.args.which
 
 pub returns-clause-ok : goal.returns-clause-ok
 returns-clause-ok g c =

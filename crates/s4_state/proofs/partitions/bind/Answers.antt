@@ -3,8 +3,9 @@ use Rattle.std.specs.Prelude.{Result, Ok, Err, OnErr}
 use Rattle.s4_names.specs.Drawn.{drawn_in}
 use Rattle.s4_tracks.specs.Chain.{current_of}
 use Rattle.s4_parts.specs.Table.{object_of}
+use Rattle.s4_parts.specs.Waiting.{all_by}
 use Rattle.s4_state.specs.Stands.{base_in, size_in, StandsFor}
-use Rattle.s4_state.proofs.Binding.{GivesRoom, stands_roomless, stands_bound, unbound_before}
+use Rattle.s4_state.proofs.Binding.{GivesRoom, stands_roomless, stands_bound, unbound_before, later_then}
 use Rattle.s4_state.proofs.partitions.bind.Given.{Over}
 use Rattle.s4_state.proofs.partitions.bind.Goals as goal
 use Rattle.s4_state.proofs.partitions.bind.Goals.{In_ok-reserve, In_ok-reserve-2}
@@ -25,6 +26,10 @@ pub bind-requires-clause-unbound : goal.bind-requires-clause-unbound
 bind-requires-clause-unbound g c =
     ap (λ vs. object_of (current_of vs)) (c.in_ok-reserve-2.ensures.bindings c.args.object.now.purse c.args.name.now)
     ∙ unbound_before (stored g (goal.at.bind-requires-clause-unbound g c).In_ok-reserve) c.requires.next c.requires.granted c.args.name.now c.args.object.now c.requires.asked
+
+pub bind-requires-clause-later : goal.bind-requires-clause-later
+bind-requires-clause-later g c =
+    ap (all_by c.args.added.now.moment) c.in_ok-reserve-2.ensures.waiting ∙ later_then (stored g (goal.at.bind-requires-clause-later g c).In_ok-reserve) c.requires.next c.requires.granted
 
 pub returns-clause-ok : goal.returns-clause-ok
 returns-clause-ok g c =

@@ -7,6 +7,7 @@ use Rattle.s4_objects.specs.Ends.{all_ends, all_by}
 use Rattle.s4_objects.specs.Table.{HoldsFor, found_in, held_in, ends_in}
 use Rattle.s4_objects.proofs.Queueing.{by_more, all_ends_more, ended_has, ended_any}
 use Rattle.s4_objects.proofs.Holding.{held_by, spares_by, leaves_by, holds_more}
+use Rattle.s4_tracks.proofs.Beginning.{order_ended}
 use Rattle.s4_objects.proofs.Using.{used_ended}
 use Rattle.s4_objects.proofs.objects.Objects.end.Given.{Over}
 use Rattle.s4_objects.proofs.objects.Objects.end.Goals as goal
@@ -24,7 +25,7 @@ returns-clause-holds g c =
     let values = held_in (g.S.Store.chains c.args.store.now) c.args.self.now c.args.object.now c.args.which in
     subst (HoldsFor (g.S.Store.chains c.end.new.store) (found_in c.args.self.now)) (sym c.push_back_reserved.ensures.items)
     (holds_more c.requires.holds c.args.object.now c.unwrap-kept.result (found g at) c.args.which (with_end c.args.moment) (changed g at) c.args.moment
-    (ended_has c.args.moment _ values (c.requires.holds.queued c.args.object.now c.args.which) c.requires.current) (ended_any c.args.moment values c.requires.current) c.requires.later)
+    (ended_has c.args.moment _ values (c.requires.holds.queued c.args.object.now c.args.which) c.requires.current) (ended_any c.args.moment values c.requires.current) c.requires.later (order_ended c.args.moment values (c.requires.holds.begun c.args.object.now c.args.which)))
 
 pub returns-clause-held : goal.returns-clause-held
 returns-clause-held g c =

@@ -1,4 +1,4 @@
-use Rattle.std.proofs.Common.{◌≡◌, ◌+◌, ◌<◌, Some, None, List, [], ◌∷◌, ◌++◌, refl, sym, ◌∙◌, ap, subst, length, arith}
+use Rattle.std.proofs.Common.{Option, ℕ, ◌≡◌, ◌+◌, ◌<◌, Some, None, List, [], ◌∷◌, ◌++◌, refl, sym, ◌∙◌, ap, subst, length, arith}
 use Rattle.std.specs.Prelude.{is_some}
 use Rattle.std.specs.Option.{option_copied_mut, option_map}
 use Rattle.std.specs.FinMap as finmap
@@ -8,14 +8,15 @@ use Rattle.s4_store.specs.Chains.{items_of, item_count}
 use Rattle.s4_store.specs.Counts.{item_count-more}
 use Rattle.s4_parts.specs.declared.parts.Parts.{Parts}
 use Rattle.s4_parts.specs.declared.shelf.Shelf.{Shelf}
-use Rattle.s4_parts.specs.Table.{shelf_of, chain_on, items_on, object_of, binding, serials_spare}
+use Rattle.s4_parts.specs.Table.{shelf_of, chain_on, items_on, object_of, binding, bindings_in, serials_spare, IsTimely}
 use Rattle.s4_parts.proofs.Rebinding.{own, rebound-bindings, rebound-more, rebound-holds, rebound-others, bound-counted, any-snoc}
 use Rattle.s4_tracks.specs.Chain.{current_of}
 use Rattle.std.specs.BTreeMap.{is_at}
 use Rattle.std.specs.Map.{set_value}
 use Rattle.std.proofs.lemmas.List.{length-append}
 use Rattle.s4_types.specs.Names.{purse_cmp}
-use Rattle.s4_parts.specs.Waiting.{bound_on, bound_in}
+use Rattle.s4_parts.specs.Waiting.{bound_on, bound_in, waiting_in}
+use Rattle.s4_parts.proofs.Beginning.{timely_push, newest_by_then}
 use Rattle.s4_parts.proofs.Totals.{bound-set}
 use Rattle.s4_parts.proofs.Awaiting.{waits-bound}
 use Rattle.s4_parts.proofs.Leaving.{leaves-changed}
@@ -32,6 +33,10 @@ returns-clause-holds g c =
     rebound-holds (g.S.Store.chains c.args.store.now) c.args.self.now (record { alloc = c.args.self.now.alloc; shelves = c.get_mut.follows.lender w; ends = c.await_one.new.self }) c.requires.holds (c.args.object.now.purse) c.args.name.now c.unwrap-shelf.result.now w
     found ((c.get_mut.follows.holds w).3 (ap is_some found)).0 refl c.unwrap-track.result.chain track (λ (vs : List Version). vs ++ binding c.args.moment c.args.name.now c.args.object.now ∷ []) (g.S.Store.chains c.push.new.self) changed
     (λ test. bound-counted test (items_of (g.S.Store.chains c.args.store.now) c.unwrap-track.result.chain) c.args.moment c.args.name.now c.args.object.now c.unwrap-shelf.result.now.bound.items c.push_reserved.new.self.items (sym (ap (λ vs. object_of (current_of vs)) (ap (items_on (g.S.Store.chains c.args.store.now)) (ap (λ x. chain_on x c.args.name.now) found ∙ track))) ∙ c.requires.unbound) c.push_reserved.ensures.items)
+    (subst (λ (o : Option ℕ). IsTimely (items_on (g.S.Store.chains c.args.store.now) o ++ binding c.args.moment c.args.name.now c.args.object.now ∷ [])) (ap (λ x. chain_on x c.args.name.now) found ∙ track)
+    (timely_push (bindings_in (g.S.Store.chains c.args.store.now) c.args.self.now c.args.object.now.purse c.args.name.now) (binding c.args.moment c.args.name.now c.args.object.now)
+    (newest_by_then c.args.moment c.args.object.now.purse c.args.name.now (waiting_in c.args.self.now) _ (c.requires.waits.queued c.args.object.now.purse c.args.name.now) (c.requires.holds.timely c.args.object.now.purse c.args.name.now) c.requires.later c.requires.unbound)
+    tt (c.requires.holds.timely c.args.object.now.purse c.args.name.now)))
 
 pub returns-clause-names : goal.returns-clause-names
 returns-clause-names g c =

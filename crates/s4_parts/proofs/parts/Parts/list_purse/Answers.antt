@@ -1,8 +1,9 @@
+use Rattle.std.proofs.Common.{Option, ℕ}
 use Rattle.std.proofs.Common.{◌≡◌, ◌+◌, ◌≤◌, Some, [], ◌∷◌, ◌++◌, refl, sym, ◌∙◌, ap, subst, arith, take, length, filter_map, vec_len, rules}
 use Rattle.std.specs.List.{All, cons_option}
 use Rattle.std.specs.Option.{option_map}
 use Rattle.std.proofs.lemmas.List.Elements.{All-head, All-tail}
-use Rattle.s4_parts.specs.Table.{shelf_of, chain_at, chain_on}
+use Rattle.s4_parts.specs.Table.{shelf_of, chain_at, chain_on, items_on, IsTimely}
 use Rattle.s4_parts.proofs.Listing.{line_at, none-listed, none-after, listed, take-full, take-few}
 use Rattle.std.proofs.lemmas.List.{append_assoc, length-append}
 use Rattle.std.specs.Range.Bound.{bound_map}
@@ -39,6 +40,13 @@ line_of-requires-clause-open g c =
     c.requires.holds.opened c.args.purse.now c.in-Some-2.name.now c.in-Some-2.track.now.chain
     (All-head (λ e. chain_at c.args.self.now c.args.purse.now e.0 ≡ Some e.1.chain) (c.in-Some-2.name.now, c.in-Some-2.track.now) c.next.new.self
     (subst (All (λ e. chain_at c.args.self.now c.args.purse.now e.0 ≡ Some e.1.chain)) c.in-Some-2.ensures.steps c.loop-name.invariant.mapped))
+
+pub line_of-requires-clause-order : goal.line_of-requires-clause-order
+line_of-requires-clause-order g c =
+    let at : chain_at c.args.self.now c.args.purse.now c.in-Some-2.name.now ≡ Some c.in-Some-2.track.now.chain =
+    All-head (λ e. chain_at c.args.self.now c.args.purse.now e.0 ≡ Some e.1.chain) (c.in-Some-2.name.now, c.in-Some-2.track.now) c.next.new.self
+    (subst (All (λ e. chain_at c.args.self.now c.args.purse.now e.0 ≡ Some e.1.chain)) c.in-Some-2.ensures.steps c.loop-name.invariant.mapped) in
+    (subst (λ (o : Option ℕ). IsTimely (items_on (g.S.Store.chains c.args.store.now) o)) at (c.requires.holds.timely c.args.purse.now c.in-Some-2.name.now)).order
 
 pub push_reserved-requires : goal.push_reserved-requires
 push_reserved-requires g c =

@@ -1,4 +1,5 @@
-use Rattle.std.proofs.Common.{◌≡◌, ℕ, ◌<◌, Some, refl, sym, ◌∙◌, ap, subst, arith, length, ◌+◌, vec_len, rules, ◌++◌, ◌∷◌, []}
+use Rattle.s4_parts.proofs.Beginning.{timely_ended}
+use Rattle.std.proofs.Common.{Option, ◌≡◌, ℕ, ◌<◌, Some, refl, sym, ◌∙◌, ap, subst, arith, length, ◌+◌, vec_len, rules, ◌++◌, ◌∷◌, []}
 use Rattle.std.specs.Prelude.{◌==◌, is_some, IfSome, slice_get}
 use Rattle.std.specs.Option.{option_copied_mut, option_map}
 use Rattle.std.specs.List.{list_any}
@@ -7,7 +8,7 @@ use Rattle.s4_store.specs.Chains.{items_of}
 use Rattle.s4_tracks.specs.Chain.{with_end}
 use Rattle.s4_parts.specs.declared.parts.Parts.{Parts}
 use Rattle.s4_parts.specs.declared.shelf.Shelf.{Shelf}
-use Rattle.s4_parts.specs.Table.{shelf_of, chain_on, serials_on, items_on, serial_now}
+use Rattle.s4_parts.specs.Table.{shelf_of, chain_on, serials_on, items_on, bindings_in, serial_now, IsTimely}
 use Rattle.s4_parts.proofs.Rebinding.{own, rebound-bindings, rebound-same, rebound-holds, rebound-others, unbound-counted, unbound-used, ended-any, known-now}
 use Rattle.std.specs.BTreeMap.{is_at}
 use Rattle.std.specs.Map.{set_value}
@@ -48,6 +49,8 @@ returns-clause-holds g c =
     rebound-holds (g.S.Store.chains c.args.store.now) c.args.self.now (record { alloc = c.args.self.now.alloc; shelves = c.get_mut.follows.lender w; ends = c.put.new.self }) c.requires.holds c.args.purse.now c.args.name.now c.unwrap-shelf.result.now w
     found ((c.get_mut.follows.holds w).3 (ap is_some found)).0 refl c.unwrap-track.result.chain track (with_end c.args.moment) (g.S.Store.chains c.end.new.store) c.end.ensures.chains
     (λ test. unbound-counted test (items_of (g.S.Store.chains c.args.store.now) c.unwrap-track.result.chain) c.args.moment c.unwrap-object.result.serial c.unwrap-shelf.result.now.bound.items c.remove.new.self.items c.unwrap-place.result now (ap (λ xs. slice_get xs c.unwrap-place.result) (sym c.deref.ensures.value) ∙ got) c.remove.ensures.items)
+    (subst (λ (o : Option ℕ). IsTimely (with_end c.args.moment (items_on (g.S.Store.chains c.args.store.now) o))) (ap (λ x. chain_on x c.args.name.now) found ∙ track)
+    (timely_ended c.args.moment (bindings_in (g.S.Store.chains c.args.store.now) c.args.self.now c.args.purse.now c.args.name.now) c.requires.begun (c.requires.holds.timely c.args.purse.now c.args.name.now)))
 
 pub returns-clause-names : goal.returns-clause-names
 returns-clause-names g c =
