@@ -15,6 +15,8 @@ SILENT = 300
 SILENT_TO_THE_END = 100
 # How often a peer asks that hears nothing, and how many bytes it hears at first, where it hears late: up to its second Read.
 ASKED, BEGUN = 20000, 8000
+# How often it is tried: on a busy machine the second for which a server waits may be over before a peer has read what it was sent.
+TRIES = 6
 # It writes 4000 bytes to 7.0.1, and reads them.
 LONG_WRITE = bytes.fromhex("00000faf 04 00000007 00 000001 00000000 0fa0") + b"a" * 4000
 LONG_READ = bytes.fromhex("00000012 03 00000007 00 000001 00000000 00000fa0 00")
@@ -37,9 +39,21 @@ class Case(unittest.TestCase):
             got = server.tell(*frames)
             self.assertTrue(server.is_sent(got, wanted), f"peer {number} is sent {got.hex()}")
 
-    def check_late_hearing(self, server, is_ready, errors=""):
+    def check_late_hearing(self, is_ready, errors="", check=lambda server, records: None, **settings):
         """That a peer that asks for more than the system keeps for it, hears the begin, and hears the rest once the server is to end, is sent the
-        replies to all that was recorded. The server is to end once it is ready for that, and a silent peer tells that it knows."""
+        replies to all that was recorded. A server that closes it before it has read all of them is asked again."""
+        for left in reversed(range(TRIES)):
+            with Server(connections=9, idle=60000, **settings) as server:
+                got, records = self.late_hearing(server, is_ready, errors)
+                check(server, records)
+            whole = 6 + 13 + 5 + (4 + 4013) * (records - 2)
+            if len(got) == whole or not left:
+                break
+        self.assertEqual(len(got), whole)
+        self.assertTrue(server.is_sent(got, [WELCOME, MADE, DONE, *[LONG_DATA] * (records - 2)]))
+
+    def late_hearing(self, server, is_ready, errors):
+        """What such a peer heard, and how many records there are. The server is to end once it is ready for that, and a silent peer tells that it knows."""
         with server.connect() as peer, server.connect() as silent:
             peer.sendall(MUCH)
             got = exactly(peer, BEGUN)
@@ -48,10 +62,7 @@ class Case(unittest.TestCase):
             self.assertEqual(everything(silent), b"")
             # It is closed after a second, also where bytes of it are still unread: then it ends by a reset.
             got += rest_of(peer)
-        records = server.check_end(self, (4, ASKED + 2), errors=errors)
-        self.assertEqual(len(got), 6 + 13 + 5 + (4 + 4013) * (records - 2))
-        self.assertTrue(server.is_sent(got, [WELCOME, MADE, DONE, *[LONG_DATA] * (records - 2)]))
-        return records
+        return got, server.check_end(self, (4, ASKED + 2), errors=errors)
 
 
 class InTurn(Case):
@@ -149,8 +160,7 @@ class ToTheEnd(Case):
         return told is not None and told["replies"] == server.status()["replies"] > 0
 
     def test_at_the_end_a_peer_hears_the_replies_to_all_that_was_read(self):
-        with Server(connections=9, idle=60000) as server:
-            self.check_late_hearing(server, self.is_stuck)
+        self.check_late_hearing(self.is_stuck)
 
 
 class Journals(Case):
@@ -170,5 +180,4 @@ class Journals(Case):
             self.check_journal(server, server.check_end(self, (3, 3), errors=SUMS))
 
     def test_a_journal_has_all_of_a_server_that_is_ended(self):
-        with Server(connections=9, idle=60000, keeps=True) as server:
-            self.check_journal(server, self.check_late_hearing(server, lambda _: True, SUMS))
+        self.check_late_hearing(lambda _: True, SUMS, self.check_journal, keeps=True)
