@@ -58,12 +58,17 @@ FLAGS = {
     "serve|nowhere|first.logins|--journal|": "invalid value for '--journal <FOLDER>': it is no path",
     "serve|nowhere|first.logins|--sync|often": "invalid value 'often' for '--sync <WHEN>': it isn't second or never",
     "serve|nowhere|first.logins|--open|0": "invalid value for '--open <N>': it isn't a number from 1 to 4294967295",
+    "serve|nowhere|first.logins|--records|0": "invalid value for '--records <N>': it isn't a number from 1 to 18446744073709551615",
+    "serve|nowhere|first.logins|--records|18446744073709551616": "invalid value for '--records <N>': it isn't a number from 1 to 18446744073709551615",
+    "serve|nowhere|first.logins|--records|1e9": "invalid value for '--records <N>': it isn't a number from 1 to 18446744073709551615",
+    "serve|nowhere|first.logins|--open-each|4294967296": "invalid value for '--open-each <N>': it isn't a number from 0 to 4294967295",
 }
 
 # Flags without a value, and a call's wait or version that is out of its bounds or no number.
 VALUES = {
     "serve|nowhere|first.logins|--cells": "a value is required for '--cells <N>' but none was supplied",
     "serve|nowhere|first.logins|--first-moment": "a value is required for '--first-moment <N>' but none was supplied",
+    "serve|nowhere|first.logins|--records": "a value is required for '--records <N>' but none was supplied",
     "serve|nowhere|first.logins|--until": "a value is required for '--until <FILE>' but none was supplied",
     "serve|nowhere|first.logins|--setup": "a value is required for '--setup <FILE>' but none was supplied",
     "serve|nowhere|first.logins|--status": "a value is required for '--status <FILE>' but none was supplied",

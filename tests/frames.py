@@ -18,6 +18,8 @@ CUT_WRITE = bytes.fromhex("00000014 04 00000007 00 00")
 SLOW_WRITE = bytes.fromhex("00000036 04 00000007 00 000001 00000000 0027") + b"more than whoever waits for it has time"
 # It reads 100 bytes of 7.0.1.
 READ = bytes.fromhex("00000012 03 00000007 00 000001 00000000 00000064 00")
+# It reads as many of 9.0.1.
+FOREIGN_READ = bytes.fromhex("00000012 03 00000009 00 000001 00000000 00000064 00")
 
 WELCOME = bytes.fromhex("00000002 10 01")
 # The object 7.0.1 was made, or 8.0.1.

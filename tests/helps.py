@@ -85,9 +85,11 @@ Options:
       --idle <N>          How many milliseconds a peer may be silent, or 0 for ever [default: 60000]
       --hello <N>         How many milliseconds a peer may take up to its welcome, or 0 for ever [default: 10000]
       --open <N>          How many connections may be open [default: 1024]
+      --open-each <N>     How many of them may come from one address, or 0 for any [default: 0]
       --first-moment <N>  The moment at the start, in milliseconds [default: 0]
       --reload <N>        After how many milliseconds it looks again at LOGINS, or 0 for never [default: 0]
       --cut               It drops the records that no reply needs any more
+      --records <N>       How many bytes of records the requests of a principal may leave that aren't dropped yet; else half of the memory that is there, by the principals of LOGINS, as far as the system tells
       --until <FILE>      It ends once there is this file
       --setup <FILE>      It carries out the lines of this file before it listens
       --status <FILE>     It tells of itself in this file each second, as JSON

@@ -7,7 +7,6 @@ from tests.journals import CALLS, LINES, RECORDS, Chain, Kept, call, create, cre
 from tests.program import PROGRAM, SECONDS
 from tests.test_history_lists import JOURNAL
 from tests.test_history_lines import BOTH, FIRST, RECORDS as OF_LINES
-from tests.test_history_scripts import BOTH as BOTH_VERSIONS
 
 # Cell 1 of two has three records.
 THREE = ((1, creation(5, 7)), (1, creation(6, 7, serial=2)), (1, creation(7, 7, serial=3)))
@@ -38,7 +37,6 @@ class Faults(unittest.TestCase):
         another = record(7, 7, create(), made(7, serial=4))
         self.check("cell 1 record 2: another reply", 2, *THREE[:2], (1, another))
         self.check("merged record 3: moment goes back", 2, *THREE, (1, creation(6, 7, serial=4)))
-        self.check("callers of both versions, and a script has one", 1, *BOTH_VERSIONS, telling="script")
 
     def test_faults_of_calls(self):
         two = [call(1, 0, 1), call(1, 1, 1)]
@@ -56,6 +54,10 @@ class Faults(unittest.TestCase):
             with Kept(JOURNAL) as kept:
                 os.remove(kept.start / name)
                 os.mkdir(kept.start / name)
+                self.assertEqual(kept.check().fault, fault)
+                os.rmdir(kept.start / name)
+                # Whoever opens a pipe waits for its other end.
+                os.mkfifo(kept.start / name)
                 self.assertEqual(kept.check().fault, fault)
 
     def test_an_output_that_fails(self):

@@ -99,7 +99,7 @@ class Lists(unittest.TestCase):
     def test_the_fields_of_a_journal_are_told(self):
         # The wall clock at a moment is that of the first moment and what is between them. A script has its window, and which version its callers speak.
         self.assertEqual(self.listed(JOURNAL, "--json"), FIRST_JSON + SECOND_JSON)
-        self.assertEqual(self.kept.tell("script").lines[0], "window 10 wire 2")
+        self.assertEqual(self.kept.tell("script").lines[:2], ["window 10 wire 2", "7 7/1 create 0"])
         self.assertEqual(self.kept.tell("script", "--to", 8).lines, ["window 10", "7 7 create 0"])
 
     def test_calls_are_no_records(self):

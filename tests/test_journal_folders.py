@@ -1,4 +1,5 @@
 """Starts that servers begin in a folder of journals."""
+import os
 import tempfile
 import unittest
 from pathlib import Path
@@ -45,6 +46,25 @@ class Starts(unittest.TestCase):
             self.check(room, "mine/letter", "cannot write mine/letter")
             self.assertEqual([it.name for it in Path(room, "mine").iterdir()], ["letter"])
             self.assertEqual(Path(room, "mine", "letter").read_text(), "hello")
+
+    def test_a_folder_that_others_may_write_into_is_refused(self):
+        with tempfile.TemporaryDirectory() as room:
+            self.begin(room, 1).kill()
+            for mode in (0o777, 0o720, 0o702):
+                Path(room, FOLDER).chmod(mode)
+                self.check(room, FOLDER, f"others may write into {FOLDER}")
+            Path(room, FOLDER).chmod(0o755)
+            self.begin(room, 2).kill()
+
+    def test_a_lock_that_is_no_file_is_not_opened(self):
+        with tempfile.TemporaryDirectory() as room:
+            Path(room, "mine").mkdir(0o700)
+            os.mkfifo(Path(room, "mine", "lock"))
+            self.check(room, "mine", "cannot write mine")
+            os.remove(Path(room, "mine", "lock"))
+            Path(room, "mine", "lock").symlink_to(Path(room, "logins"))
+            self.check(room, "mine", "cannot write mine")
+            self.assertEqual(Path(room, "logins").read_text(), LOGINS)
 
 
 if __name__ == "__main__":

@@ -1,4 +1,5 @@
 """Logins that fail, and logins that change while a server runs."""
+import os
 import time
 import unittest
 
@@ -79,3 +80,17 @@ class Logins(unittest.TestCase):
                 until(lambda: made(eight) is None, "the connection of 8 is ended")
             server.ask_to_end()
             server.check_end(self, (2, 20002), errors="s4d: logins line 1\n")
+
+    def test_a_pipe_in_the_place_of_logins_is_not_opened(self):
+        with Server(connections=0, idle=60000, hello=60000) as server:
+            until(server.status, "the server looks after its files")
+            os.mkfifo(server.folder / "pipe")
+            os.replace(server.folder / "pipe", server.folder / "logins")
+            until(lambda: server.errors(), "the server tells that its logins can't be read")
+            told = server.status()
+            until(lambda: server.status() != told, "the status is written anew")
+            self.assertEqual(server.tell(CALL), WELCOME + MADE)
+            server.write("logins", CHANGED)
+            until(lambda: server.tell(HELLO) == BAD_LOGIN, "the old secret of 7 is good no more")
+            server.ask_to_end()
+            server.check_end(self, (1, 1), errors="s4d: cannot read logins\n")

@@ -13,9 +13,10 @@ LARGEST_PIECE = 30
 
 
 def by_version_2(script):
-    """The script whose first line says besides that its callers speak version 2; none where that says so already, or is empty."""
+    """The script whose first line says besides that its callers speak version 2; none where that says so already, or is empty, or where a line says
+    its own version."""
     first, line_feed, rest = script.partition(b"\n")
-    return None if not first or first.endswith(b" wire 2") else first + b" wire 2" + line_feed + rest
+    return None if not first or first.endswith(b" wire 2") or b"/" in rest else first + b" wire 2" + line_feed + rest
 
 
 @of_rows("script")

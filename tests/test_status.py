@@ -1,7 +1,10 @@
 """What a server tells of itself in its status, and by its clock."""
 import functools
+import os
+import tempfile
 import time
 import unittest
+from pathlib import Path
 
 from tests.frames import BAD_LOGIN, CREATE, FOREIGN_WRITE, HELLO, MADE, WRITE_DENIED, WRONG_HELLO
 from tests.peers import exactly
@@ -65,6 +68,27 @@ class Status(unittest.TestCase):
             status = server.status()
             if status is not None:
                 read, told = read + 1, {place: at(status, place) for place in WANTED}
+
+    def check_written_beside(self, put):
+        """That the status is written anew where something else was put beside it, under the name of the file that takes its place."""
+        with Server(connections=0) as server:
+            until(lambda: server.status() is not None, "the status is there")
+            told = server.status()
+            put(server.folder)
+            until(lambda: server.status()["moment"] > told["moment"] + 2000, "the status is written anew")
+            self.assertFalse((server.folder / "status.new").is_fifo())
+            server.ask_to_end()
+            server.check_end(self, (0, 0))
+
+    def test_a_pipe_beside_the_status_is_not_opened(self):
+        self.check_written_beside(lambda folder: os.mkfifo(folder / "status.new"))
+
+    def test_a_link_beside_the_status_is_not_followed(self):
+        with tempfile.TemporaryDirectory() as room:
+            other = Path(room, "other")
+            other.write_text("another's", encoding="utf-8")
+            self.check_written_beside(lambda folder: os.symlink(other, folder / "status.new"))
+            self.assertEqual(other.read_text(encoding="utf-8"), "another's")
 
     def test_a_clock_begins_at_its_first_moment(self):
         for first, most in MOMENTS:

@@ -3,7 +3,7 @@ import tempfile
 import unittest
 from pathlib import Path
 
-from tests.program import run
+from tests.program import Ended, run
 
 SECRET = "000102030405060708090a0b0c0d0e0f"
 # The object 7.0.1.
@@ -82,6 +82,12 @@ def bodies(sent):
         yield sent[4 : 4 + length]
         sent = sent[4 + length :]
 
+# First lines, the word by which principal 7 speaks the other version behind each, and words that make a line a bad one.
+WORDS = (
+    ("window 100", "7/2", ("7/1", "7/3", "7/0", "7/", "/2", "/", "07/2", "7/02", "7/2/2", "7//2", "7/+2", "7/two", "7.2", "everyone/2", "4294967295/2")),
+    ("window 100 wire 2", "7/1", ("7/2", "7/3", "7/0", "7/", "/1", "/", "07/1", "7/01", "7/1/1", "7//1", "7/+1", "7/one", "7.1", "everyone/1", "4294967295/1")),
+)
+
 
 class Versions(unittest.TestCase):
     def sent(self, lines):
@@ -107,6 +113,25 @@ class Versions(unittest.TestCase):
                 told, wanted = (spelled, spelled[-1:]), (data(version, spelled[-count:]), last)
             self.assertEqual(told, wanted, f"row {index}")
         self.assertEqual([list(sent[version]) for version in (1, 2)], [[], []])
+
+    def test_a_line_says_the_other_version_in_one_way(self):
+        for first, other, bad in WORDS:
+            good = f"{first}\n1 {other} create 0\n".encode()
+            self.assertEqual(run(["run"], good), Ended(0, b"made 7.0.1\n", b""))
+            self.assertEqual(run(["strike", "7"], good), Ended(0, good, b""))
+            for word in bad:
+                script = f"{first}\n1 7 create 0\n2 {word} create 0\n".encode()
+                fault = b"s4d: line 3: bad line\n"
+                with self.subTest(first=first, word=word):
+                    self.assertEqual(run(["run"], script), Ended(1, b"made 7.0.1\n", fault))
+                    self.assertEqual(run(["strike", "7"], script), Ended(1, b"", fault))
+
+    def test_arrivals_say_none(self):
+        with tempfile.TemporaryDirectory() as folder:
+            Path(folder, "logins").write_text(f"7 {SECRET}\n", encoding="utf-8")
+            for line in ("5 7/2 00", "5 1/2 00", "5/2 1 00", "5 7/2 create 0"):
+                ran = run(["hall", "logins"], f"window 100\n{line}\n".encode(), folder)
+                self.assertEqual(ran, Ended(1, b"", b"s4d: line 2: bad line\n"), line)
 
 
 if __name__ == "__main__":

@@ -1,4 +1,4 @@
-"""Serves while principals ask at random, and compares what a journal tells with what they were replied.
+"""Serves while principals ask at random, by both versions of the wire, and compares what a journal tells with what they were replied.
 
   ./check journals      20 servers that end, and 20 that are killed
       --servers N       so many of each

@@ -38,7 +38,7 @@ class Cutting:
         if not words[0].isdigit():
             return
         self.moments.append(int(words[0]))
-        if words[1] == "0" and words[2] == "setwindow":
+        if words[1].partition("/")[0] == "0" and words[2] == "setwindow":
             self.horizon.widen(self.moments[-1], int(words[3]))
 
     def cut(self, moment):

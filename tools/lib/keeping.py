@@ -19,6 +19,8 @@ PAGES = ("audit", "plist")
 WINDOW = 400
 # A round of a server takes a tenth of a second; on a busy machine it comes late, in seconds.
 ROUND = 2
+# How long a server that cuts its records may take until some went, and how long it is left alone between two looks, in seconds.
+PATIENCE, PAUSE = 60, 0.1
 
 
 @dataclass
@@ -32,14 +34,14 @@ class Asked:
     failed: list = field(default_factory=list)
 
 
-def call(program, address, who, words, secret):
-    """The reply to a call, and its status."""
-    ran = run(program, ["call", "--wait", "5000", address, who, "1", secret.hex(), *words])
+def call(program, address, who, words, secret, version=1):
+    """The reply to a call by that version of the wire, and its status."""
+    ran = run(program, ["call", "--wait", "5000", "--wire", version, address, who, "1", secret.hex(), *words])
     return ran.out.decode().rstrip("\n"), ran.status
 
 
 def ask_at_random(program, address, asked, seed, begun, count, over):
-    """Has a principal ask so often, now and then by a wrong secret, or in a connection that breaks."""
+    """Has a principal ask so often, by either version of the wire, now and then by a wrong secret, or in a connection that breaks."""
     chance = Chance(seed)
     chance.who, chance.principals = asked.who, list(PRINCIPALS)
     for _ in range(count):
@@ -52,7 +54,8 @@ def ask_at_random(program, address, asked, seed, begun, count, over):
             _, status = call(program, address, asked.who, ["create", "0"], secret_of(0xBAD))
             if not over.is_set() and status == 1:
                 asked.failed.append(time.monotonic())
-        reply, status = call(program, address, asked.who, kinds[kind][1]().split(" "), secret_of(asked.who))
+        words = kinds[kind][1]().split(" ")
+        reply, status = call(program, address, asked.who, words, secret_of(asked.who), chance.it.choice((1, 2)))
         if over.is_set() or status != 0:
             return
         asked.replies.append(reply)
@@ -86,7 +89,8 @@ def replies_in(program, script, who):
     if len(lines) != len(replies):
         raise Wrong(f"{len(lines)} lines of a script have {len(replies)} replies")
     asked = [line.split(" ", 2)[1:] for line in lines]
-    return [reply for (by, words), reply in zip(asked, replies) if by == str(who) and not (by == "0" and is_own(words))]
+    spoken = [(by.partition("/")[0], words) for by, words in asked]
+    return [reply for (by, words), reply in zip(spoken, replies) if by == str(who) and not (by == "0" and is_own(words))]
 
 
 def span(times, died):
@@ -152,6 +156,20 @@ def compare_list(program, folder, all_asked, died, cuts):
     return len(rows), own
 
 
+@dataclass
+class Found:
+    """What was found in a journal: how many replies were compared, how many records are what the server asked by itself, and how many all cells have,
+    each of which has the wide ones."""
+
+    compared: int
+    own: int
+    of_cells: int
+
+    @property
+    def records(self):
+        return self.compared + self.own
+
+
 def compare(program, folder, all_asked, died, cuts):
     """Whether the journal is sound, and tells of each principal what they were replied: all of it, or where the server died, all but the last."""
     checked = told(program, "history", "check", folder)
@@ -179,15 +197,18 @@ def compare(program, folder, all_asked, died, cuts):
                 if found[place] != asked.replies[place]:
                     raise Wrong(f"{name} gives {found[place]!r} as reply {place} of {asked.who}, who had {asked.replies[place]!r}")
         records += len(kept[0][1])
-    return records, own
+    return Found(records, own, counted)
 
 
-def compare_count(output, records, cuts):
-    """Whether the server tells as many records as its journal has; where it cuts, no more. Tells how many went."""
-    count = output.removeprefix("closed ").removesuffix("\n")
-    if not count.isdigit() or not (int(count) == records or cuts and int(count) < records):
-        raise Wrong(f"the server writes {output!r}, and its journal has {records} records")
-    return records - int(count)
+def compare_count(output, found, cuts):
+    """Whether the server tells as many records as its journal has; where it cuts, no more, and how many its cells ever had. Tells how many went."""
+    *ever, closed = output or [""]
+    count = closed.removeprefix("closed ")
+    if not count.isdigit() or not (int(count) == found.records or cuts and int(count) < found.records):
+        raise Wrong(f"the server writes {output!r}, and its journal has {found.records} records")
+    if [sum(map(int, line.split(" ")[1:])) for line in ever] != [found.of_cells] * cuts:
+        raise Wrong(f"the server writes {output!r}, and its journal has {found.of_cells} records of its cells")
+    return found.records - int(count)
 
 
 def change_bytes(program, folder, chance):
@@ -238,13 +259,30 @@ def ask_all_at_random(program, server, plan):
     return all_asked, died
 
 
-def compare_end(program, kept, records, output, errors, plan):
+def records_since(server, begun):
+    """How many records a server's cells have, as it said since then; none where it said nothing since."""
+    path = server.folder / "status"
+    if not path.exists() or path.stat().st_mtime < begun:
+        return None
+    return sum(it["records"] for it in server.status()["cells"])
+
+
+def wait_for_a_cut(server, all_asked):
+    """Returns once a server says that it has fewer records than were replied to."""
+    replied, begun, last = sum(len(it.replies) for it in all_asked), time.time() + PAUSE, time.monotonic() + PATIENCE
+    while (found := records_since(server, begun)) is None or found >= replied:
+        if time.monotonic() > last:
+            raise Wrong(f"of {replied} records none went in {PATIENCE} s")
+        time.sleep(PAUSE)
+
+
+def compare_end(program, kept, found, output, errors, plan):
     """Whether a server that ends tells the sums of its journal and its records, and whether changed bytes of the journal are found. Tells of one
     that cuts how many of its records went; else None."""
     for line in errors:
         if " sum " in line:
             told(program, "history", "check", kept, "--sum", line.rpartition(" sum ")[2])
-    gone = compare_count("".join(f"{line}\n" for line in output), records, plan.cuts)
+    gone = compare_count(output, found, plan.cuts)
     change_bytes(program, kept, plan.chance)
     return gone if plan.cuts else None
 
@@ -254,9 +292,11 @@ def serve_at_random(program, plan):
     records went; else None."""
     logins = logins_of({who: secret_of(who) for who in PRINCIPALS})
     flags = ["--journal", "kept", "--window", WINDOW, *plan.flags]
-    with Server(program, *flags, logins=logins, tells=False) as server:
+    with Server(program, *flags, logins=logins, tells=plan.cuts) as server:
         all_asked, died = ask_all_at_random(program, server, plan)
+        if plan.cuts and not plan.kill:
+            wait_for_a_cut(server, all_asked)
         output, errors = server.end()
         kept = server.folder / "kept"
-        records, own = compare(program, kept, all_asked, died, plan.cuts)
-        return records, None if plan.kill else compare_end(program, kept, records + own, output, errors, plan)
+        found = compare(program, kept, all_asked, died, plan.cuts)
+        return found.compared, None if plan.kill else compare_end(program, kept, found, output, errors, plan)

@@ -12,6 +12,8 @@ from tools.lib.servers import Server, logins_of, secret_of
 # Cells, and the one that is asked nothing. A moment of a server is a millisecond.
 CELLS, IDLE, WINDOW = 4, 3, 10_000
 BUDGET = 4294967295
+# As many bytes of records as there may be: this measures what they take, and not who is stopped.
+ANY = 18446744073709551615
 # In seconds: between two samples, and how long an end may take.
 EACH, PATIENCE = 0.25, 120
 # Bytes of the machine that are left to others.
@@ -98,7 +100,7 @@ class Loaded(Server):
     def __init__(self, plan, cuts):
         principals = plan.shape.principals
         self.prepared = len(principals)
-        flags = ["--window", plan.window, "--cells", CELLS, "--workers", plan.workers, *["--cut"] * cuts]
+        flags = ["--window", plan.window, "--cells", CELLS, "--workers", plan.workers, "--records", ANY, *["--cut"] * cuts]
         logins = logins_of({who: secret_of(who) for who in (0, *principals)})
         setup = "".join(f"0 setbudget {who}.0 {plan.budget}\n" for who in principals)
         # (it gets no signal of a terminal: this process ends it)

@@ -11,10 +11,11 @@ ghost use Rattle.s4_arena.specs.Standing.{IsPlace};
 use crate::block::{Block, add_blocks, release_blocks};
 use crate::chain::Ends;
 use crate::heap::{Heap, Size};
-use crate::node::{Link, Node, item_at, next_link, prev_link, set_item};
+use crate::leap::{Jump, Leap, item_at, item_of, set_item};
+use crate::node::{Link, Node, next_link, prev_link};
 use crate::table::{Row, closed_before, ends_at};
 use crate::walk::Walk;
-use s4_store::{Chain, NoMemory, Store};
+use s4_store::{Chain, Key, NoMemory, Store};
 use std::alloc::{AllocError, Global};
 use std::marker::Model;
 use std_alloc::room::may_hold;
@@ -24,16 +25,17 @@ const MOST_BLOCKS: usize = 1 << 57;
 
 /// A store whose items stand in nodes that lie in blocks of 64.
 ///
-/// A chain's nodes are linked both ways, so each step along it is O(1), and free nodes are a stack. At
-/// the arena's end all items are dropped and all blocks given back. It may go to another thread where
-/// its items may. See docs/ARCHITECTURE.md, "The arena".
+/// A chain's nodes are linked both ways, so each step along it is O(1), and each has a jump further
+/// back, so an item is found by its index or a key in O(log n) steps. Free nodes are a stack. At the
+/// arena's end all items are dropped and all blocks given back. It may go to another thread where its
+/// items may. See docs/ARCHITECTURE.md, "The arena".
 pub struct Arena<T> {
     alloc: Global,
-    heap: Heap<Node<T>>,
-    size: Size<Node<T>>,
-    blocks: Vec<Block<T>>,
-    rows: Vec<Row<T>>,
-    free: Option<Link<T>>,
+    heap: Heap<Node<Leap<T>>>,
+    size: Size<Node<Leap<T>>>,
+    blocks: Vec<Block<Leap<T>>>,
+    rows: Vec<Row<Leap<T>>>,
+    free: Option<Link<Leap<T>>>,
     room: usize,
     used: usize,
     closed: Option<usize>,
@@ -60,7 +62,7 @@ impl<T> Model for Arena<T> {
 pub struct ArenaPlace<T> {
     chain: Chain,
     index: usize,
-    at: Link<T>,
+    at: Link<Leap<T>>,
 }
 
 impl<T> Clone for ArenaPlace<T> {
@@ -181,7 +183,7 @@ impl<T: Drop> Store<T> for Arena<T> {
             return Ok(());
         }
         let more = (count - self.room - 1) / 64 + 1;
-        if more >= MOST_BLOCKS - self.blocks.len() || !may_hold::<Node<T>>(64) {
+        if more >= MOST_BLOCKS - self.blocks.len() || !may_hold::<Node<Leap<T>>>(64) {
             return Err(AllocError);
         }
         self.size.tell();
@@ -216,7 +218,8 @@ impl<T: Drop> Store<T> for Arena<T> {
         let Some(at) = self.free else {
             unreachable!();
         };
-        let (ends, free) = ends.link(&mut self.heap, number, at, item);
+        let jump = Jump::of_next(&self.heap, number, ends, at);
+        let (ends, free) = ends.link(&mut self.heap, number, at, Leap { jump, item });
         self.free = free;
         self.rows[number] = Row::Open(ends);
         self.room -= 1;
@@ -291,6 +294,14 @@ impl<T: Drop> Store<T> for Arena<T> {
         item_at(&self.heap, place.at)
     }
 
+    /// The search follows jumps, and takes O(log n) steps.
+    fn newest_by<K: Key<T>>(&self, chain: Chain, moment: u64) -> Option<&T> {
+        let number = chain.number();
+        let ends = ends_at(&self.rows, number);
+        let (found, _steps) = ends.newest_by::<K>(&self.heap, number, moment);
+        found
+    }
+
     fn set_at(&mut self, place: ArenaPlace<T>, item: T) -> T
         requires { IsPlace self.old place }
         ensures old { slice_get (items_of self.old.chains place.chain) place.index ≡ Some result }
@@ -339,12 +350,12 @@ impl<T: Drop> Store<T> for Arena<T> {
         let Some(at) = ends.oldest else {
             return None;
         };
-        let (ends, item) = ends.unlink(&mut self.heap, number, at, self.free);
+        let (ends, leap) = ends.unlink(&mut self.heap, number, at, self.free);
         self.free = Some(at);
         self.rows[number] = Row::Open(ends);
         self.room += 1;
         self.used -= 1;
-        item
+        item_of(leap)
     }
 
     fn close(&mut self, chain: Chain)

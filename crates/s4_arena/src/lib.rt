@@ -4,8 +4,14 @@
 mod arena;
 mod block;
 mod chain;
+mod forest;
 mod heap;
+mod leap;
 mod node;
+mod reach;
+mod search;
+mod spans;
+mod stop;
 mod table;
 mod walk;
 

@@ -54,16 +54,19 @@ pub(crate) fn fill<T: Drop>(
     prev: Option<Link<T>>,
     item: T,
 ) -> Option<Link<T>>
-    requires { (n : _) × (look heap.old.cells at.ptr ≡ Some n) }
+    requires { (n : _) × (look heap.old.cells at.ptr ≡ Some n) × (n.item ≡ None) }
     ensures cells { heap.new.cells ≡ put heap.old.cells at.ptr (record { chain = chain; prev = prev; next = None; item = Some item }) }
     ensures next { (n : _) → look heap.old.cells at.ptr ≡ Some n → result ≡ n.next }
 {
     let node = heap.get_mut(at.place());
+    match node.item {
+        Some(_) => unreachable!(),
+        None => node.item = Some(item),
+    }
     let next = node.next;
     node.chain = chain;
     node.prev = prev;
     node.next = None;
-    node.item = Some(item);
     next
 }
 
@@ -122,29 +125,5 @@ pub(crate) fn prev_link<T>(heap: &Heap<Node<T>>, at: Option<Link<T>>) -> Option<
     match at {
         None => None,
         Some(link) => heap.get(link.place()).prev,
-    }
-}
-
-/// The item of a node that has one.
-pub(crate) fn item_at<T>(heap: &Heap<Node<T>>, at: Link<T>) -> &T
-    requires { (n : _) × (x : _) × (look heap.now.cells at.ptr ≡ Some n) × (n.item ≡ Some x) }
-    ensures { (n : _) → look heap.now.cells at.ptr ≡ Some n → n.item ≡ Some result.now }
-{
-    match &heap.get(at.place()).item {
-        Some(item) => item,
-        None => unreachable!(),
-    }
-}
-
-/// Puts an item in the place of a node's, and gives that other one.
-pub(crate) fn set_item<T: Drop>(heap: &mut Heap<Node<T>>, at: Link<T>, item: T) -> T
-    requires { (n : _) × (x : _) × (look heap.old.cells at.ptr ≡ Some n) × (n.item ≡ Some x) }
-    ensures { (n : _) → look heap.old.cells at.ptr ≡ Some n → (n.item ≡ Some result)
-        × (heap.new.cells ≡ put heap.old.cells at.ptr (record { chain = n.chain; prev = n.prev; next = n.next; item = Some item })) }
-{
-    let node = heap.get_mut(at.place());
-    match node.item.replace(item) {
-        Some(old) => old,
-        None => unreachable!(),
     }
 }

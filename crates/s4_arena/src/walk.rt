@@ -6,17 +6,18 @@ ghost use Rattle.std.specs.Map.Iter.{TakesFirst, deref};
 
 use crate::chain::Ends;
 use crate::heap::Heap;
-use crate::node::{Link, Node, item_at, prev_link};
+use crate::leap::{Leap, item_at};
+use crate::node::{Link, Node, prev_link};
 use std::marker::Model;
 
 /// The items of a chain that a walk has yet to give, from the newest to the oldest. See
 /// docs/ARCHITECTURE.md, "The arena".
 #[derive(Drop)]
 pub struct Walk<'a, T> {
-    pub(crate) heap: &'a Heap<Node<T>>,
+    pub(crate) heap: &'a Heap<Node<Leap<T>>>,
     pub(crate) chain: usize,
-    pub(crate) ends: Ends<T>,
-    pub(crate) at: Option<Link<T>>,
+    pub(crate) ends: Ends<Leap<T>>,
+    pub(crate) at: Option<Link<Leap<T>>>,
     pub(crate) left: usize,
 }
 

@@ -15,7 +15,7 @@ use s4_script::{
     Line, ReplyText, RequestLine, RequestText, parse_arrival, parse_line, parse_opening,
     parse_window,
 };
-use s4_types::{Moment, Principal, Request, Step, WireVersion};
+use s4_types::{Caller, Moment, Request, Step, WireVersion};
 use std::alloc::Global;
 use std::fmt::Debug;
 use std::process::Abort;
@@ -56,7 +56,7 @@ const TWO: &[WireVersion] = &[WireVersion::Two];
 
 const BOTH: &[WireVersion] = &[WireVersion::One, WireVersion::Two];
 
-const TABLES: [Table; 19] = [
+const TABLES: [Table; 20] = [
     Table(Kind::Asked, ONE, request::REQUESTS, ""),
     Table(Kind::Asked, TWO, request::REQUESTS_TWO, ""),
     Table(Kind::Words, BOTH, request::WORDS, ""),
@@ -74,6 +74,7 @@ const TABLES: [Table; 19] = [
     Table(Kind::Line, ONE, line::LINES, ""),
     Table(Kind::Line, TWO, line::LINES_TWO, ""),
     Table(Kind::Line, ONE, line::NO_LINES, "Err(Bad)"),
+    Table(Kind::Line, TWO, line::NO_LINES_TWO, "Err(Bad)"),
     Table(Kind::Arrival, ONE, line::ARRIVALS, ""),
     Table(Kind::Arrival, ONE, line::NO_ARRIVALS, "Err(Bad)"),
 ];
@@ -161,7 +162,7 @@ fn body_of(
         return Err("no request".into());
     };
     let is_his = caller.client == 0 && caller.version == spoken;
-    if !is_his || !is_written(alloc, moment.tick(), caller.who, request, line)? {
+    if !is_his || !is_written(alloc, *moment, *caller, request, line)? {
         return Err("another line".into());
     }
     let body = write_request(version, alloc, request)?;
@@ -171,23 +172,37 @@ fn body_of(
     Ok(hex::encode(alloc, &body)?)
 }
 
-/// Whether a request of that principal at that moment is written as this line.
+/// Whether a request of that caller at that moment is written as this line, where the first line gives
+/// their version, and else with the number of their version behind a slash.
 fn is_written(
     alloc: Global,
-    tick: u64,
-    who: Principal,
+    moment: Moment,
+    caller: Caller,
     request: &Request,
     line: &str,
 ) -> Result<bool, Fail> {
-    let number = who.number();
+    let (tick, number) = (moment.tick(), caller.who.number());
+    let spoken = caller.version.number();
     let words = RequestText(request).to_string(alloc)?;
-    let whole = format!(in alloc; "{tick} {number} {words}")?;
-    let written = RequestLine {
-        moment: Moment::new(tick),
-        who,
-        request,
-    };
-    Ok(whole.as_str() == line && written.to_string(alloc)?.as_str() == line)
+    let plain = format!(in alloc; "{tick} {number} {words}")?;
+    let marked = format!(in alloc; "{tick} {number}/{spoken} {words}")?;
+    for version in BOTH {
+        let written = RequestLine {
+            version: *version,
+            moment,
+            caller,
+            request,
+        };
+        let wanted = if *version == caller.version {
+            &plain
+        } else {
+            &marked
+        };
+        if written.to_string(alloc)? != *wanted {
+            return Ok(false);
+        }
+    }
+    Ok(plain.as_str() == line)
 }
 
 /// The text of the reply that a body spells, which is written as this body.

@@ -1,6 +1,6 @@
 //! The command that a command line spells, or the fault of one that spells none.
 
-ghost use Rattle.std.specs.Prelude.{◌≡◌, ◌≢◌, ◌≤◌, ◌⊎◌, IfOk, Err, codes};
+ghost use Rattle.std.specs.Prelude.{◌≡◌, ◌≢◌, ◌≤◌, ◌⊎◌, IfOk, IfSome, Err, codes};
 ghost use Rattle.clap.specs.Matches.{found_of};
 ghost use Rattle.std.specs.IoError.{error_kind};
 ghost use Rattle.std.specs.declared.io.ErrorKind.TheVariants as io_kind;
@@ -13,8 +13,9 @@ ghost use Rattle.s4_command_line.specs.Words.{IsCallOf, IsForTenant, IsHelloOf, 
 use crate::history::history;
 use crate::meaning::{all_meant, secret_of};
 use crate::parser::{
-    ADDRESS, CELLS, CLIENT, CONNECTIONS, CUT, FIRST, HELLO, IDLE, JOURNAL, LOGINS, OPEN, RELOAD,
-    SECRET, SETUP, STATUS, SYNC, UNTIL, WAIT, WHO, WINDOW, WIRE, WORD, WORKERS, parser,
+    ADDRESS, CELLS, CLIENT, CONNECTIONS, CUT, FIRST, HELLO, IDLE, JOURNAL, LOGINS, OPEN, OPEN_EACH,
+    RECORDS, RELOAD, SECRET, SETUP, STATUS, SYNC, UNTIL, WAIT, WHO, WINDOW, WIRE, WORD, WORKERS,
+    parser,
 };
 use clap::error::ErrorKind;
 use clap::{ArgMatches, Error};
@@ -97,8 +98,10 @@ fn serve(alloc: Global, words: &ArgMatches) -> Result<Command, WordsFault> {
             hello: number(alloc, words, HELLO, 0, u64::MAX)?,
         },
         open: number(alloc, words, OPEN, 1, u64::from(u32::MAX))? as u32,
+        open_each: number(alloc, words, OPEN_EACH, 0, u64::from(u32::MAX))? as u32,
         first: number(alloc, words, FIRST, 0, LAST_FIRST)?,
         cuts: words.get_flag(CUT),
+        records: records(alloc, words)?,
     };
     let address = String::from_str(alloc, word(words, ADDRESS))?;
     let logins = String::from_str(alloc, word(words, LOGINS))?;
@@ -117,6 +120,16 @@ fn serve(alloc: Global, words: &ArgMatches) -> Result<Command, WordsFault> {
         journal,
         settings,
     }))
+}
+
+/// How many bytes of records the requests of a principal may leave, where that is given.
+fn records(alloc: Global, words: &ArgMatches) -> Result<Option<u64>, WordsFault>
+    ensures some { IfOk result (λ records. IfSome records (λ most. 1 ≤ most)) }
+{
+    match words.get_str(RECORDS) {
+        Some(_) => Ok(Some(number(alloc, words, RECORDS, 1, u64::MAX)?)),
+        None => Ok(None),
+    }
 }
 
 /// Where a server keeps its history.

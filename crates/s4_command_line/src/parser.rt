@@ -54,6 +54,11 @@ const HISTORY_PAGES: &str = "\
 Example: s4d history list journal --from 60000
 docs/JOURNAL.md says what each tells, and what the sums find.";
 
+/// What the bound of records is, and which it is where it isn't given.
+const RECORDS_HELP: &str =
+    "How many bytes of records the requests of a principal may leave that aren't dropped yet; else half of the memory \
+     that is there, by the principals of LOGINS, as far as the system tells";
+
 /// The argument that is the path of a file of logins.
 pub const LOGINS: &str = "LOGINS";
 
@@ -106,9 +111,13 @@ pub const HELLO: &str = "hello";
 
 pub const OPEN: &str = "open";
 
+pub const OPEN_EACH: &str = "open-each";
+
 pub const FIRST: &str = "first-moment";
 
 pub const CUT: &str = "cut";
+
+pub const RECORDS: &str = "records";
 
 pub const UNTIL: &str = "until";
 
@@ -229,11 +238,18 @@ fn with_flags_of_peers<'a>(alloc: Global, parser: Parser<'a>) -> Result<Parser<'
         "10000",
     );
     let open = flag(alloc, OPEN, "How many connections may be open", "1024");
-    parser.arg(connections)?.arg(idle)?.arg(hello)?.arg(open)
+    let each = flag(
+        alloc,
+        OPEN_EACH,
+        "How many of them may come from one address, or 0 for any",
+        "0",
+    );
+    let parser = parser.arg(connections)?.arg(idle)?.arg(hello)?;
+    parser.arg(open)?.arg(each)
 }
 
-/// Adds the flags that say how the clock begins, how often logins are looked at, and whether the
-/// history is cut.
+/// Adds the flags that say how the clock begins, how often logins are looked at, whether the history is
+/// cut, and how much of it a principal may leave.
 fn with_flags_of_times<'a>(alloc: Global, parser: Parser<'a>) -> Result<Parser<'a>, AllocError> {
     let first = flag(
         alloc,
@@ -251,7 +267,11 @@ fn with_flags_of_times<'a>(alloc: Global, parser: Parser<'a>) -> Result<Parser<'
         .long(CUT)
         .action(ArgAction::SetTrue)
         .help("It drops the records that no reply needs any more");
-    parser.arg(first)?.arg(reload)?.arg(cut)
+    let records = Arg::new(alloc, RECORDS)
+        .long(RECORDS)
+        .value_name("N")
+        .help(RECORDS_HELP);
+    parser.arg(first)?.arg(reload)?.arg(cut)?.arg(records)
 }
 
 /// Adds the flags that name files.

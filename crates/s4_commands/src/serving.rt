@@ -1,14 +1,14 @@
 //! A served drive (docs/OPERATIONS.md).
 
-ghost use Rattle.std.specs.Prelude.{OnOk};
+ghost use Rattle.std.specs.Prelude.{◌≡◌, OnOk};
 ghost use Rattle.std.specs.Io.KnownBytes.{Appends};
 ghost use Rattle.s4_server.specs.Setup.{IsNamed};
 ghost use Rattle.s4_commands.specs.Serving.{TellsService, listening_line};
 
 use crate::ending::tell_end;
 use crate::fault::Fault;
-use crate::{descriptors, keeping, setting_up};
-use s4_command::Service;
+use crate::{descriptors, keeping, memory, setting_up};
+use s4_command::{Service, Settings};
 use s4_counts::{Blank, Names};
 use s4_logins::open_logins;
 use s4_run::RunFault;
@@ -42,12 +42,15 @@ pub fn serve_at<
 {
     look(files, path_in(&service.until))?;
     try_status(files, path_in(&service.status))?;
-    descriptors::warn(rt, files, &service.settings);
+    let settings = descriptors::fitting(rt, files, &service.settings);
     let logins = open_logins(files, service.logins.as_str())?;
+    let settings = memory::fitting(files, settings, service.logins.as_str());
     let listener = TcpListener::bind(rt, service.address.as_str());
     let listener = listener.map_err(|_| Fault::CannotListen)?;
     let clock = Stopwatch::start(rt, service.settings.first);
-    serve_on(rt, files, service, &clock, &listener, logins, output)
+    serve_on(
+        rt, files, service, settings, &clock, &listener, logins, output,
+    )
 }
 
 /// That nothing is there yet which ends the server.
@@ -79,23 +82,27 @@ fn path_in(path: &Option<String>) -> Option<&str> {
     path.as_ref().map(|path| path.as_str())
 }
 
-/// Serves the connections of the listener to the end of the service, and tells that it listens, and
-/// how many records there are at its end; before that the counts of its cells, where the service has
-/// a file for its status.
-pub fn serve_on<R: Net + Threads + Wait + Clock + Eprint + Sync + AllocGlobal, C: Ticks, W: Write>(
+/// Serves the connections of the listener to the end of the service by these settings, and tells that
+/// it listens, and how many records there are at its end; before that the counts of its cells, where
+/// the service has a file for its status.
+fn serve_on<R: Net + Threads + Wait + Clock + Eprint + Sync + AllocGlobal, C: Ticks, W: Write>(
     rt: &R,
     files: &HostRuntime,
     service: &Service,
+    settings: Settings,
     clock: &C,
     listener: &TcpListener,
     logins: Logins,
     output: &mut W,
 ) -> Result<(), Fault>
+    requires cells { settings.cells ≡ service.now.settings.cells }
     ensures told { OnOk result
         (TellsService service.now (W.contents output.old) (W.contents output.new)) }
 {
-    let blank = Blank::new(rt.alloc(), service.settings.cells)?;
-    serve_named::<R, C, W, Brand>(rt, files, service, clock, listener, logins, blank, output)
+    let blank = Blank::new(rt.alloc(), settings.cells)?;
+    serve_named::<R, C, W, Brand>(
+        rt, files, service, settings, clock, listener, logins, blank, output,
+    )
 }
 
 /// The same, with this ledger for its front.
@@ -108,18 +115,20 @@ fn serve_named<
     rt: &R,
     files: &HostRuntime,
     service: &Service,
+    settings: Settings,
     clock: &C,
     listener: &TcpListener,
     logins: Logins,
     blank: Blank,
     output: &mut W,
 ) -> Result<(), Fault>
-    requires named { IsNamed N.ledger N.window N.passes blank.ledger service.now.settings }
+    requires named { IsNamed N.ledger N.window N.passes blank.ledger settings }
+    requires cells { settings.cells ≡ service.now.settings.cells }
     ensures told { OnOk result
         (TellsService service.now (W.contents output.old) (W.contents output.new)) }
 {
     let keeper = keeping::keeper(rt, files, service)?;
-    let mut server = Server::<N>::open(rt, rt.alloc(), service.settings, blank)?;
+    let mut server = Server::<N>::open(rt, rt.alloc(), settings, blank)?;
     setting_up::set_up(rt, files, &mut server, clock, path_in(&service.setup))?;
     tell_listening(output, service.address.as_str())?;
     let upkeep = upkeep_of(files, service);

@@ -1,7 +1,7 @@
 //! Requests, replies and records, by the numbers and texts of rows.
 
-use crate::values::{caller, name, object};
 use s4_types::{Bytes, Grant, Moment, ObjectId, Record, Refusal, Reply, Request};
+use s4_values_for_tests::{caller, name, object};
 use std::alloc::Global;
 use std::test::Fail;
 

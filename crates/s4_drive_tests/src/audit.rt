@@ -1,9 +1,9 @@
 //! Each public call of the audit, and a page at its border.
 
 use crate::asked::{Asked, Told, record};
-use crate::values::{caller, principal};
 use s4_audit::Audit;
 use s4_types::{Moment, Refusal, Right};
+use s4_values_for_tests::{caller, principal};
 use std::alloc::Global;
 use std::test::Fail;
 

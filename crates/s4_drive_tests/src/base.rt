@@ -7,9 +7,9 @@ ghost use Rattle.s4_laws.specs.Bases.{IsBase};
 
 use crate::asked::{Asked, Row, Told, record};
 use crate::following::{are_in_order, are_plain, follow};
-use crate::values::{name, object, purse};
 use s4_base::{Base, count_before};
 use s4_types::{Moment, Record, Refusal, Right};
+use s4_values_for_tests::{name, object, purse};
 use std::alloc::Global;
 use std::collections::VecDeque;
 use std::process::Abort;

@@ -2,10 +2,10 @@
 
 use crate::asked::{Asked, Told, reply, request};
 use crate::counting::Counting;
-use crate::values::{caller, object};
 use s4_drive::{Drive, never_down};
 use s4_store::PlainStore;
 use s4_types::{Moment, Step};
+use s4_values_for_tests::{caller, object};
 use std::alloc::Global;
 use std::cell::Cell;
 use std::process::Abort;

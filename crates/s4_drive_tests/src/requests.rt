@@ -2,12 +2,11 @@
 //! them.
 
 use crate::asked::{Asked, Row, Told, record, request};
-use crate::types::check;
-use crate::values::{caller, name, object};
 use s4_types::{
     AuditLine, AuditLines, AuditPage, Bytes, Grant, Moment, NameLine, NameLines, Refusal, Reply,
     Right,
 };
+use s4_values_for_tests::{caller, name, object};
 use std::alloc::Global;
 use std::process::Abort;
 use std::test::Fail;
@@ -26,6 +25,13 @@ const PARTS: [(&[u8], usize, usize, &[u8]); 10] = [
     (b"hello", 5, 5, b""),
     (b"", 0, 0, b""),
 ];
+
+/// That all is so that is said of values.
+fn check(rt: &impl Abort, facts: &[(&str, bool)]) {
+    for (what, holds) in facts {
+        assert!(rt; *holds, "{what}");
+    }
+}
 
 #[test]
 fn parts_are_what_stands_there(rt: HostRuntime) -> Result<(), Fail> {

@@ -4,10 +4,10 @@ ghost use Rattle.std.specs.Prelude.{◌≤◌};
 ghost use Rattle.s4_types.specs.Play.{last_of};
 ghost use Rattle.s4_state.specs.Told.{IsTold};
 
-use crate::values::{caller, name, object};
 use s4_state::State;
 use s4_store::PlainStore;
 use s4_types::{Moment, Refusal, Right, Version};
+use s4_values_for_tests::{caller, name, object};
 use std::process::Abort;
 use std::test::Fail;
 

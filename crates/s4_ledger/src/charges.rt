@@ -11,25 +11,24 @@ ghost use Rattle.s4_ledger.specs.Queue.{charge_of, charges_of, payers_of, counts
 
 use crate::accounts::Payer;
 use crate::charge::{Charge, Entry};
+use s4_queue::Queue;
 use s4_types::{Moment, NoMemory, Purse};
 use std::alloc::Global;
-use std::collections::VecDeque;
 use std::marker::Model;
 
 /// The charges in the order of their ends, with those among them that were forgiven and wait for
 /// their end.
 #[derive(Drop)]
 pub struct Charges {
-    queue: VecDeque<Entry>,
+    queue: Queue<Entry>,
 }
 
 impl Model for Charges {
-    ghost use Rattle.std.specs.Prelude.{◌-◌};
     ghost use Rattle.s4_ledger.specs.Queue.{Queue, IsInOrder};
 
     ghost Value = { Queue };
 
-    ghost view = { λ c. record { entries = c.queue.items; room = c.queue.cap - c.queue.len } };
+    ghost view = { λ c. record { entries = c.queue.items; room = c.queue.room } };
 
     ghost invariant = { λ c. IsInOrder c.queue.items };
 }
@@ -40,7 +39,7 @@ impl Charges {
         ensures { result.entries ≡ [] }
     {
         Charges {
-            queue: VecDeque::new(alloc),
+            queue: Queue::new(alloc),
         }
     }
 
@@ -72,12 +71,11 @@ impl Charges {
         ensures room { self.old.room ≤ self.new.room + 1 }
     {
         if self.ends_by(entry.end) {
-            self.queue.push_back_reserved(entry);
+            self.queue.push(entry);
             return;
         }
         let index = self.queue.partition_point(|other| other.end <= entry.end);
-        let put: Result<_, _> = self.queue.insert(index, entry);
-        put.unwrap();
+        self.queue.insert(index, entry);
     }
 
     /// Takes out one such charge, and tells who paid for it.
@@ -91,8 +89,11 @@ impl Charges {
         ensures room { self.new.room ≡ self.old.room }
     {
         let index = self.find(charge).unwrap();
-        self.queue[index].cost = 0;
-        self.queue[index].payer
+        let payer = self.queue[index].payer;
+        let mut entry = self.queue[index];
+        entry.cost = 0;
+        self.queue.set(index, entry);
+        payer
     }
 
     /// Takes out the first entry, where its end is at most the horizon.
@@ -108,7 +109,7 @@ impl Charges {
         if first.end > horizon {
             return None;
         }
-        self.queue.pop_front()
+        self.queue.pop()
     }
 
     /// What the purse's charges cost whose ends are at most the horizon, in bytes.

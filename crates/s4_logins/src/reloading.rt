@@ -99,7 +99,7 @@ impl<'a> Reloading<'a> {
     pub fn read(&mut self) -> Result<Arc<Logins>, LoginsFault>
         ensures { IfOk result (λ newest. arc_value newest ≡ arc_value self.new.table) }
     {
-        self.renew(open_logins(self.files, self.path))?;
+        self.renew(open_regular(self.files, self.path))?;
         Ok(Arc::try_clone(&self.table)?)
     }
 
@@ -111,6 +111,15 @@ impl<'a> Reloading<'a> {
     {
         self.table = Arc::new(self.alloc, read?)?;
         Ok(())
+    }
+}
+
+/// The logins of the file with that path, which is looked at first: a pipe isn't opened, since nobody may
+/// ever write into it.
+fn open_regular(files: &HostRuntime, path: &str) -> Result<Logins, LoginsFault> {
+    match fs::metadata(files, path) {
+        Ok(metadata) if metadata.is_file() => open_logins(files, path),
+        _ => Err(LoginsFault::CannotRead),
     }
 }
 

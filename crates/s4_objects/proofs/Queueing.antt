@@ -1,7 +1,10 @@
 -- The ends of a track's past values, as values end, begin, are erased and are freed.
-use Rattle.std.proofs.Common.{◌≡◌, ℕ, suc, ◌+◌, ◌-◌, Bool, true, Some, None, List, [], ◌∷◌, ◌++◌, refl, sym, ◌∙◌, ap, arith, length, drop, false, zero, cond, count_by}
-use Rattle.std.specs.Prelude.{◌&&◌, nat_le, is_some, slice_get, if◌then◌else◌}
-use Rattle.std.specs.List.{list_all, prefix_len}
+use Rattle.std.proofs.Common.{◌≡◌, ℕ, suc, ◌+◌, ◌-◌, ◌<◌, ◌≤◌, take, Bool, true, Some, None, List, [], ◌∷◌, ◌++◌, refl, sym, ◌∙◌, ap, arith, length, drop, false, zero, cond, count_by}
+use Rattle.std.specs.Prelude.{◌&&◌, ◌||◌, nat_le, is_some, slice_get, if◌then◌else◌}
+use Rattle.std.specs.List.{list_all, list_any, prefix_len}
+use Rattle.std.specs.Ordering.{nat_cmp, is_le}
+use Rattle.std.proofs.lemmas.Bool.{le-leb}
+use Rattle.std.proofs.lemmas.Bool.Decides.{nat_tests}
 use Rattle.std.proofs.lemmas.List.Sums.{sum_by-cons}
 use Rattle.s4_types.specs.declared.object.ObjectId.{ObjectId}
 use Rattle.s4_types.specs.declared.version.Version.{Version}
@@ -157,3 +160,28 @@ freed_swept hz e ends (v ∷ vs) h gone = record { gone = v ∷ []; whole = refl
 pub none_wait : (ends : List ℕ) → HasEnds ends [] → ends ≡ []
 none_wait [] h = refl
 none_wait (e ∷ ends) h = absurd h
+
+-- THE FIRST END
+
+-- what `<=` answers of two moments
+le-test : (a b : ℕ) → is_le (nat_cmp a b) ≡ nat_le a b
+le-test a b = by_test (is_le (nat_cmp a b))
+    (λ t. let l : a ≤ b = grind (arith, t) in t ∙ sym (le-leb a b l))
+    (λ f. by_test (nat_le a b) (λ t. let l : a ≤ b = grind (arith, t) in let m : b < a = grind (arith, nat_tests, f) in absurd (omega arith)) (λ g. f ∙ sym g))
+
+pub first_gone : (horizon : ℕ) (es : List Ended) (e : Ended) → slice_get es 0 ≡ Some e → is_le (nat_cmp e.end horizon) ≡ list_any (is_gone horizon) (take 1 (all_ends es))
+first_gone horizon [] e first = absurd cc
+first_gone horizon (x ∷ es) e first =
+    let same : x ≡ e = some_is x e first in
+    le-test e.end horizon ∙ sym (or-false (nat_le e.end horizon)) ∙ ap (λ y. nat_le y.end horizon || false) (sym same)
+  where
+    or-false : (b : Bool) → (b || false) ≡ b
+    or-false true = refl
+    or-false false = refl
+
+    some_is : (x y : Ended) → Some x ≡ Some y → x ≡ y
+    some_is x y e = cc
+
+pub none_gone : (horizon : ℕ) (es : List Ended) → slice_get es 0 ≡ None → false ≡ list_any (is_gone horizon) (take 1 (all_ends es))
+none_gone horizon [] none = refl
+none_gone horizon (x ∷ es) none = absurd cc

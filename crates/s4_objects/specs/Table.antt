@@ -1,6 +1,5 @@
 -- What is kept of objects, as its callers see it.
-use Rattle.std.specs.Prelude.{◌≡◌, ℕ, Bool, true, false, ◌-◌, ◌||◌, ◌&&◌, ◌==◌, is_some, Option, Some, List, drop, if◌then◌else◌}
-use Rattle.std.specs.VecDeque.{deque_len, deque_capacity}
+use Rattle.std.specs.Prelude.{◌≡◌, ℕ, Bool, true, false, ◌||◌, ◌&&◌, ◌==◌, is_some, Option, Some, List, drop, if◌then◌else◌}
 use Rattle.std.specs.BTreeMap.{get}
 use Rattle.std.specs.List.Sorted.{IsNonDecreasingBy}
 use Rattle.s4_store.specs.Chains.{Chains, items_of, IsOpen}
@@ -34,7 +33,7 @@ ends_in objects = all_ends objects.ends.items
 
 -- for how many more ends there is room
 abbrev pub room_in : Objects → ℕ
-room_in objects = deque_capacity objects.ends - deque_len objects.ends
+room_in objects = objects.ends.room
 
 -- WHAT HOLDS OVER A STORE
 

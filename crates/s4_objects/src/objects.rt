@@ -23,10 +23,11 @@ use crate::ends::{Ended, take_gone};
 use crate::flushes::{self, Refund};
 use crate::free::free;
 use crate::kept::{Kept, Which};
+use s4_queue::Queue;
 use s4_store::Store;
 use s4_types::{Acl, Item, Moment, NoMemory, ObjectId, Version};
 use std::alloc::Global;
-use std::collections::{BTreeMap, VecDeque};
+use std::collections::BTreeMap;
 
 /// The objects that are kept, each with its three tracks. Their values lie on chains of a store,
 /// which the calls are lent: each track has a chain of its own. The ends of past values wait in a
@@ -34,7 +35,7 @@ use std::collections::{BTreeMap, VecDeque};
 #[derive(Drop)]
 pub struct Objects {
     pub(crate) kept: BTreeMap<ObjectId, Kept>,
-    pub(crate) ends: VecDeque<Ended>,
+    pub(crate) ends: Queue<Ended>,
 }
 
 impl Objects {
@@ -48,7 +49,7 @@ impl Objects {
     {
         Objects {
             kept: BTreeMap::new(alloc),
-            ends: VecDeque::new(alloc),
+            ends: Queue::new(alloc),
         }
     }
 
@@ -169,7 +170,7 @@ impl Objects {
     {
         let kept = self.kept.get(object).copied().unwrap();
         kept.track(which).put(store, moment, item);
-        self.ends.push_back_reserved(Ended {
+        self.ends.push(Ended {
             end: moment,
             object: *object,
             which,
@@ -232,7 +233,7 @@ impl Objects {
     {
         let kept = self.kept.get(object).copied().unwrap();
         kept.track(which).end(store, moment);
-        self.ends.push_back_reserved(Ended {
+        self.ends.push(Ended {
             end: moment,
             object: *object,
             which,

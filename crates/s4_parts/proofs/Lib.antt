@@ -14,3 +14,4 @@ pub mod Awaiting
 pub mod Freeing
 pub mod Draining
 pub mod Telling
+pub mod Fronts

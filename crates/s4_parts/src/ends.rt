@@ -4,9 +4,9 @@ ghost use Rattle.std.specs.Prelude.{◌≡◌, ◌+◌, ◌<◌, ◌≤◌, [], 
 ghost use Rattle.std.specs.List.{list_any};
 ghost use Rattle.s4_parts.specs.Waiting.{is_gone};
 
+use s4_queue::Queue;
 use s4_types::{Moment, Name, NoMemory, Purse};
 use std::alloc::Global;
-use std::collections::VecDeque;
 use std::marker::Model;
 
 /// The end of a binding that is still held: when it ended, and of which name in which purse.
@@ -36,13 +36,12 @@ impl Ended {
 /// A queue of ends with room for those that are awaited.
 #[derive(Drop)]
 pub struct Ends {
-    entries: VecDeque<Ended>,
+    entries: Queue<Ended>,
     awaited: usize,
 }
 
 impl Model for Ends {
-    ghost use Rattle.std.specs.Prelude.{◌-◌, ◌+◌, ◌≤◌};
-    ghost use Rattle.std.specs.VecDeque.{deque_len, deque_capacity};
+    ghost use Rattle.std.specs.Prelude.{◌-◌, ◌≤◌};
     ghost use Rattle.s4_parts.specs.Ends.{Queue};
 
     ghost Value = { Queue };
@@ -50,10 +49,10 @@ impl Model for Ends {
     ghost view = { λ q. record {
       ended = q.entries.items;
       awaited = q.awaited;
-      spare = deque_capacity q.entries - (deque_len q.entries + q.awaited);
+      spare = q.entries.room - q.awaited;
     } };
 
-    ghost invariant = { λ q. deque_len q.entries + q.awaited ≤ deque_capacity q.entries };
+    ghost invariant = { λ q. q.awaited ≤ q.entries.room };
 }
 
 impl Ends {
@@ -63,14 +62,12 @@ impl Ends {
         ensures awaited { result.awaited ≡ 0 }
     {
         Ends {
-            entries: VecDeque::new(alloc),
+            entries: Queue::new(alloc),
             awaited: 0,
         }
     }
 
-    /// Makes room for one more than are awaited. Where there is room it stays as it was. Where there is
-    /// none it asks for twice what all need, so that the ends that wait are seldom moved, and where
-    /// that is refused for what they need.
+    /// Makes room for one more than are awaited. Where there is room it stays as it was.
     pub fn make_room(&mut self) -> Result<(), NoMemory>
         ensures ok { OnOk result (0 < self.new.spare) }
         ensures there { 0 < self.old.spare → IsOk result }
@@ -79,15 +76,10 @@ impl Ends {
         ensures ended { self.new.ended ≡ self.old.ended }
         ensures awaited { self.new.awaited ≡ self.old.awaited }
     {
-        let awaited = self.awaited + 1;
-        let needed = self.entries.len() + awaited;
-        if needed <= self.entries.capacity() {
+        if self.awaited < self.entries.room() {
             return Ok(());
         }
-        if self.entries.reserve(needed.saturating_add(awaited)).is_ok() {
-            return Ok(());
-        }
-        self.entries.reserve_exact(awaited)
+        self.entries.reserve(self.awaited + 1)
     }
 
     /// Awaits one more end. Takes no memory.
@@ -97,6 +89,8 @@ impl Ends {
         ensures awaited { self.new.awaited ≡ self.old.awaited + 1 }
         ensures spare { self.new.spare + 1 ≡ self.old.spare }
     {
+        // There is room for it, and the room of a queue can be counted, so the sum fits.
+        let _room = self.entries.room();
         self.awaited += 1;
     }
 
@@ -108,7 +102,7 @@ impl Ends {
         ensures spare { self.new.spare ≡ self.old.spare }
     {
         self.awaited -= 1;
-        self.entries.push_back_reserved(ended);
+        self.entries.push(ended);
     }
 
     /// Takes the first end, where it is at most the horizon.
@@ -121,7 +115,7 @@ impl Ends {
         ensures spare { self.old.spare ≤ self.new.spare }
     {
         if begins_gone(&self.entries, horizon) {
-            self.entries.pop_front()
+            self.entries.pop()
         } else {
             None
         }
@@ -129,7 +123,7 @@ impl Ends {
 }
 
 // Whether the first end is at most the horizon.
-fn begins_gone(entries: &VecDeque<Ended>, horizon: Moment) -> bool
+fn begins_gone(entries: &Queue<Ended>, horizon: Moment) -> bool
     ensures { result ≡ list_any (is_gone horizon) (take 1 entries.now.items) }
 {
     match entries.front() {

@@ -1,14 +1,14 @@
 //! Faults of histories, and journals that the program finds at fault sooner, of one cell each. Their
 //! bytes were made by another program (docs/JOURNAL.md).
 
-use s4_history::{Cursor, HistoryFault, Merge, Replayed, Source, Span, replay, write_script};
+use s4_history::{HistoryFault, Merge, Replayed, Source, Span, look, write_script};
 use s4_script::Opening;
 use s4_types::WireVersion;
 use std::process::Abort;
 use std::test::Fail;
 
 /// What is written of a history that isn't told.
-const TEXTS: [(HistoryFault, &str); 15] = [
+const TEXTS: [(HistoryFault, &str); 14] = [
     (HistoryFault::NoJournal, "no journal"),
     (HistoryFault::NoBlock(76), "byte 76: no block"),
     (HistoryFault::NoLine(114), "byte 114: no line"),
@@ -29,10 +29,6 @@ const TEXTS: [(HistoryFault, &str); 15] = [
     (
         HistoryFault::MergeGoesBack(3),
         "merged record 3: moment goes back",
-    ),
-    (
-        HistoryFault::BothVersions,
-        "callers of both versions, and a script has one",
     ),
     (HistoryFault::Stray(1), "cell 1: a record of another cell"),
     (HistoryFault::Torn(1), "cell 1: another record of all cells"),
@@ -66,9 +62,10 @@ const BACK: &[u8] =
 #[test]
 fn a_moment_that_goes_back_is_found(rt: HostRuntime) -> Result<(), Fail> {
     let alloc = rt.alloc();
-    let (header, source) = Source::open(alloc, BACK)?;
-    let found = replay(alloc, header.window, &mut Cursor::new(alloc, source, 0))?;
-    assert_eq!(rt; found, Replayed::GoesBack(1));
+    let (header, mut source) = Source::open(alloc, BACK)?;
+    let cells = look(alloc, header.window, header.cells, &mut source)?;
+    let looked = cells.first().ok_or("a cell")?;
+    assert_eq!(rt; looked.replayed(), Replayed::GoesBack(1));
     Ok(())
 }
 
@@ -85,24 +82,32 @@ const BOTH: &[u8] =
       \x00\x00\x01\x00\x00\x00\x00\x00\x01a\x00\x00\x00\x01\x00\x96\x04\xfb\x0c\xe2\x8b\
       \xe8\xbb\xcd\x1d\xf6[\x19\x9c\x0ar\x1fM\xe1\xcf\xdc~\xcf\xde\xb4\xb4,1/\x1cm\x96";
 
-/// A script of version 2 isn't one of a Write by version 1.
+/// Their scripts, whichever version the first line gives: the line of a caller who speaks the other one
+/// says so.
+const SCRIPTS: [(WireVersion, &[u8]); 2] = [
+    (
+        WireVersion::One,
+        b"window 10\n5 2/2 create 0\n6 2 write 2.0.1 0 61\n",
+    ),
+    (
+        WireVersion::Two,
+        b"window 10 wire 2\n5 2 create 0\n6 2/1 write 2.0.1 0 61\n",
+    ),
+];
+
 #[test]
-fn callers_of_both_versions_have_no_script(rt: HostRuntime) -> Result<(), Fail> {
+fn callers_of_both_versions_have_a_script(rt: HostRuntime) -> Result<(), Fail> {
     let alloc = rt.alloc();
-    let (_, source) = Source::open(alloc, BOTH)?;
-    let mut merge = Merge::new(alloc);
-    merge.add(alloc, Cursor::new(alloc, source, 0))?;
-    let opening = Opening {
-        window: 10,
-        version: WireVersion::Two,
-    };
-    let written = write_script(
-        alloc,
-        &opening,
-        &Span::whole(),
-        &mut merge,
-        &mut Vec::new(alloc),
-    );
-    assert_eq!(rt; written, Err(HistoryFault::BothVersions));
+    for (version, wanted) in &SCRIPTS {
+        let (_, source) = Source::open(alloc, BOTH)?;
+        let mut merge = Merge::new(alloc, source, 1)?;
+        let opening = Opening {
+            window: 10,
+            version: *version,
+        };
+        let mut written = Vec::new(alloc);
+        write_script(alloc, &opening, &Span::whole(), &mut merge, &mut written)?;
+        assert!(rt; written.as_slice() == *wanted);
+    }
     Ok(())
 }

@@ -57,8 +57,10 @@ const STANDARD: Settings = Settings {
         hello: 10000,
     },
     open: 1024,
+    open_each: 0,
     first: 0,
     cuts: false,
+    records: None,
 };
 
 /// The greatest settings, but for the least number of open connections. The first moment is 2^63 - 1.
@@ -72,8 +74,10 @@ const GREATEST: Settings = Settings {
         hello: u64::MAX,
     },
     open: 1,
+    open_each: u32::MAX,
     first: 9223372036854775807,
     cuts: true,
+    records: Some(u64::MAX),
 };
 
 const NO_FILES: [Option<&str>; 3] = [None, None, None];
@@ -96,8 +100,9 @@ const ROWS: [Row; 5] = [
     Row(
         b"s4d|serve|127.0.0.1:4710|first.logins|--window|18446744073709551615\
             |--cells|16|--workers|8|--connections|4294967295|--idle|18446744073709551615|--hello|18446744073709551615|--open|1\
-            |--first-moment|9223372036854775807|--reload|18446744073709551615|--until|a folder/end\
-            |--setup|a folder/begin|--status|a folder/told|--cut",
+            |--open-each|4294967295|--first-moment|9223372036854775807|--reload|18446744073709551615|--until|a folder/end\
+            |--setup|a folder/begin|--status|a folder/told|--cut\
+            |--records|18446744073709551615",
         GREATEST,
         true,
         u64::MAX,

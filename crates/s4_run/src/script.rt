@@ -116,7 +116,7 @@ fn write_cut<W: Write>(writer: &mut W, went: Result<u64, NoMemory>) -> Result<()
 #[derive(Drop)]
 struct ScriptRun {
     drive: Drive<Arena<Version>>,
-    /// The version of the wire that the callers of all lines speak.
+    /// The version of the wire that the first line gives, by which all other lines are read.
     version: WireVersion,
     /// The moment of the newest line, 0 before the first.
     moment: Moment,

@@ -43,7 +43,7 @@ struct AskingLine<'a> {
 #[derive(Drop)]
 struct Script<'a> {
     who: Principal,
-    /// The version of the wire that the callers of all lines speak.
+    /// The version of the wire that the first line gives, by which all other lines are read.
     version: WireVersion,
     window: &'a [u8],
     requests: Vec<AskingLine<'a>>,

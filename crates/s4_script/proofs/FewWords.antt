@@ -5,7 +5,7 @@ use Rattle.std.specs.Result.{IsErrAnd}
 use Rattle.std.specs.Str.{bytes_eq, is_utf8}
 use Rattle.s4_types.specs.declared.principal.WireVersion.{WireVersion}
 use Rattle.s4_types.specs.declared.request.Request.{Request}
-use Rattle.s4_script.specs.Readings.{◌>>=◌, arrival_in, opening_in, window_in, after_in, at_in, in_text, line_in, name_in, number_below, number_in, object_in, place_in, principal_in, purse_in, request_in, user_in, words_in, Gives}
+use Rattle.s4_script.specs.Readings.{◌>>=◌, arrival_in, opening_in, window_in, after_in, at_in, caller_in, in_text, line_in, name_in, number_below, number_in, object_in, place_in, principal_in, purse_in, request_in, user_in, words_in, Gives}
 use Rattle.s4_script.specs.declared.error.ParseError.{ParseError}
 use Rattle.s4_script.specs.declared.error.ParseError.TheVariants as parse_error
 
@@ -63,7 +63,7 @@ request_of_many verb a b c d e f g words =
 
 step_of_many : (version : WireVersion) (moment who verb a b c d e f g : List ℕ) (words : List (List ℕ)) → line_in version (moment ∷ who ∷ verb ∷ a ∷ b ∷ c ∷ d ∷ e ∷ f ∷ g ∷ words) ≡ None
 step_of_many version moment who verb a b c d e f g words =
-    rw (request_of_many verb a b c d e f g words) (none_of_two (number_in moment) (principal_in who))
+    rw (request_of_many verb a b c d e f g words) (none_of_two (number_in moment) (caller_in version who))
 
 -- the first ten words tell what all of them ask for
 pub first_ten_tell : (version : WireVersion) (words : List (List ℕ)) → line_in version (take 10 words) ≡ line_in version words

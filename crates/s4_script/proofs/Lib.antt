@@ -3,7 +3,7 @@ pub mod Spelling
 pub mod Cutting
 pub mod Reading
 pub mod Numbers
-pub mod Dots
+pub mod Parts
 pub mod Spaces
 pub mod WordsBack
 pub mod RequestsBack

@@ -8,15 +8,16 @@ use Rattle.std.specs.Option.{IfSome}
 use Rattle.s4_types.specs.declared.request.After.{After}
 use Rattle.s4_types.specs.declared.request.Request.{Request}
 use Rattle.s4_types.specs.declared.request.Request.TheVariants as request
+use Rattle.s4_types.specs.declared.principal.Caller.{Caller}
 use Rattle.s4_types.specs.declared.principal.WireVersion.{WireVersion}
 use Rattle.s4_types.specs.declared.principal.WireVersion.TheVariants.{One, Two}
 use Rattle.s4_script.specs.Readings.{in_text, line_in_text, number_below, opening_in_text, place_in, request_in, request_in_words, step_of}
-use Rattle.s4_script.specs.Requests.{after_words, at_words, opening_text, request_line_text, request_text, words_of}
+use Rattle.s4_script.specs.Requests.{after_words, at_words, caller_text, opening_text, request_line_text, request_text, words_of}
 use Rattle.s4_script.specs.Scripted.{IsMoment, IsMomentIfAny, IsPlace, IsPrincipal, IsScriptable}
 use Rattle.s4_script.specs.declared.opening.Opening.{Opening}
 use Rattle.s4_script.proofs.Numbers.{number_back, number_below_back}
 use Rattle.s4_script.proofs.Spaces.{AreWords, IsWord, decimal_word, joined_is_text, name_word, one_more, split_joined}
-use Rattle.s4_script.proofs.WordsBack.{after_back, at_are_words, at_back, bytes_back, bytes_word, name_back, object_back, object_word, parted, principal_back, purse_back, purse_number_back, purse_word, user_back, user_word}
+use Rattle.s4_script.proofs.WordsBack.{after_back, at_are_words, at_back, bytes_back, bytes_word, caller_back, caller_word, name_back, object_back, object_word, parted, principal_back, purse_back, purse_number_back, purse_word, user_back, user_word}
 
 -- PAGES
 
@@ -96,29 +97,30 @@ words_are (request.ReadAudit range skip) is = rw (number_word range (omega (arit
 
 -- LINES
 
-line_back : (version : WireVersion) (moment who : ℕ) (words : List (List ℕ)) (asked : Request) → IsMoment moment → IsPrincipal who → AreWords words
-    → request_in_words words ≡ Some asked
-    → line_in_text version (decimal moment ++ 32 ∷ (decimal who ++ 32 ∷ join_with_byte 32 words)) ≡ Some (step_of version moment who asked)
+line_back : (version : WireVersion) (moment : ℕ) (caller : Caller) (words : List (List ℕ)) (asked : Request) → IsMoment moment → IsPrincipal caller.who
+    → AreWords words → request_in_words words ≡ Some asked
+    → line_in_text version (decimal moment ++ 32 ∷ (caller_text version caller ++ 32 ∷ join_with_byte 32 words))
+    ≡ Some (step_of caller.version moment caller.who asked)
 unfolding in_text
-line_back version moment who [] asked when by are spelled = absurd cc
-line_back version moment who (verb ∷ words) asked when by are spelled =
-    let all : List (List ℕ) = decimal who ∷ verb ∷ words in
-    let behind : AreWords all = one_more (decimal who) (verb ∷ words) (number_word who (omega (arith, by))) are in
+line_back version moment caller [] asked when by are spelled = absurd cc
+line_back version moment caller (verb ∷ words) asked when by are spelled =
+    let all : List (List ℕ) = caller_text version caller ∷ verb ∷ words in
+    let behind : AreWords all = one_more (caller_text version caller) (verb ∷ words) (caller_word version caller by) are in
     let every : AreWords (decimal moment ∷ all) = one_more (decimal moment) all (decimal_word moment when) behind in
     rw (
       joined_is_text (decimal moment ∷ all) every,
       split_joined (decimal moment) all every,
       number_back moment when,
-      principal_back who by,
+      caller_back version caller by,
       spelled,
     ) refl
 
 -- the line of a request is read back
-pub request_line_back : (version : WireVersion) (moment who : ℕ) (asked : Request) → IsMoment moment → IsPrincipal who → IsScriptable asked
-    → line_in_text version (request_line_text moment who asked) ≡ Some (step_of version moment who asked)
-request_line_back version moment who asked when by is =
-    ap (line_in_text version) (parted 32 (decimal moment) (decimal who) (request_text asked))
-    ∙ line_back version moment who (words_of asked) asked when by (words_are asked is) (words_back asked is)
+pub request_line_back : (version : WireVersion) (moment : ℕ) (caller : Caller) (asked : Request) → IsMoment moment → IsPrincipal caller.who → IsScriptable asked
+    → line_in_text version (request_line_text version moment caller asked) ≡ Some (step_of caller.version moment caller.who asked)
+request_line_back version moment caller asked when by is =
+    ap (line_in_text version) (parted 32 (decimal moment) (caller_text version caller) (request_text asked))
+    ∙ line_back version moment caller (words_of asked) asked when by (words_are asked is) (words_back asked is)
 
 -- the words of a first line
 abbrev opening_words : WireVersion → ℕ → List (List ℕ)

@@ -1,5 +1,5 @@
 -- Each word of a request is read back as what it was written for.
-use Rattle.std.proofs.Common.{◌≡◌, ◌≢◌, ℕ, ◌<◌, ◌^◌, Bool, true, false, eqb, ltb, List, [], ◌∷◌, ◌++◌, length, Option, Some, None, refl, sym, ap, subst, ◌∙◌, append_assoc, arith}
+use Rattle.std.proofs.Common.{◌≡◌, ◌≢◌, ℕ, ◌<◌, ◌^◌, Bool, true, false, eqb, ltb, List, [], ◌∷◌, ◌++◌, length, Option, Some, None, refl, sym, ap, subst, ◌∙◌, append_assoc, append-nil, arith}
 use Rattle.std.specs.Prelude.{codes, if◌then◌else◌}
 use Rattle.std.specs.Char.{is_ascii_digit}
 use Rattle.std.specs.Fmt.{decimal}
@@ -16,11 +16,14 @@ use Rattle.s4_types.specs.declared.object.ObjectId.{ObjectId}
 use Rattle.s4_types.specs.declared.object.Purse.{Purse}
 use Rattle.s4_types.specs.declared.request.After.{After}
 use Rattle.s4_types.specs.Judgement.{everyone}
-use Rattle.s4_script.specs.Readings.{after_in, at_in, bytes_in, name_in, number_below, object_in, principal_in, purse_in, serial_in, user_in}
-use Rattle.s4_script.specs.Requests.{at_words, purse_text}
+use Rattle.s4_types.specs.declared.principal.Caller.{Caller}
+use Rattle.s4_types.specs.declared.principal.WireVersion.{WireVersion}
+use Rattle.s4_types.specs.declared.principal.WireVersion.TheVariants.{One, Two}
+use Rattle.s4_script.specs.Readings.{after_in, at_in, bytes_in, caller_in, caller_of, name_in, other_in, number_below, object_in, principal_in, purse_in, serial_in, user_in}
+use Rattle.s4_script.specs.Requests.{at_words, caller_text, mark_text, purse_text}
 use Rattle.s4_script.specs.Scripted.{IsMomentIfAny, IsName, IsObject, IsPlace, IsPrincipal, IsPurse, IsPurseNumber, IsSerial, IsUser}
 use Rattle.s4_script.specs.Texts.{bytes_text, object_text, user_text}
-use Rattle.s4_script.proofs.Dots.{HasNoDot, dot_between}
+use Rattle.s4_script.proofs.Parts.{HasNone, no_parts, parts_between}
 use Rattle.s4_script.proofs.Numbers.{digits_of_decimal, number_back, number_below_back}
 use Rattle.s4_script.proofs.Spaces.{IsWord, AreWords, one_more, joined_word, decimal_word, hexadecimal_word}
 
@@ -70,7 +73,7 @@ user_word n is = user_word_by (eqb n everyone) n (omega (arith, is))
 digit_no_dot : (byte : ℕ) → is_ascii_digit byte ≡ true → byte ≢ 46
 digit_no_dot byte digit = grind (arith, nat_tests, digit)
 
-decimal_no_dot : (n : ℕ) → n < 2 ^ 64 → HasNoDot (decimal n)
+decimal_no_dot : (n : ℕ) → n < 2 ^ 64 → HasNone 46 (decimal n)
 decimal_no_dot n small = λ i within. digit_no_dot _ (AllPass-from_list_all is_ascii_digit (decimal n) (digits_of_decimal n small) i 0 within)
 
 -- three texts with a byte between each two
@@ -84,7 +87,7 @@ purse_is purse = append_assoc (decimal purse.creator) (46 ∷ []) (decimal purse
 parts_of_purse : (purse : Purse) → IsPurse purse → purse_in (decimal purse.creator ++ 46 ∷ decimal purse.number) ≡ Some purse
 unfolding purse_in
 parts_of_purse purse is =
-    rw (dot_between (decimal purse.creator) (decimal purse.number) (decimal_no_dot purse.creator (omega (arith, is.0))), principal_back purse.creator is.0, purse_number_back purse.number is.1) refl
+    rw (parts_between 46 (decimal purse.creator) (decimal purse.number) (decimal_no_dot purse.creator (omega (arith, is.0))), principal_back purse.creator is.0, purse_number_back purse.number is.1) refl
 
 pub purse_back : (purse : Purse) → IsPurse purse → purse_in (purse_text purse) ≡ Some purse
 purse_back purse is = ap purse_in (purse_is purse) ∙ parts_of_purse purse is
@@ -102,8 +105,8 @@ parts_of_object : (object : ObjectId) → IsObject object → object_in (decimal
 unfolding object_in
 parts_of_object object is =
     let p : Purse = object.purse in
-    let first = dot_between (decimal p.creator) (decimal p.number ++ 46 ∷ decimal object.serial) (decimal_no_dot p.creator (omega (arith, is.0.0))) in
-    let second = dot_between (decimal p.number) (decimal object.serial) (decimal_no_dot p.number (omega (arith, is.0.1))) in
+    let first = parts_between 46 (decimal p.creator) (decimal p.number ++ 46 ∷ decimal object.serial) (decimal_no_dot p.creator (omega (arith, is.0.0))) in
+    let second = parts_between 46 (decimal p.number) (decimal object.serial) (decimal_no_dot p.number (omega (arith, is.0.1))) in
     rw (first, principal_back p.creator is.0.0, second, purse_number_back p.number is.0.1, serial_back object.serial is.1) refl
 
 pub object_back : (object : ObjectId) → IsObject object → object_in (object_text object) ≡ Some object
@@ -118,6 +121,44 @@ object_word object is =
     (joined_word (decimal p.number) (46 ∷ decimal object.serial) (decimal_word p.number (omega (arith, is.0.1))) last) in
     subst IsWord (sym (object_is object))
     (joined_word (decimal p.creator) (46 ∷ (decimal p.number ++ 46 ∷ decimal object.serial)) (decimal_word p.creator (omega (arith, is.0.0))) middle)
+
+-- CALLERS
+
+digit_no_slash : (byte : ℕ) → is_ascii_digit byte ≡ true → byte ≢ 47
+digit_no_slash byte digit = grind (arith, nat_tests, digit)
+
+decimal_no_slash : (n : ℕ) → n < 2 ^ 64 → HasNone 47 (decimal n)
+decimal_no_slash n small = λ i within. digit_no_slash _ (AllPass-from_list_all is_ascii_digit (decimal n) (digits_of_decimal n small) i 0 within)
+
+plain_caller : (version : WireVersion) (who : ℕ) → IsPrincipal who → caller_in version (decimal who) ≡ Some (caller_of version who)
+unfolding caller_in
+plain_caller version who is = rw (no_parts 47 (decimal who) (decimal_no_slash who (omega (arith, is))), principal_back who is) refl
+
+marked_caller : (version spoken : WireVersion) (who : ℕ) (number : List ℕ) → IsPrincipal who → other_in version number ≡ Some spoken
+    → caller_in version (decimal who ++ 47 ∷ number) ≡ Some (caller_of spoken who)
+unfolding caller_in
+marked_caller version spoken who number is other =
+    rw (parts_between 47 (decimal who) number (decimal_no_slash who (omega (arith, is))), other, principal_back who is) refl
+
+caller_read : (version spoken : WireVersion) (who : ℕ) → IsPrincipal who → caller_in version (decimal who ++ mark_text version spoken) ≡ Some (caller_of spoken who)
+caller_read One One who is = ap (caller_in One) (append-nil (decimal who)) ∙ plain_caller One who is
+caller_read Two Two who is = ap (caller_in Two) (append-nil (decimal who)) ∙ plain_caller Two who is
+caller_read One Two who is = marked_caller One Two who (codes "2") is refl
+caller_read Two One who is = marked_caller Two One who (codes "1") is refl
+
+pub caller_back : (version : WireVersion) (caller : Caller) → IsPrincipal caller.who
+    → caller_in version (caller_text version caller) ≡ Some (caller_of caller.version caller.who)
+caller_back version caller is = caller_read version caller.version caller.who is
+
+mark_word : (version spoken : WireVersion) → IsWord (mark_text version spoken)
+mark_word One One = refl
+mark_word Two Two = refl
+mark_word One Two = refl
+mark_word Two One = refl
+
+pub caller_word : (version : WireVersion) (caller : Caller) → IsPrincipal caller.who → IsWord (caller_text version caller)
+caller_word version caller is =
+    joined_word (decimal caller.who) (mark_text version caller.version) (decimal_word caller.who (omega (arith, is))) (mark_word version caller.version)
 
 -- NAMES AND BYTES
 

@@ -13,6 +13,7 @@ use Rattle.s4_types.specs.declared.object.Purse.{Purse}
 use Rattle.s4_types.specs.declared.request.After.{After}
 use Rattle.s4_types.specs.declared.request.Request.{Request}
 use Rattle.s4_types.specs.declared.request.Request.TheVariants as request
+use Rattle.s4_types.specs.declared.principal.Caller.{Caller}
 use Rattle.s4_types.specs.declared.principal.WireVersion.{WireVersion}
 use Rattle.s4_types.specs.declared.principal.WireVersion.TheVariants as wire
 use Rattle.s4_types.specs.declared.record.Step.TheVariants as step
@@ -88,10 +89,18 @@ abbrev pub longer_front : ℕ → Option (List ℕ × List ℕ) → Option (List
 longer_front byte None = None
 longer_front byte (Some parts) = Some (byte ∷ parts.0, parts.1)
 
+-- the parts before and behind the first such byte
+unfoldable pub parts_at : ℕ → List ℕ → Option (List ℕ × List ℕ)
+parts_at byte [] = None
+parts_at byte (first ∷ word) = if first == byte then Some ([], word) else longer_front first (parts_at byte word)
+
 -- the parts before and behind the first dot
-unfoldable pub at_dot : List ℕ → Option (List ℕ × List ℕ)
-at_dot [] = None
-at_dot (byte ∷ word) = if byte == 46 then Some ([], word) else longer_front byte (at_dot word)
+abbrev pub at_dot : List ℕ → Option (List ℕ × List ℕ)
+at_dot word = parts_at 46 word
+
+-- the parts before and behind the first slash
+abbrev pub at_slash : List ℕ → Option (List ℕ × List ℕ)
+at_slash word = parts_at 47 word
 
 unfoldable pub purse_in : List ℕ → Option Purse
 purse_in word = do
@@ -306,12 +315,38 @@ abbrev pub request_in_words : List (List ℕ) → Option Request
 request_in_words [] = None
 request_in_words (verb ∷ words) = request_in verb words
 
+-- CALLERS
+
+-- client 0 of a principal, who speaks that version of the wire
+abbrev pub caller_of : WireVersion → ℕ → Caller
+caller_of version who = record { who = who; client = 0; version = version }
+
+-- the version of that number, which isn't the one that the first line gives
+abbrev pub other_in : WireVersion → List ℕ → Option WireVersion
+other_in wire.One number = if bytes_eq number (codes "2") then Some wire.Two else None
+other_in wire.Two number = if bytes_eq number (codes "1") then Some wire.One else None
+
+-- the caller of a word with a slash: a principal stands before it, and behind it the version that they speak
+abbrev pub marked_in : WireVersion → List ℕ × List ℕ → Option Caller
+marked_in version parts = do
+  spoken ← other_in version parts.1
+  who ← principal_in parts.0
+  Some (caller_of spoken who)
+
+-- the caller of a word and its parts; without a slash they speak the version that the first line gives
+abbrev pub caller_by : WireVersion → List ℕ → Option (List ℕ × List ℕ) → Option Caller
+caller_by version word None = option_map (caller_of version) (principal_in word)
+caller_by version word (Some parts) = marked_in version parts
+
+-- the caller that a word of a line names, where the first line gives that version
+unfoldable pub caller_in : WireVersion → List ℕ → Option Caller
+caller_in version word = caller_by version word (at_slash word)
+
 -- LINES
 
 -- a request of client 0, who speaks that version of the wire
 abbrev pub step_of : WireVersion → ℕ → ℕ → Request → Line
-step_of version moment who asked =
-    line.Step (step.Request moment (record { who = who; client = 0; version = version }) asked)
+step_of version moment who asked = line.Step (step.Request moment (caller_of version who) asked)
 
 abbrev pub used_in : List ℕ → Option Line
 used_in word = if bytes_eq word (codes "used") then Some line.Used else None
@@ -326,11 +361,11 @@ counted_in word number =
 abbrev pub asked_in : WireVersion → List ℕ → List ℕ → List ℕ → List (List ℕ) → Option Line
 asked_in version moment who verb words = do
   at ← number_in moment
-  by ← principal_in who
+  by ← caller_in version who
   asked ← request_in verb words
-  Some (step_of version at by asked)
+  Some (line.Step (step.Request at by asked))
 
--- what the words of a line after the first ask for, where the callers speak that version
+-- what the words of a line after the first ask for, where the first line gives that version
 abbrev pub line_in : WireVersion → List (List ℕ) → Option Line
 line_in version [] = None
 line_in version (word ∷ []) = used_in word
@@ -345,7 +380,7 @@ words_in text = slice_split (λ byte. byte == 32) text
 unfoldable pub in_text : {X : Type 0} → (List (List ℕ) → Option X) → List ℕ → Option X
 in_text reading text = if is_utf8 text then reading (words_in text) else None
 
--- what a line after the first asks for, where the callers speak that version
+-- what a line after the first asks for, where the first line gives that version
 abbrev pub line_in_text : WireVersion → List ℕ → Option Line
 line_in_text version text = in_text (line_in version) text
 

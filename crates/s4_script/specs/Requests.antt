@@ -5,6 +5,7 @@ use Rattle.s4_types.specs.declared.object.Purse.{Purse}
 use Rattle.s4_types.specs.declared.request.After.{After}
 use Rattle.s4_types.specs.declared.request.Request.{Request}
 use Rattle.s4_types.specs.declared.request.Request.TheVariants as request
+use Rattle.s4_types.specs.declared.principal.Caller.{Caller}
 use Rattle.s4_types.specs.declared.principal.WireVersion.{WireVersion}
 use Rattle.s4_types.specs.declared.principal.WireVersion.TheVariants as wire
 use Rattle.s4_script.specs.declared.opening.Opening.{Opening}
@@ -61,11 +62,24 @@ after_text after = spaced (after_words after)
 abbrev pub request_text : Request → List ℕ
 request_text asked = join_with_byte 32 (words_of asked)
 
--- the line of a request, without the end of the line: when it is made, by whom, and then its verb and its words
-abbrev pub request_line_text : ℕ → ℕ → Request → List ℕ
-request_line_text moment who asked = decimal moment ++ codes " " ++ decimal who ++ codes " " ++ request_text asked
+-- what stands behind a caller's principal, as `/2`: the version of the wire that they speak, or nothing where the
+-- script's first line gives that version
+abbrev pub mark_text : WireVersion → WireVersion → List ℕ
+mark_text wire.One wire.One = []
+mark_text wire.Two wire.Two = []
+mark_text wire.One wire.Two = codes "/2"
+mark_text wire.Two wire.One = codes "/1"
 
--- what stands behind the window, as ` wire 2`, or nothing where the callers speak version 1
+-- a caller as the word of a line, where the script's first line gives that version
+abbrev pub caller_text : WireVersion → Caller → List ℕ
+caller_text version caller = decimal caller.who ++ mark_text version caller.version
+
+-- the line of a request in such a script, without the end of the line: when it is made, by whom, and then its verb and its words
+abbrev pub request_line_text : WireVersion → ℕ → Caller → Request → List ℕ
+request_line_text version moment caller asked =
+    decimal moment ++ codes " " ++ caller_text version caller ++ codes " " ++ request_text asked
+
+-- what stands behind the window, as ` wire 2`, or nothing by version 1
 abbrev pub version_text : WireVersion → List ℕ
 version_text wire.One = []
 version_text wire.Two = codes " wire 2"

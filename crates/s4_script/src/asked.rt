@@ -4,25 +4,31 @@ ghost use Rattle.std.specs.Prelude.{Some};
 ghost use Rattle.std.specs.Fmt.{DisplaysOnOk};
 ghost use Rattle.s4_script.specs.Requests.{after_text, at_text, purse_text, request_line_text, request_text};
 
+use crate::callers::CallerText;
 use crate::replies::{BytesText, ObjectText, UserText, text_of_name};
-use s4_types::{After, Moment, Principal, Purse, Request};
+use s4_types::{After, Caller, Moment, Purse, Request, WireVersion};
 use std::fmt;
 
-/// A request as the line of a script that asks for it.
+/// A request as the line of a script that asks for it. Their client isn't written.
 #[derive(Clone, Copy)]
 pub struct RequestLine<'a> {
+    /// The version of the wire that the script's first line gives.
+    pub version: WireVersion,
     pub moment: Moment,
-    pub who: Principal,
+    pub caller: Caller,
     pub request: &'a Request,
 }
 
 impl fmt::Display for RequestLine<'_> {
-    ghost output = { λ t. Some (request_line_text t.moment t.who t.request.now) };
+    ghost output = { λ t. Some (request_line_text t.version t.moment t.caller t.request.now) };
 
     fn fmt<W: fmt::Write>(&self, f: &mut fmt::Formatter<W>) -> fmt::Result {
         let moment = self.moment.tick();
-        let who = self.who.number();
-        write!(f, "{moment} {who} {}", RequestText(self.request))
+        let caller = CallerText {
+            version: self.version,
+            caller: self.caller,
+        };
+        write!(f, "{moment} {caller} {}", RequestText(self.request))
     }
 }
 

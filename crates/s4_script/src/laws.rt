@@ -2,6 +2,7 @@
 
 ghost use Rattle.std.specs.Prelude.{◌≡◌, ℕ, Some};
 ghost use Rattle.s4_types.specs.declared.request.Request.{Request as Asked};
+ghost use Rattle.s4_types.specs.declared.principal.Caller.{Caller as CallerOf};
 ghost use Rattle.s4_types.specs.declared.principal.WireVersion.{WireVersion as Wire};
 ghost use Rattle.s4_script.specs.Readings.{line_in_text, opening_in_text, request_in_words, step_of};
 ghost use Rattle.s4_script.specs.Requests.{opening_text, request_line_text, words_of};
@@ -12,15 +13,15 @@ use crate::ranges;
 use s4_types::{Moment, Principal, Request};
 
 /// What is written of a request is read back as that request, of each of the twenty kinds, as the
-/// words of a call and as the line of a script. The line has the moment and the principal too, and
-/// no client: docs/SCRIPTS.md, "Requests". Its caller speaks the version that the first line says.
+/// words of a call and as the line of a script. The line has the moment, the principal and the version
+/// of the wire that they speak too, and no client: docs/SCRIPTS.md, "Requests".
 pub fn written_requests_are_read_back()
     ensures words { (asked : Asked) → IsScriptable asked
         → request_in_words (words_of asked) ≡ Some asked }
-    ensures line { (version : Wire) (moment who : ℕ) (asked : Asked) → IsMoment moment
-        → IsPrincipal who → IsScriptable asked
-        → line_in_text version (request_line_text moment who asked)
-        ≡ Some (step_of version moment who asked) }
+    ensures line { (version : Wire) (moment : ℕ) (caller : CallerOf) (asked : Asked)
+        → IsMoment moment → IsPrincipal caller.who → IsScriptable asked
+        → line_in_text version (request_line_text version moment caller asked)
+        ≡ Some (step_of caller.version moment caller.who asked) }
 {}
 
 /// What is written of an opening is read back as that opening, by each version.

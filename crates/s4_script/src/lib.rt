@@ -4,6 +4,7 @@
 
 mod arrivals;
 mod asked;
+mod callers;
 mod error;
 mod laws;
 mod line;

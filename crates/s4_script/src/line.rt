@@ -3,8 +3,8 @@
 ghost use Rattle.s4_script.specs.Readings.{asked_in, counted_in, line_in, line_in_text, texts, used_in, Gives};
 
 use crate::error::ParseError;
-use crate::{requests, words};
-use s4_types::{Caller, Moment, Principal, Step, WireVersion};
+use crate::{callers, requests, words};
+use s4_types::{Moment, Principal, Step, WireVersion};
 use std::alloc::Global;
 
 /// A line after the first.
@@ -32,7 +32,8 @@ pub fn parse_principal(word: &str) -> Result<Principal, ParseError> {
     words::principal(word)
 }
 
-/// What a line after the first asks for, where the callers speak that version of the wire
+/// What a line after the first asks for, where the first line gives that version of the wire: the
+/// caller of a line speaks it, unless their word says that they speak the other one
 /// (docs/SCRIPTS.md, "Requests").
 ///
 /// `Bad` where it asks for nothing: it is no text, or its words spell nothing; `NoMemory` where its
@@ -88,11 +89,7 @@ fn request(
 {
     Ok(Line::Step(Step::Request {
         moment: words::moment(moment)?,
-        caller: Caller {
-            who: words::principal(who)?,
-            client: 0,
-            version,
-        },
+        caller: callers::caller(version, who)?,
         request: requests::parse_request(alloc, verb, words)?,
     }))
 }

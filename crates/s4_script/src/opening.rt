@@ -15,7 +15,8 @@ use std::fmt;
 pub struct Opening {
     /// The window that the drive begins with, in ticks.
     pub window: u64,
-    /// The version of the wire that the callers of all further lines speak.
+    /// The version of the wire that the callers of further lines speak, but for those whose line says
+    /// that they speak the other one.
     pub version: WireVersion,
 }
 

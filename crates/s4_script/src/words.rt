@@ -7,7 +7,7 @@ ghost use Rattle.std.specs.List.{list_all};
 ghost use Rattle.std.specs.Option.{option_map};
 ghost use Rattle.std.specs.Str.{is_utf8};
 ghost use Rattle.s4_types.specs.Judgement.{everyone};
-ghost use Rattle.s4_script.specs.Readings.{after_in, at_dot, at_in, bytes_in, is_plain, name_in, number_below, number_in, object_in, principal_in, purse_in, serial_in, spelled, texts, user_in, words_in, Gives};
+ghost use Rattle.s4_script.specs.Readings.{after_in, at_dot, at_in, at_slash, bytes_in, is_plain, name_in, number_below, number_in, object_in, principal_in, purse_in, serial_in, spelled, texts, user_in, words_in, Gives};
 ghost use Rattle.s4_script.specs.declared.error.ParseError.TheVariants as parse_error;
 
 use crate::error::ParseError;
@@ -168,6 +168,13 @@ fn at_dot(word: &str) -> Option<(&str, &str)>
     ensures { option_map (λ parts. (parts.0.now, parts.1.now)) result ≡ at_dot word.now }
 {
     word.split_once('.')
+}
+
+/// The parts before and behind the first slash.
+pub fn at_slash(word: &str) -> Option<(&str, &str)>
+    ensures { option_map (λ parts. (parts.0.now, parts.1.now)) result ≡ at_slash word.now }
+{
+    word.split_once('/')
 }
 
 /// A purse, as `7.0`.

@@ -1,11 +1,12 @@
 //! What the threads of a server tell each other.
 
 use crate::start::Start;
-use s4_keeping::Notebook;
+use s4_keeping::{Kept, Notebook};
 use s4_status::Tally;
-use s4_types::NoMemory;
+use s4_types::{Moment, NoMemory};
 use std::alloc::Global;
-use std::sync::atomic::{AtomicBool, AtomicU64};
+use std::sync::atomic::{AtomicBool, AtomicU64, Ordering};
+use std::sync::{Mutex, Wait};
 
 /// Where each thread of a server reads what the others wrote.
 #[derive(Drop)]
@@ -18,6 +19,9 @@ pub(crate) struct Board {
     pub(crate) time: AtomicU64,
     /// The cells in which a worker is to ask, since nobody did for long: a bit each.
     pub(crate) quiet: AtomicU64,
+    /// The moment of the last request that was refused, since records of its principal took all the memory
+    /// that they may; 0 where none was.
+    pub(crate) full: AtomicU64,
     /// What is counted.
     pub(crate) tally: Tally,
     /// What is left for the keeper of a journal.
@@ -25,6 +29,10 @@ pub(crate) struct Board {
     /// Before this moment no record is missing in the journal, as far as that is known to last; the
     /// greatest moment where none is kept.
     pub(crate) kept: AtomicU64,
+    /// How far the journal is; none where none is kept.
+    journal: Mutex<Option<Kept>>,
+    /// Nothing more is written into the journal.
+    pub(crate) is_kept: AtomicBool,
     /// Calls of moments before this one are to claim their records.
     pub(crate) due: AtomicU64,
     /// The records before this moment went, of all cells.
@@ -36,26 +44,45 @@ pub(crate) struct Board {
 }
 
 impl Board {
-    /// The board of a server of so many workers that begins now. `keeps` says whether it keeps a
-    /// journal.
+    /// The board of a server of so many workers that begins now, and whose journal is so far, where it
+    /// keeps one.
     pub(crate) fn new(
         alloc: Global,
         workers: u64,
         now: u64,
-        keeps: bool,
+        journal: Option<Kept>,
     ) -> Result<Board, NoMemory> {
+        let keeps = journal.is_some();
         Ok(Board {
             start: Start::new(workers),
             accepted: AtomicBool::new(false),
             time: AtomicU64::new(now),
             quiet: AtomicU64::new(0),
+            full: AtomicU64::new(0),
             tally: Tally::new(alloc)?,
             notebook: Notebook::new(alloc, workers, keeps)?,
             kept: AtomicU64::new(if keeps { 0 } else { u64::MAX }),
+            journal: Mutex::new(journal),
+            is_kept: AtomicBool::new(false),
             due: AtomicU64::new(0),
             cut: AtomicU64::new(0),
             ahead: AtomicU64::new(0),
             stray: AtomicBool::new(false),
         })
+    }
+
+    /// The records before this moment went, of all cells.
+    pub(crate) fn cut(&self) -> Moment {
+        Moment::new(self.cut.load(Ordering::SeqCst))
+    }
+
+    /// Notes how far the journal is.
+    pub(crate) fn tell_journal<R: Wait>(&self, rt: &R, kept: Kept) {
+        *self.journal.lock(rt) = Some(kept);
+    }
+
+    /// How far the journal is; none where none is kept.
+    pub(crate) fn journal<R: Wait>(&self, rt: &R) -> Option<Kept> {
+        *self.journal.lock(rt)
     }
 }

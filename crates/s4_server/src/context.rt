@@ -4,7 +4,7 @@ ghost use Rattle.std.specs.Prelude.{◌≡◌};
 
 use crate::board::Board;
 use crate::upkeep::Upkeep;
-use s4_keeping::{Keeper, Notebook, Source, Stretch};
+use s4_keeping::{Notebook, Source, Stretch};
 use s4_pool::{Front, Names, OpenGate};
 use s4_sockets::{Lobby, Post, Ticks};
 use s4_status::{CellStatus, Connections, JournalStatus, Refusals, Status, Teller};
@@ -57,7 +57,8 @@ impl<R: Wait, C, N: Names> Source for Context<'_, R, C, N> {
 }
 
 impl<R: Wait, C: Ticks, N: Names> Teller for Context<'_, R, C, N> {
-    fn status(&self, keeper: Option<&Keeper>, resident: Option<u64>) -> Result<Status, NoMemory> {
+    fn status(&self, resident: Option<u64>) -> Result<Status, NoMemory> {
+        let kept = self.board.journal(self.rt);
         let mut status = Status {
             moment: self.clock.moment().tick(),
             port: self.port,
@@ -69,8 +70,9 @@ impl<R: Wait, C: Ticks, N: Names> Teller for Context<'_, R, C, N> {
             cells: Vec::new(self.alloc),
             replies: 0,
             refusals: Refusals::of(&self.board.tally),
-            journal: match keeper {
-                Some(keeper) => Some(JournalStatus::of(self.alloc, keeper.kept())?),
+            record_bytes: self.lobby.records_left(self.alloc, self.board.cut())?,
+            journal: match kept {
+                Some(kept) => Some(JournalStatus::of(self.alloc, kept)?),
                 None => None,
             },
         };

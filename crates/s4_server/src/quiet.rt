@@ -18,9 +18,11 @@ const PARTS: u64 = 20;
 /// How far a cell may be behind it in any case, in milliseconds: rounds come ten times as often.
 const LEAST: u64 = 1000;
 
-/// Has a worker ask in each cell that is behind, since it would hold up what is cut.
+/// Has a worker ask in each cell that is behind, since it would hold up what is cut. A request that was
+/// refused for want of room counts as one that was asked: else nobody who is alone would have room again.
 pub(crate) fn find_quiet<R: Wait, C, N: Names>(context: &Context<'_, R, C, N>) {
-    let mut newest = 0;
+    let full = context.board.full.load(Ordering::SeqCst);
+    let mut newest = full;
     let mut horizon = 0;
     for cell in 0..context.cells {
         if let Some(measure) = context.front.measure(context.rt, cell) {
@@ -28,8 +30,8 @@ pub(crate) fn find_quiet<R: Wait, C, N: Names>(context: &Context<'_, R, C, N>) {
             horizon = horizon.max(measure.horizon.tick());
         }
     }
-    // Until a window is over no cell holds anything up.
-    if horizon == 0 {
+    // Until a window is over no cell holds anything up; but who has no room for records waits for that.
+    if horizon == 0 && full == 0 {
         return;
     }
     let mut quiet = 0;

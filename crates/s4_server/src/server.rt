@@ -22,7 +22,7 @@ use crate::upkeep::Upkeep;
 use s4_cells::Cell;
 use s4_closing::none_went;
 use s4_command::Settings;
-use s4_keeping::Keeper;
+use s4_keeping::{Keeper, Kept};
 use s4_pool::{Blank, Closed, Front, Names, OpenGate, Pass, Why};
 use s4_sockets::{Lobby, Post, Ticks};
 use s4_stream::Logins;
@@ -152,8 +152,8 @@ impl<N: Names + Send + Sync> Server<N> {
             places,
         } = self;
         let now = clock.moment().tick();
-        let keeps = keeper.is_some();
-        let (lobby, board, table) = begun(rt, alloc, &settings, logins, keeps, now, &passes)?;
+        let kept = keeper.as_ref().map(Keeper::kept);
+        let (lobby, board, table) = begun(rt, alloc, &settings, logins, kept, now, &passes)?;
         let context = Context {
             rt,
             alloc,
@@ -183,18 +183,18 @@ impl<N: Names + Send + Sync> Server<N> {
 }
 
 /// What connections go by, what threads tell each other, and the login table, in a server that begins
-/// now. The calls that the passes have are noted, where the server `keeps` a journal.
+/// now. Where it keeps a journal, which is so far, the calls that the passes have are noted.
 fn begun<'a, R: Wait, N: Names>(
     rt: &'a R,
     alloc: Global,
     settings: &Settings,
     logins: Logins,
-    keeps: bool,
+    journal: Option<Kept>,
     now: u64,
     passes: &[Pass<N>],
 ) -> Result<(Lobby<'a, R>, Board, Arc<Logins>), NoMemory> {
-    let lobby = Lobby::new(rt, alloc, logins, settings.patience)?;
-    let board = Board::new(alloc, settings.workers, now, keeps)?;
+    let lobby = Lobby::new(rt, alloc, logins, settings)?;
+    let board = Board::new(alloc, settings.workers, now, journal)?;
     note_passes(rt, &board.notebook, passes)?;
     let table = lobby.logins()?;
     Ok((lobby, board, table))

@@ -6,9 +6,9 @@ use std::sync::atomic::{AtomicBool, AtomicU64, Ordering};
 use std::thread;
 use std::time::{Clock, Duration};
 
-/// How many threads a server has beside its workers: one that accepts, one that sweeps, and one
-/// that looks after files.
-const OTHERS: u64 = 3;
+/// How many threads a server has beside its workers: one that accepts, one that sweeps, one that keeps
+/// its journal, and one that looks after its other files.
+const OTHERS: u64 = 4;
 
 /// How often a thread looks whether all others have started.
 const LOOKS: u32 = 5000;
@@ -28,7 +28,7 @@ pub(crate) struct Start {
 impl Start {
     /// The start of the threads of a server with so many workers.
     pub(crate) fn new(workers: u64) -> Start
-        ensures { result.wanted ≡ min (workers + 3) (2 ^ 64 - 1) }
+        ensures { result.wanted ≡ min (workers + 4) (2 ^ 64 - 1) }
     {
         Start {
             wanted: workers.saturating_add(OTHERS),

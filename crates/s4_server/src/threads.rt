@@ -51,8 +51,23 @@ pub(crate) fn run_threads<
     );
 }
 
-/// Sweeps in one thread, and looks after files in another.
+/// Sweeps in one thread, and looks after files in others.
 fn look_after<R: Threads + Wait + Clock + Eprint + Sync, C: Ticks, N: Names + Send + Sync>(
+    context: &Context<'_, R, C, N>,
+    reloading: Reloading<'_>,
+    keeper: Option<Keeper>,
+    ended: &AtomicBool,
+) {
+    thread::join(
+        context.rt,
+        || sweep_to_the_end(context, ended),
+        || look_after_files(context, reloading, keeper, ended),
+    );
+}
+
+/// Keeps the journal in one thread, and looks after the other files in another, so that no disk holds up
+/// who may log in, nor the end.
+fn look_after_files<R: Threads + Wait + Clock + Eprint + Sync, C: Ticks, N: Names + Send + Sync>(
     context: &Context<'_, R, C, N>,
     mut reloading: Reloading<'_>,
     mut keeper: Option<Keeper>,
@@ -60,8 +75,8 @@ fn look_after<R: Threads + Wait + Clock + Eprint + Sync, C: Ticks, N: Names + Se
 ) {
     thread::join(
         context.rt,
-        || sweep_to_the_end(context, ended),
-        || keep_to_the_end(context, &mut reloading, &mut keeper, ended),
+        || keep_to_the_end(context, &mut keeper, ended),
+        || look_to_the_end(context, &mut reloading, ended),
     );
 }
 
@@ -165,12 +180,11 @@ fn tell_stray<R: Eprint, C, N: Names>(context: &Context<'_, R, C, N>) -> bool {
     is_stray
 }
 
-/// Looks after the server's files, round by round, until the end: whether it is to end, whether the
-/// logins have changed, its journal, and what is told of it.
-fn keep_to_the_end<R: Wait + Clock + Eprint, C: Ticks, N: Names>(
+/// Looks after the server's files, round by round, until nothing more is written into its journal: whether
+/// it is to end, whether the logins have changed, and what is told of it.
+fn look_to_the_end<R: Wait + Clock + Eprint, C: Ticks, N: Names>(
     context: &Context<'_, R, C, N>,
     reloading: &mut Reloading<'_>,
-    keeper: &mut Option<Keeper>,
     ended: &AtomicBool,
 ) {
     if !context.board.start.is_made(context.rt) {
@@ -178,16 +192,14 @@ fn keep_to_the_end<R: Wait + Clock + Eprint, C: Ticks, N: Names>(
     }
     let mut telling = Telling::new(context.upkeep.files, context.upkeep.status);
     for _ in context.rt.forever() {
-        let is_last = ended.load(Ordering::SeqCst);
+        let is_kept = context.board.is_kept.load(Ordering::SeqCst);
+        let is_last = is_kept && ended.load(Ordering::SeqCst);
+        let now = context.clock.moment().tick();
         if context.upkeep.is_over() {
             context.lobby.end();
         }
-        reload(context, reloading);
-        if let Some(keeper) = keeper {
-            keep(context, keeper, is_last);
-        }
-        let now = context.board.time.load(Ordering::SeqCst);
-        telling.tell(context.rt, context, keeper.as_ref(), now);
+        reload(context, reloading, now);
+        telling.tell(context.rt, context, now);
         if is_last {
             return;
         }
@@ -195,27 +207,63 @@ fn keep_to_the_end<R: Wait + Clock + Eprint, C: Ticks, N: Names>(
     }
 }
 
-/// Has the keeper of a journal take a round, and notes how far the journal is known to last.
-fn keep<R: Wait + Clock + Eprint, C, N: Names>(
+/// Has the journal kept to the end, and says then how far it is.
+fn keep_to_the_end<R: Wait + Clock + Eprint, C: Ticks, N: Names>(
+    context: &Context<'_, R, C, N>,
+    keeper: &mut Option<Keeper>,
+    ended: &AtomicBool,
+) {
+    if context.board.start.is_made(context.rt) {
+        if let Some(keeper) = keeper {
+            keep(context, keeper, ended);
+            keeper.tell(context.rt, context.alloc);
+        }
+    }
+    context.board.is_kept.store(true, Ordering::SeqCst);
+}
+
+/// Has the keeper of a journal take piece after piece, and rest where nothing more is there: once more when
+/// all connections have ended.
+fn keep<R: Wait + Clock + Eprint, C: Ticks, N: Names>(
+    context: &Context<'_, R, C, N>,
+    keeper: &mut Keeper,
+    ended: &AtomicBool,
+) {
+    let mut is_last = false;
+    for _ in context.rt.forever() {
+        keep_piece(context, keeper, is_last);
+        if keeper.has_more() {
+            continue;
+        }
+        if is_last {
+            return;
+        }
+        is_last = ended.load(Ordering::SeqCst);
+        if !is_last {
+            thread::sleep(context.rt, Duration::from_millis(REST));
+        }
+    }
+}
+
+/// Has the keeper of a journal take a piece, and notes how far the journal is, and is known to last.
+fn keep_piece<R: Wait + Clock + Eprint, C: Ticks, N: Names>(
     context: &Context<'_, R, C, N>,
     keeper: &mut Keeper,
     is_last: bool,
 ) {
-    let now = context.board.time.load(Ordering::SeqCst);
+    let now = context.clock.moment().tick();
     if let Some(kept) = keeper.keep(context.rt, context, now, is_last) {
         context.board.kept.store(kept, Ordering::SeqCst);
     }
-    if is_last {
-        keeper.tell(context.rt, context.alloc);
-    }
+    context.board.tell_journal(context.rt, keeper.kept());
 }
 
 /// Reads the logins again where it is time and they changed, and tells where they can't be had.
 fn reload<R: Wait + Eprint, C, N: Names>(
     context: &Context<'_, R, C, N>,
     reloading: &mut Reloading<'_>,
+    now: u64,
 ) {
-    let now = context.board.time.load(Ordering::SeqCst);
     if reloading.is_due(now) {
         match reloading.read() {
             Ok(table) => context.lobby.replace(table),

@@ -9,7 +9,7 @@ use crate::desk::Desk;
 use crate::quiet::move_on;
 use s4_jobs::{Jobs, Seat};
 use s4_pool::{Names, Pass};
-use s4_sockets::{Connection, Peers, Post, Ticks, Watch};
+use s4_sockets::{Connection, Peers, Post, Ticks, TrailTable, Watch};
 use s4_types::NoMemory;
 use std::alloc::Global;
 use std::sync::Wait;
@@ -59,7 +59,10 @@ pub(crate) fn staff<'a, R, C, N: Names>(
                 context,
                 notes,
                 connection: 0,
+                turn: None,
                 pass,
+                trails: TrailTable::new(context.alloc),
+                is_full: false,
             };
             workers.push(Worker {
                 jobs,
@@ -83,7 +86,8 @@ pub(crate) fn gather<R, C, N: Names>(
 ) -> Result<Vec<Pass<N>>, NoMemory> {
     let mut passes = Vec::new(alloc);
     for worker in workers {
-        passes.push(worker.desk.pass)?;
+        let desk = worker.desk;
+        passes.push(desk.pass)?;
     }
     Ok(passes)
 }
@@ -128,6 +132,7 @@ impl<R: Wait + Clock, C: Ticks, N: Names> Worker<'_, R, C, N> {
                 if !peers.admit(context.lobby, desk, watch, connection, now) {
                     post.end(1);
                 }
+                post.show(&peers.states());
             }
         }
     }
@@ -167,8 +172,9 @@ impl<R: Wait + Clock, C: Ticks, N: Names> Worker<'_, R, C, N> {
             let made = desk.pass.receipts().len().saturating_sub(calls);
             claimant.look(post, desk, made);
         }
+        peers.make_room(context.lobby, desk, post);
         if context.lobby.is_over() {
-            peers.end(desk, now);
+            peers.end(context.lobby, desk, now);
         }
         let ended = before.saturating_sub(peers.len());
         if ended > 0 {

@@ -1,3 +1,4 @@
 pub mod Accepted
 pub mod Drains
+pub mod Records
 pub mod Slowing

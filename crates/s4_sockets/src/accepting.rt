@@ -7,7 +7,7 @@ ghost use Rattle.s4_sockets.specs.Accepted.{PutsSome, numbers_to};
 use crate::clock::Ticks;
 use crate::connection::{Connection, number_after};
 use crate::lobby::Lobby;
-use crate::post::{Post, least, open};
+use crate::post::{Post, least, open, with_oldest_unwelcomed};
 use crate::watch::Watch;
 use s4_jobs::{Jobs, Seat};
 use s4_keeping::{Entrant, Event, Kind, Notes};
@@ -21,6 +21,12 @@ use std::{io, thread};
 /// or all places of the queue are taken, or no worker is there.
 const PAUSE: u64 = 10;
 
+/// How often it looks, each millisecond, whether a place became free that was asked for.
+const LOOKS: u32 = 100;
+
+/// One of so many places is asked for at once, where all are taken, and one more.
+const SHARE: u32 = 32;
+
 /// How many milliseconds it waits for a connection before it looks whether the server is to end.
 const LOOK: u64 = 100;
 
@@ -29,10 +35,11 @@ pub struct Door<'a, R> {
     listener: &'a TcpListener,
     watch: Watch,
     posts: &'a [Post],
-    /// How many may be open; a further one is closed at once.
+    /// How many may be open. For a further one the oldest is turned out that isn't welcomed; where there
+    /// is none it is closed at once.
     most: u32,
     lobby: &'a Lobby<'a, R>,
-    /// Where word is left of a connection that is closed at once.
+    /// Where word is left of a connection for which there is no place.
     notes: &'a Notes,
 }
 
@@ -105,15 +112,36 @@ impl<R: Wait + Clock> Door<'_, R> {
     ) -> bool {
         // A reply is sent at once, also where the peer has not yet told that it has the last one.
         let _ = stream.set_nodelay(true);
-        let has_place = open(self.posts) < u64::from(self.most);
-        if !has_place {
-            self.lobby.turn_away();
-            self.tell_turned_away(rt, clock, address);
+        let is_ready = stream.set_nonblocking(true).is_ok();
+        let is_counted = is_ready && self.lobby.enter(address.ip());
+        if is_counted && self.finds_place(rt) {
+            return true;
         }
-        stream.set_nonblocking(true).is_ok() && has_place
+        if is_counted {
+            self.lobby.leave(address.ip());
+        }
+        self.lobby.turn_away();
+        self.tell_turned_away(rt, clock, address);
+        false
     }
 
-    /// Leaves word of a connection that is closed at once.
+    /// Whether a connection more has a place. Where all are taken it asks for those of the oldest
+    /// connections that aren't welcomed, and waits a while until one is free.
+    fn finds_place(&self, rt: &R) -> bool {
+        for _ in 0..LOOKS {
+            if open(self.posts) < u64::from(self.most) {
+                return true;
+            }
+            match with_oldest_unwelcomed(self.posts) {
+                Some(post) => post.ask_to_turn_out(u64::from(self.most / SHARE) + 1),
+                None => return false,
+            }
+            thread::sleep(rt, Duration::from_millis(1));
+        }
+        false
+    }
+
+    /// Leaves word of a connection for which there is no place.
     fn tell_turned_away<C: Ticks>(&self, rt: &R, clock: &C, address: SocketAddr) {
         let entrant = Entrant {
             connection: 0,
@@ -162,7 +190,7 @@ pub fn accept_all<R: Wait + Clock, C: Ticks>(
             stream,
         };
         put(rt, jobs, seat, connection);
-        give(rt, door.posts);
+        give(rt, door.posts, number);
         if number == u64::from(connections) {
             return true;
         }
@@ -170,11 +198,11 @@ pub fn accept_all<R: Wait + Clock, C: Ticks>(
     unreachable!()
 }
 
-/// Gives one connection to the worker that has the fewest, once one is there.
-fn give<R: Wait + Clock>(rt: &R, posts: &[Post]) {
+/// Gives the connection of that number to the worker that has the fewest, once one is there.
+fn give<R: Wait + Clock>(rt: &R, posts: &[Post], number: u64) {
     for _ in rt.forever() {
         if let Some(post) = least(posts) {
-            post.give();
+            post.give(number);
             return;
         }
         thread::sleep(rt, Duration::from_millis(PAUSE));

@@ -8,8 +8,16 @@ use std::time::{Clock, Duration, Instant};
 
 /// What tells the moments at which requests are carried out.
 pub trait Ticks: Sync {
+    /// The time since its start.
+    fn time(&self) -> Duration;
+
+    /// The moment at such a time.
+    fn moment_at(&self, time: Duration) -> Moment;
+
     /// The moment now.
-    fn moment(&self) -> Moment;
+    fn moment(&self) -> Moment {
+        self.moment_at(self.time())
+    }
 }
 
 /// A clock that tells the milliseconds since its start, beginning with a first moment.
@@ -32,14 +40,18 @@ impl<'a, R: Clock> Stopwatch<'a, R> {
 }
 
 impl<R: Clock + Sync> Ticks for Stopwatch<'_, R> {
-    /// The first moment, and the milliseconds since the start; the greatest moment stays. Where the
-    /// system's clock can't be read it is the first one, so a request is then carried out at the
-    /// moment of the newest record that its front has for it.
-    fn moment(&self) -> Moment
+    /// None where the system's clock can't be read. A request is then carried out at the moment of
+    /// the newest record that its front has for it.
+    fn time(&self) -> Duration {
+        let passed = self.start.and_then(|start| start.elapsed(self.rt).ok());
+        passed.unwrap_or(Duration::ZERO)
+    }
+
+    /// The first moment, and the milliseconds since the start; the greatest moment stays.
+    fn moment_at(&self, time: Duration) -> Moment
         ensures since { self.now.first ≤ result }
     {
-        let passed = self.start.and_then(|start| start.elapsed(self.rt).ok());
-        let passed = passed.map_or(0, milliseconds);
+        let passed = milliseconds(time);
         Moment::new(self.first.saturating_add(passed))
     }
 }

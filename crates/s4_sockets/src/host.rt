@@ -4,13 +4,20 @@ ghost use Rattle.std.specs.Prelude.{◌≡◌};
 
 use s4_keeping::{Entrant, Event, Kind};
 use s4_talk::Answer;
-use s4_types::Moment;
+use s4_types::{Caller, Moment};
 
 /// Answers the requests of a worker's peers, and takes down what becomes of their connections.
 pub trait Host: Answer {
-    /// From now on requests come by the connection of that number. Nothing is answered.
+    /// A turn of the connection of that number begins, by which requests come. Nothing is answered.
     fn turn_to(&mut self, connection: u64)
         ensures calls { Self.calls self.new ≡ Self.calls self.old };
+
+    /// How many nanoseconds went by in the turn since its first request came.
+    fn spent(&self) -> u64;
+
+    /// Whether requests of this caller are to wait, since records of its principal take all the memory
+    /// that they may.
+    fn holds_up(&self, caller: &Caller) -> bool;
 
     /// The moment now.
     fn moment(&self) -> Moment;

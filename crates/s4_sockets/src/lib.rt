@@ -3,6 +3,7 @@
 #![tactic(auto)]
 
 mod accepting;
+mod addresses;
 mod attempts;
 mod clock;
 mod connection;
@@ -10,13 +11,18 @@ mod conversation;
 mod ending;
 mod gauge;
 mod host;
+mod left;
 mod lobby;
 mod opening;
 mod peer;
 mod peers;
 mod post;
+mod rota;
+mod share;
 mod states;
 mod tables;
+mod trail;
+mod trails;
 mod watch;
 
 pub use accepting::{Door, accept_all};
@@ -24,8 +30,11 @@ pub use attempts::{FailedBy, FailedLogins};
 pub use clock::{Stopwatch, Ticks};
 pub use connection::Connection;
 pub use host::Host;
+pub use left::record_bytes;
 pub use lobby::Lobby;
 pub use peers::Peers;
 pub use post::{Post, least_claimed, wake_all};
 pub use states::States;
+pub use trail::Trail;
+pub use trails::{LeftBy, TrailTable};
 pub use watch::Watch;

@@ -6,6 +6,7 @@ use crate::gauge::{Gauge, Tap};
 use crate::host::{Host, event_now, tell};
 use crate::lobby::Lobby;
 use crate::opening::Opening;
+use crate::rota::{Rota, Turn};
 use crate::states::State;
 use crate::tables::Table;
 use mio::net::TcpStream;
@@ -13,6 +14,7 @@ use s4_command::Patience;
 use s4_keeping::{Entrant, Kind};
 use s4_stream::SessionFault;
 use s4_talk::{TalkEnd, TurnEnd};
+use s4_types::NoMemory;
 use std::alloc::Global;
 use std::mem::replace;
 use std::net::Shutdown;
@@ -23,6 +25,9 @@ const TURNS: u32 = 8;
 
 /// How long it is listened to a peer who leaves, in milliseconds.
 const FAREWELL: u64 = 1000;
+
+/// For how long a request waits for memory at most, in milliseconds.
+const SCARCE: u64 = 1000;
 
 /// How many bytes the frame of a fault has.
 const FAULT_FRAME: usize = 6;
@@ -38,12 +43,18 @@ pub(crate) struct Peer {
     begun: u64,
     /// When a whole frame last came from it, or it last took bytes.
     since: u64,
-    /// Until then the answer to its failed login waits.
+    /// Until then the answer to its failed login waits, or its next request, which has to wait for memory.
     held: Option<u64>,
+    /// It has a place as one that is welcomed.
+    seated: bool,
     /// It sends no more, so no further event tells of its stream.
     last: bool,
-    /// It goes on at once.
+    /// It waits for a turn.
     eager: bool,
+    /// The queue in which it waits then.
+    queue: usize,
+    /// Whether that is the one of its principal's peers.
+    is_in_own: bool,
 }
 
 /// How far it is with a peer.
@@ -74,6 +85,7 @@ impl Peer {
         entrant: Entrant,
         stream: TcpStream,
         table: Table,
+        queue: usize,
         now: u64,
     ) -> Peer {
         Peer {
@@ -84,8 +96,11 @@ impl Peer {
             begun: now,
             since: now,
             held: None,
+            seated: false,
             last: false,
             eager: false,
+            queue,
+            is_in_own: false,
         }
     }
 
@@ -99,9 +114,14 @@ impl Peer {
         &mut self.stream
     }
 
-    /// From now on it goes on at once. Tells whether that is new.
+    /// From now on it waits for a turn. Tells whether that is new.
     pub(crate) fn becomes_eager(&mut self) -> bool {
         !replace(&mut self.eager, true)
+    }
+
+    /// It sends no more, where that is so.
+    pub(crate) fn hears_last(&mut self, last: bool) {
+        self.last = self.last || last;
     }
 
     /// From now on it waits for an event.
@@ -109,21 +129,23 @@ impl Peer {
         self.eager = false;
     }
 
-    /// Serves the peer for some turns. `last` says that it sends no more.
+    /// Serves the peer for some turns, until that is enough.
     pub(crate) fn take_turn<R: Wait, H: Host>(
         &mut self,
         lobby: &Lobby<'_, R>,
         host: &mut H,
         now: u64,
-        last: bool,
     ) -> Next {
-        self.last = self.last || last;
         if !self.meets(lobby) {
             return Next::Over(Kind::Revoked);
         }
         host.turn_to(self.entrant.connection);
         for _ in 0..TURNS {
-            match self.talk(lobby, host, now) {
+            let end = self.talk(lobby, host, now);
+            if !self.has_place(lobby) {
+                return Next::Over(Kind::TurnedAway);
+            }
+            match end {
                 Some(TurnEnd::More) | Some(TurnEnd::Enough) => {}
                 Some(TurnEnd::Waits) | Some(TurnEnd::Stuck) => return Next::Waits,
                 Some(TurnEnd::Ended(TalkEnd::Faulted(_))) => return self.leave(now),
@@ -133,8 +155,32 @@ impl Peer {
                     next => return next,
                 },
             }
+            if host.is_enough() {
+                return Next::GoesOn;
+            }
         }
         Next::GoesOn
+    }
+
+    /// The turn that it waits for at this place.
+    pub(crate) fn turn_at(&self, place: usize) -> Turn {
+        Turn {
+            queue: self.queue,
+            place,
+        }
+    }
+
+    /// Has it wait in the queue of its principal's peers, once it is welcomed.
+    pub(crate) fn queue_up<R: Wait>(
+        &mut self,
+        lobby: &Lobby<'_, R>,
+        rota: &mut Rota,
+    ) -> Result<(), NoMemory> {
+        if self.seated && !self.is_in_own {
+            self.queue = rota.queue_of(lobby, Some(self.opening.who()))?;
+            self.is_in_own = true;
+        }
+        Ok(())
     }
 
     /// Takes a turn with the peer, where it is told replies. Once the server is to end it isn't
@@ -147,6 +193,9 @@ impl Peer {
         host: &mut H,
         now: u64,
     ) -> Option<TurnEnd> {
+        if self.waits(host, now) {
+            return Some(TurnEnd::Stuck);
+        }
         let Peer {
             entrant,
             stream,
@@ -160,9 +209,6 @@ impl Peer {
         let Stage::Talks(talk) = stage else {
             return None;
         };
-        if held.is_some_and(|until| now < until) {
-            return Some(TurnEnd::Stuck);
-        }
         let waited = talk.waiting();
         let greets = talk.is_greeting();
         let heard = talk.fault().is_some();
@@ -187,6 +233,42 @@ impl Peer {
             }
             TurnEnd::More if reader.is_short() && !*last => Some(TurnEnd::Waits),
             end => Some(end),
+        }
+    }
+
+    /// Whether it waits now: for the answer to its failed login, or for memory, before its next request is
+    /// heard.
+    fn waits<H: Host>(&mut self, host: &H, now: u64) -> bool {
+        let Stage::Talks(talk) = &self.stage else {
+            return false;
+        };
+        if self.seated && talk.waiting() == 0 {
+            self.held = held_up(host, &self.opening, self.held, now);
+        }
+        self.held.is_some_and(|until| now < until)
+    }
+
+    /// Whether there is a place for it: for one that is welcomed now where there is one left. Nothing
+    /// was written to it by then.
+    fn has_place<R: Wait>(&mut self, lobby: &Lobby<'_, R>) -> bool {
+        let is_new = self.state().is_welcomed() && !self.seated;
+        match self.opening.caller() {
+            Some(caller) if is_new => {
+                self.seated = lobby.seat(&caller);
+                self.seated
+            }
+            _ => true,
+        }
+    }
+
+    /// Gives its places back. Its connection is over.
+    pub(crate) fn leave_places<R: Wait>(&self, lobby: &Lobby<'_, R>) {
+        if let Some(address) = self.entrant.address {
+            lobby.leave(address.ip());
+        }
+        match self.opening.caller() {
+            Some(caller) if self.seated => lobby.unseat(&caller),
+            _ => {}
         }
     }
 
@@ -215,7 +297,7 @@ impl Peer {
             self.stage = Stage::Ends;
             self.since = now;
         }
-        is_told && self.becomes_eager()
+        is_told
     }
 
     /// Reads what the peer still says, and forgets it.
@@ -267,9 +349,12 @@ impl Peer {
         }
     }
 
-    /// Whether an answer that had to wait is due. Tells it once.
-    pub(crate) fn is_due(&mut self, now: u64) -> bool {
-        self.held.is_some_and(|until| until <= now) && self.becomes_eager()
+    /// Whether an answer that had to wait is due, or a request has to wait no more.
+    pub(crate) fn is_due<H: Host>(&self, host: &H, now: u64) -> bool {
+        let Some(until) = self.held else {
+            return false;
+        };
+        until <= now || self.seated && !is_held_up(host, &self.opening)
     }
 
     /// Meets the newest login table, unless it has met that. Tells whether it may stay.
@@ -290,6 +375,26 @@ impl Peer {
 /// Whether a time is over, in milliseconds; 0 never is.
 fn is_past(passed: u64, most: u64) -> bool {
     most > 0 && passed >= most
+}
+
+/// Whether the requests are to wait of a peer that is welcomed.
+fn is_held_up<H: Host>(host: &H, opening: &Opening) -> bool {
+    opening
+        .caller()
+        .is_some_and(|caller| host.holds_up(&caller))
+}
+
+/// Until when the next request waits of a peer that is welcomed, if it does: for a second at most from
+/// when it first has to. Once that is over it is answered, and the one behind it waits.
+fn held_up<H: Host>(host: &H, opening: &Opening, held: Option<u64>, now: u64) -> Option<u64> {
+    if !is_held_up(host, opening) {
+        return None;
+    }
+    match held {
+        Some(until) if until <= now => None,
+        Some(until) => Some(until),
+        None => Some(now.saturating_add(SCARCE)),
+    }
 }
 
 /// Until when the answer to a peer's first words waits, if it does: that to a failed login is

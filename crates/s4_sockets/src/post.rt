@@ -17,6 +17,9 @@ pub struct Post {
     greeting: AtomicU64,
     welcomed: AtomicU64,
     leaving: AtomicU64,
+    unwelcomed: AtomicU64,
+    /// How many connections the worker is to turn out.
+    outward: AtomicU64,
     claimed: AtomicU64,
 }
 
@@ -31,6 +34,8 @@ impl Drop for Post {
             greeting: _,
             welcomed: _,
             leaving: _,
+            unwelcomed: _,
+            outward: _,
             claimed: _,
         } = self;
     }
@@ -48,6 +53,8 @@ impl Post {
             greeting: AtomicU64::new(0),
             welcomed: AtomicU64::new(0),
             leaving: AtomicU64::new(0),
+            unwelcomed: AtomicU64::new(u64::MAX),
+            outward: AtomicU64::new(0),
             claimed: AtomicU64::new(0),
         };
         Ok((watch, post))
@@ -73,8 +80,12 @@ impl Post {
         self.given().wrapping_sub(self.ended.load(Ordering::SeqCst))
     }
 
-    /// Gives the worker one connection more, and wakes it.
-    pub(crate) fn give(&self) {
+    /// Gives the worker one connection more, which has that number, and wakes it.
+    pub(crate) fn give(&self, number: u64) {
+        // Where one is known that isn't welcomed, that is older.
+        let _ = self
+            .unwelcomed
+            .compare_exchange(u64::MAX, number, Ordering::SeqCst, Ordering::SeqCst);
         self.given.fetch_add(1, Ordering::SeqCst);
         self.wake();
     }
@@ -89,6 +100,7 @@ impl Post {
         self.greeting.store(states.greeting, Ordering::SeqCst);
         self.welcomed.store(states.welcomed, Ordering::SeqCst);
         self.leaving.store(states.leaving, Ordering::SeqCst);
+        self.unwelcomed.store(states.unwelcomed, Ordering::SeqCst);
     }
 
     /// How far it was with the connections when that was last told.
@@ -97,7 +109,19 @@ impl Post {
             greeting: self.greeting.load(Ordering::SeqCst),
             welcomed: self.welcomed.load(Ordering::SeqCst),
             leaving: self.leaving.load(Ordering::SeqCst),
+            unwelcomed: self.unwelcomed.load(Ordering::SeqCst),
         }
+    }
+
+    /// Asks the worker to turn out so many of its oldest connections that aren't welcomed.
+    pub(crate) fn ask_to_turn_out(&self, connections: u64) {
+        self.outward.store(connections, Ordering::SeqCst);
+        self.wake();
+    }
+
+    /// How many connections the worker is to turn out. It is told once.
+    pub(crate) fn to_turn_out(&self) -> u64 {
+        self.outward.swap(0, Ordering::SeqCst)
     }
 
     /// All of its calls of moments before this one have claimed their records.
@@ -118,6 +142,14 @@ pub(crate) fn least(posts: &[Post]) -> Option<&Post> {
         .iter()
         .filter(|post| post.has_begun())
         .min_by_key(|post| post.open())
+}
+
+/// The post with the oldest connection that isn't welcomed, where there is any.
+pub(crate) fn with_oldest_unwelcomed(posts: &[Post]) -> Option<&Post> {
+    posts
+        .iter()
+        .filter(|post| post.states().unwelcomed < u64::MAX)
+        .min_by_key(|post| post.states().unwelcomed)
 }
 
 /// How many connections are open.

@@ -4,7 +4,7 @@ ghost use Rattle.std.specs.Prelude.{◌≡◌, ◌+◌, ◌-◌, ◌^◌, ◌++�
 
 use crate::journal::JournalStatus;
 use crate::tally::{KINDS, Tally};
-use s4_sockets::{FailedLogins, Lobby, Post, States};
+use s4_sockets::{FailedLogins, LeftBy, Lobby, Post, States};
 use s4_types::NoMemory;
 use serde::Serialize;
 
@@ -23,6 +23,8 @@ pub struct Status {
     pub cells: Vec<CellStatus>,
     pub replies: u64,
     pub refusals: Refusals,
+    /// How many bytes the records take that each principal's requests left, of those that left any.
+    pub record_bytes: Vec<LeftBy>,
     /// How far its journal is, where it keeps one.
     pub journal: Option<JournalStatus>,
 }
@@ -41,6 +43,7 @@ impl Drop for Status {
             cells: _,
             replies: _,
             refusals: _,
+            record_bytes: _,
             journal: _,
         } = self;
     }
@@ -51,7 +54,7 @@ impl Drop for Status {
 pub struct Connections {
     /// Those that were ever accepted and let in.
     pub accepted: u64,
-    /// Those that were closed at once, since as many as may be were open.
+    /// Those that were closed, since there was no place for them.
     pub turned_away: u64,
     /// Those that are open.
     pub open: u64,
@@ -134,6 +137,7 @@ impl Connections {
                 greeting,
                 welcomed,
                 leaving,
+                ..
             } = post.states();
             all.accepted = all.accepted.saturating_add(post.given());
             all.open = all.open.saturating_add(post.open());

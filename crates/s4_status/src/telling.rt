@@ -3,9 +3,10 @@
 ghost use Rattle.std.specs.Prelude.{◌≡◌, ◌++◌, None, IfOk, codes, string_bytes};
 
 use crate::status::Status;
-use s4_keeping::Keeper;
 use s4_types::NoMemory;
 use std::alloc::{AllocError, Global};
+use std::fs::OpenOptions;
+use std::io::Write;
 use std::{fs, io};
 
 /// After how many milliseconds a server tells of itself again.
@@ -16,9 +17,8 @@ const PAGE: u64 = 4096;
 
 /// Who knows how a server is.
 pub trait Teller {
-    /// How the server is now, whose journal this one keeps, and whose process has so much memory. It
-    /// may wait.
-    fn status(&self, keeper: Option<&Keeper>, resident: Option<u64>) -> Result<Status, NoMemory>;
+    /// How the server is now, whose process has so much memory. It may wait.
+    fn status(&self, resident: Option<u64>) -> Result<Status, NoMemory>;
 }
 
 /// Who tells of the server in a file.
@@ -48,13 +48,7 @@ impl<'a> Telling<'a> {
 
     /// Tells how the server is, where there is a file for that and it is time. Where it can't, it
     /// says so on standard error, once until it can again.
-    pub fn tell<R: Eprint, T: Teller>(
-        &mut self,
-        rt: &R,
-        teller: &T,
-        keeper: Option<&Keeper>,
-        now: u64,
-    )
+    pub fn tell<R: Eprint, T: Teller>(&mut self, rt: &R, teller: &T, now: u64)
         ensures { self.old.path ≡ None → self.new ≡ self.old }
     {
         let is_told = self
@@ -67,7 +61,7 @@ impl<'a> Telling<'a> {
             return;
         }
         self.told = Some(now);
-        let written = self.write(teller, keeper, path);
+        let written = self.write(teller, path);
         if written.is_err() && !self.failed {
             // Where this can't be written, nobody is told.
             let _ = eprintln!(rt; "s4d: cannot write {path}");
@@ -75,14 +69,20 @@ impl<'a> Telling<'a> {
         self.failed = written.is_err();
     }
 
-    /// Writes how the server is into a file beside the one that is wanted, and has it take that
-    /// one's place.
-    fn write<T: Teller>(&self, teller: &T, keeper: Option<&Keeper>, path: &str) -> io::Result<()> {
+    /// Writes how the server is into a new file beside the one that is wanted, and has it take that
+    /// one's place. What stood there under its name, as a link or a pipe, isn't opened.
+    fn write<T: Teller>(&self, teller: &T, path: &str) -> io::Result<()> {
         let alloc = self.files.alloc();
-        let status = teller.status(keeper, resident(self.files))?;
+        let status = teller.status(resident(self.files))?;
         let text = serde_json::to_string(alloc, &status).map_err(|_| AllocError)?;
         let beside = beside(alloc, path)?;
-        fs::write(self.files, beside.as_str(), text.as_str())?;
+        // Where it can't be removed it is there, and no new one is made.
+        let _ = fs::remove_file(self.files, beside.as_str());
+        let mut file = OpenOptions::new()
+            .write(true)
+            .create_new(true)
+            .open(self.files, beside.as_str())?;
+        file.write_all(text.as_bytes())?;
         fs::rename(self.files, beside.as_str(), path)
     }
 }

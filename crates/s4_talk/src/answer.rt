@@ -19,4 +19,10 @@ pub trait Answer {
         ensures called { calls self.new ≡ calls self.old ++ call_made caller request result }
         ensures limits { IsTrue (is_within_limits caller.version result) }
         ensures asked { data_in result ≤ data_asked request };
+
+    /// Whether enough was answered for a turn, so that others come first. It never is, unless who
+    /// answers says so.
+    fn is_enough(&self) -> bool {
+        false
+    }
 }

@@ -27,8 +27,8 @@ pub enum Service {
     Enough,
 }
 
-/// Serves the whole frames that the session holds, in turn, until that is enough or there is no
-/// memory for one. A frame for which there was none is still held.
+/// Serves the whole frames that the session holds, in turn, until that is enough, as the answer says
+/// too, or there is no memory for one. A frame for which there was none is still held.
 pub fn serve_held<A: Answer>(
     session: &mut Session,
     fault: &mut Option<SessionFault>,
@@ -53,7 +53,7 @@ pub fn serve_held<A: Answer>(
             });
         };
         answer_event(fault, waiting, event, answer);
-        if waiting.len() >= BYTES {
+        if waiting.len() >= BYTES || answer.is_enough() {
             return Ok(Service::Enough);
         }
     }

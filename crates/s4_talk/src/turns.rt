@@ -82,7 +82,8 @@ impl Talking {
     }
 
     /// Writes what waits, serves whole frames, and writes what they are answered. It reads once
-    /// where it holds no whole frame, and serves 64 frames at most, and none once 65536 bytes wait.
+    /// where it holds no whole frame, and serves 64 frames at most, and none once 65536 bytes wait or the
+    /// answer says that it is enough.
     /// It waits where the reader, the writer or the answer does; with a reader and a writer that
     /// tell `WouldBlock` it ends by `Waits` or `Stuck`, and goes on at the next turn. A read or a
     /// write that was interrupted is tried again.

@@ -5,7 +5,7 @@ use std::alloc::Global;
 use std::test::Fail;
 
 /// First lines of scripts: the windows that they open the drive with, and the version that the callers
-/// of the other lines speak.
+/// of the other lines speak that say none.
 pub const OPENINGS: &str = "\
 window 0|Ok(Opening { window: 0, version: One });
 window 18446744073709551615|Ok(Opening { window: 18446744073709551615, version: One });
@@ -49,6 +49,9 @@ sweep 18446744073709551615|Ok(Step(Sweep { n: 18446744073709551615 }));
 5 7 create 15|Ok(Step(Request { moment: Moment { tick: 5 }, caller: Caller { who: Principal { \
     number: 7 }, client: 0, version: One }, request: Create { number: PurseNo { number: 15 } } \
     }));
+5 7/2 create 15|Ok(Step(Request { moment: Moment { tick: 5 }, caller: Caller { who: Principal { \
+    number: 7 }, client: 0, version: Two }, request: Create { number: PurseNo { number: 15 } } \
+    }));
 0 0 setbudget 7.15 4294967295|Ok(Step(Request { moment: Moment { tick: 0 }, caller: Caller { \
     who: Principal { number: 0 }, client: 0, version: One }, request: SetBudget { purse: Purse \
     { creator: Principal { number: 7 }, number: PurseNo { number: 15 } }, budget: 4294967295 } \
@@ -74,10 +77,13 @@ sweep 18446744073709551615|Ok(Step(Sweep { n: 18446744073709551615 }));
     purse: Purse { creator: Principal { number: 7 }, number: PurseNo { number: 0 } }, serial: \
     Serial { number: 1 } }, from: Moment { tick: 5 }, to: Moment { tick: 6 } } }))";
 
-/// A line behind a first one of version 2.
+/// Lines behind a first one of version 2.
 pub const LINES_TWO: &str = "\
 5 7 create 15|Ok(Step(Request { moment: Moment { tick: 5 }, caller: Caller { who: Principal { \
     number: 7 }, client: 0, version: Two }, request: Create { number: PurseNo { number: 15 } } \
+    }));
+5 7/1 create 15|Ok(Step(Request { moment: Moment { tick: 5 }, caller: Caller { who: Principal { \
+    number: 7 }, client: 0, version: One }, request: Create { number: PurseNo { number: 15 } } \
     }))";
 
 /// Lines after the first that spell nothing.
@@ -92,6 +98,21 @@ pub const NO_LINES: &str = "\
 18446744073709551616 7 create 0;
 0 4294967295 create 0;
 0 everyone create 0;
+0 7/1 create 0;
+0 7/3 create 0;
+0 7/ create 0;
+0 /2 create 0;
+0 07/2 create 0;
+0 7/02 create 0;
+0 7/2/2 create 0;
+0 7//2 create 0;
+0 7/two create 0;
+0 everyone/2 create 0;
+0 4294967295/2 create 0;
+0/2 7 create 0;
+0 7 /2 create 0;
+0 7 create 0/2;
+0 7 plist 7/2;
 0 7 Create 0;
 0 7 create;
 0 7 create 0 0;
@@ -227,6 +248,16 @@ cut at 1;
 0 used;
 0 0 used";
 
+/// Lines behind a first one of version 2 that spell nothing.
+pub const NO_LINES_TWO: &str = "\
+0 7/2 create 0;
+0 7/3 create 0;
+0 7/ create 0;
+0 /1 create 0;
+0 07/1 create 0;
+0 7/01 create 0;
+0 7/1/1 create 0";
+
 /// A sweep among arrivals.
 pub const ARRIVALS: &str = "\
 sweep 18446744073709551615|Ok(Sweep { n: 18446744073709551615 })";
@@ -248,6 +279,10 @@ pub const NO_ARRIVALS: &str = "\
 5 01 00;
 5 4294967296 00;
 5 -1 00;
+5 1/1 00;
+5 1/2 00;
+5/2 1 00;
+5 7/2 create 0;
 5 1 0;
 5 1 0g;
 5 1 Empty;

@@ -100,7 +100,7 @@ fn tell_by_front<N: Names, R: Wait>(
     requires ledger { blank.ledger ≡ N.ledger }
     requires names { (N.ledger.words ≡ cells) × (N.window ≡ script.now.window) × (N.passes ≡ 1) }
 {
-    let Script { window, lines } = script;
+    let Script { window, lines, .. } = script;
     let logins = logins_of(alloc, lines)?;
     let (front, mut passes) = Front::<OpenGate, N>::open(
         alloc, *window, cells, 1, OpenGate, blank,

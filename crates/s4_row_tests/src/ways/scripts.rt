@@ -5,7 +5,7 @@ use crate::ways::{conversations, drives};
 use s4_arena::Arena;
 use s4_drive::Drive;
 use s4_script::{Line, parse_line, parse_opening};
-use s4_types::Version;
+use s4_types::{Version, WireVersion};
 use std::alloc::Global;
 use std::io;
 use std::sync::Wait;
@@ -13,10 +13,12 @@ use std::sync::Wait;
 /// How many values are freed behind each cut, where some are.
 const SWEPT: u64 = 2;
 
-/// The window that a script opens with, and what its other lines ask for.
+/// The window that a script opens with, the version of the wire that its first line gives, and what
+/// its other lines ask for.
 #[derive(Drop)]
 pub struct Script {
     pub window: u64,
+    pub version: WireVersion,
     pub lines: Vec<Line>,
 }
 
@@ -31,6 +33,7 @@ impl Script {
         }
         Ok(Script {
             window: opening.window,
+            version: opening.version,
             lines,
         })
     }
@@ -55,7 +58,7 @@ fn tell_by<R: Wait>(
     script: &Script,
     told: &mut String,
 ) -> io::Result<()> {
-    let Script { window, lines } = script;
+    let Script { window, lines, .. } = script;
     match way {
         "at-once" => drives::tell_at_once(alloc, *window, lines, told),
         "plain" => drives::tell_cut(&mut drives::plain(alloc, *window), lines, 0, told),

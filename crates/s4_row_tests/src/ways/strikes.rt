@@ -4,7 +4,7 @@ use crate::texts::{input, invalid, well};
 use crate::ways::scripts::Script;
 use s4_drive::strike;
 use s4_script::{Line, RequestLine, parse_principal};
-use s4_types::Step;
+use s4_types::{Step, WireVersion};
 use std::io;
 
 /// Tells the requests that stay of the script on standard input once this principal's strangers are
@@ -20,25 +20,26 @@ pub fn tell(rt: &HostRuntime, who: &str) -> io::Result<()> {
         }
     }
     for step in &strike(alloc, who, &steps)? {
-        tell_step(rt, step)?;
+        tell_step(rt, script.version, step)?;
     }
     Ok(())
 }
 
-/// Tells a request; a sweep doesn't stay.
-fn tell_step(rt: &HostRuntime, step: &Step) -> io::Result<()> {
+/// Tells a request of a script whose first line gives that version; a sweep doesn't stay.
+fn tell_step(rt: &HostRuntime, version: WireVersion, step: &Step) -> io::Result<()> {
     match step {
         Step::Request {
             moment,
             caller,
             request,
         } => {
-            let (moment, who) = (*moment, caller.who);
+            let (moment, caller) = (*moment, *caller);
             println!(rt;
                 "{}",
                 RequestLine {
+                    version,
                     moment,
-                    who,
+                    caller,
                     request
                 }
             )

@@ -19,7 +19,7 @@ returns g c =
       told = record {
         cells = c.in_ok-closed.closed.cells.items;
         records = c.len.result;
-        count = c.in_ok-closed.ensures.count ∙ ap (λ (s : Settings). s.cells) (c.set_up.ensures ∙ c.in_ok-server.ensures.settings);
+        count = (c.in_ok-closed.ensures.count ∙ ap (λ (s : Settings). s.cells) (c.set_up.ensures ∙ c.in_ok-server.ensures.settings)) ∙ c.requires.cells;
         written = appends_both (held c.args.output.now) (held c.tell_listening.new.output) (held c.tell_end.new.output) _ _ listening as_told;
       };
     }

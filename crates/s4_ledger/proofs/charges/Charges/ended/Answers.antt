@@ -18,8 +18,8 @@ returns-then-gt c =
     let entries : List Entry = c.self.inside.queue.items in
     let i : ℕ = c.loop-index.index in
     let e : Entry = c.index-entry.result.now in
-    let long : c.self.inside.queue.len ≡ length entries = c.self.inside.queue.ok.0 in
-    let within : i < length entries = omega (arith, long, c.len.ensures, c.loop-index-test.true) in
+    let long = c.len.ensures.len in
+    let within : i < length entries = omega (arith, long, c.loop-index-test.true) in
     let later : c.args.horizon < e.end = from_gt e.end c.args.horizon (sym c.gt.ensures ∙ c.if-gt.true) in
     let left : lasting c.args.horizon (charges_of (drop i entries)) ≡ charges_of (drop i entries) = lasting-later c.args.horizon (drop i entries) (λ k d l.
     let short = length-drop i entries in
@@ -45,8 +45,8 @@ past horizon entries i e within is le =
 pub overflow_add-ended : goal.overflow_add-ended
 overflow_add-ended c =
     let entries : List Entry = c.self.inside.queue.items in
-    let long : c.self.inside.queue.len ≡ length entries = c.self.inside.queue.ok.0 in
-    let within : c.loop-index.index < length entries = omega (arith, long, c.len.ensures, c.loop-index-test.true) in
+    let long = c.len.ensures.len in
+    let within : c.loop-index.index < length entries = omega (arith, long, c.loop-index-test.true) in
     let whole = own c.args.purse.now entries c.loop-index.index c.index-entry.result.now within c.index-entry.ensures in
     let mine : cond (same_purse c.index-entry.result.now.payer.purse c.args.purse.now) c.index-entry.result.now.cost 0 ≡ c.index-entry.result.now.cost = ap (λ b. cond b c.index-entry.result.now.cost 0) (sym c.eq.ensures ∙ c.if-eq.true) in
     let same : spending c.args.purse.now (charges_of entries) ≡ spending c.args.purse.now (charges_of c.args.self.now.entries) = ap (λ (q : Queue). spending c.args.purse.now (charges_of q.entries)) c.self.view_is in
@@ -56,8 +56,8 @@ pub loop-index-preserved : goal.loop-index-preserved
 loop-index-preserved c =
     let entries : List Entry = c.self.inside.queue.items in
     let e : Entry = c.index-entry.result.now in
-    let long : c.self.inside.queue.len ≡ length entries = c.self.inside.queue.ok.0 in
-    let within : c.loop-index.index < length entries = omega (arith, long, c.len.ensures, c.loop-index-test.true) in
+    let long = c.len.ensures.len in
+    let within : c.loop-index.index < length entries = omega (arith, long, c.loop-index-test.true) in
     let whole = own c.args.purse.now entries c.loop-index.index e within c.index-entry.ensures in
     record {
       within = omega (arith, within);
@@ -74,14 +74,14 @@ loop-index-preserved c =
 
 pub loop-index-smaller : goal.loop-index-smaller
 loop-index-smaller c =
-    let long : c.self.inside.queue.len ≡ length c.self.inside.queue.items = c.self.inside.queue.ok.0 in
-    omega (arith, long, c.len.ensures, c.loop-index-test.true)
+    let long = c.len.ensures.len in
+    omega (arith, long, c.loop-index-test.true)
 
 pub returns : goal.returns
 returns c =
     let entries : List Entry = c.self.inside.queue.items in
-    let long : c.self.inside.queue.len ≡ length entries = c.self.inside.queue.ok.0 in
-    let none : drop c.loop-index.index entries ≡ [] = drop_all c.loop-index.index entries (omega (arith, long, c.len.ensures, c.loop-index-test.false)) in
+    let long = c.len.ensures.len in
+    let none : drop c.loop-index.index entries ≡ [] = drop_all c.loop-index.index entries (omega (arith, long, c.loop-index-test.false)) in
     let all : lasting c.args.horizon (charges_of entries) ≡ [] = sym c.loop-index.invariant.last ∙ ap (λ xs. lasting c.args.horizon (charges_of xs)) none in
     let sum : c.loop-index.ended + spending c.args.purse.now [] ≡ spending c.args.purse.now (charges_of entries) = ap (λ xs. c.loop-index.ended + spending c.args.purse.now (charges_of xs)) (sym none) ∙ c.loop-index.invariant.sum in
     subst (λ (q : Queue). c.loop-index.ended + spending c.args.purse.now (lasting c.args.horizon (charges_of q.entries)) ≡ spending c.args.purse.now (charges_of q.entries)) c.self.view_is

@@ -17,11 +17,10 @@ pub loop-index-init : goal.loop-index-init
 loop-index-init c =
     let entries : List Entry = c.self.inside.queue.items in
     let end : ℕ = c.args.charge.now.end in
-    let long : c.self.inside.queue.len ≡ length entries = c.self.inside.queue.ok.0 in
     let point : IsPartitionPoint (λ e. is_lt (nat_cmp e.end end) ≡ true) (λ e. is_lt (nat_cmp e.end end) ≡ false) entries c.partition_point-index.result =
     IsPartitionPoint-from_clause (λ e. is_lt (nat_cmp e.end end)) _ _ c.partition_point-index.ensures.partitioned (parted_lt entries end c.self.invariant) (λ a r q k. search rules) in
     record {
-      within = omega (arith, long, c.partition_point-index.ensures.bound);
+      within = omega (arith, c.partition_point-index.ensures.bound);
       skipped = λ k d low high. other_end c.args.charge.now (get_or entries k d) (λ same. let before = from_lt (get_or entries k d).end end (point.0 k d low high) in absurd (omega (arith, before, same)));
     }
 
@@ -33,8 +32,8 @@ returns-then-gt-clause-found c = (
       let entries : List Entry = c.self.inside.queue.items in
       let charge : Charge = c.args.charge.now in
       let i : ℕ = c.loop-index.index in
-      let long : c.self.inside.queue.len ≡ length entries = c.self.inside.queue.ok.0 in
-      let within : i < length entries = omega (arith, long, c.len.ensures, c.loop-index-test.true) in
+      let long = c.len.ensures.len in
+      let within : i < length entries = omega (arith, long, c.loop-index-test.true) in
       let later : charge.end < c.index-entry.result.now.end = from_gt _ _ (sym c.gt.ensures ∙ c.if-gt.true) in
       absurd (charge-missing charge entries
       (λ k d l. by_test (nat_lt k i)
@@ -51,8 +50,8 @@ returns-then-is_charge-clause-found c =
     let entries : List Entry = c.self.inside.queue.items in
     let charge : Charge = c.args.charge.now in
     let i : ℕ = c.loop-index.index in
-    let long : c.self.inside.queue.len ≡ length entries = c.self.inside.queue.ok.0 in
-    let within : i < length entries = omega (arith, long, c.len.ensures, c.loop-index-test.true) in
+    let long = c.len.ensures.len in
+    let within : i < length entries = omega (arith, long, c.loop-index-test.true) in
     let here : counts_as charge (get_or entries i c.index-entry.result.now) ≡ true = ap (counts_as charge) (sym c.index-entry.ensures) ∙ sym c.is_charge.ensures ∙ c.if-is_charge.true in
     (λ e. subst (λ (q : Queue). Contains (charges_of q.entries) charge) c.self.view_is (charge-there charge entries i c.index-entry.result.now within here), λ has. refl)
 
@@ -61,8 +60,8 @@ loop-index-preserved c =
     let entries : List Entry = c.self.inside.queue.items in
     let charge : Charge = c.args.charge.now in
     let i : ℕ = c.loop-index.index in
-    let long : c.self.inside.queue.len ≡ length entries = c.self.inside.queue.ok.0 in
-    let within : i < length entries = omega (arith, long, c.len.ensures, c.loop-index-test.true) in
+    let long = c.len.ensures.len in
+    let within : i < length entries = omega (arith, long, c.loop-index-test.true) in
     record {
       within = omega (arith, within);
       skipped = AllWithin-more (λ e. counts_as charge e ≡ false) entries 0 i c.loop-index.invariant.skipped
@@ -71,8 +70,8 @@ loop-index-preserved c =
 
 pub loop-index-smaller : goal.loop-index-smaller
 loop-index-smaller c =
-    let long : c.self.inside.queue.len ≡ length c.self.inside.queue.items = c.self.inside.queue.ok.0 in
-    omega (arith, long, c.len.ensures, c.loop-index-test.true)
+    let long = c.len.ensures.len in
+    omega (arith, long, c.loop-index-test.true)
 
 pub returns-clause-found : goal.returns-clause-found
 returns-clause-found c = (
@@ -80,8 +79,8 @@ returns-clause-found c = (
   λ has.
       let entries : List Entry = c.self.inside.queue.items in
       let charge : Charge = c.args.charge.now in
-      let long : c.self.inside.queue.len ≡ length entries = c.self.inside.queue.ok.0 in
+      let long = c.len.ensures.len in
       absurd (charge-missing charge entries
-      (λ k d l. c.loop-index.invariant.skipped k d (omega arith) (omega (arith, l, long, c.len.ensures, c.loop-index-test.false)))
+      (λ k d l. c.loop-index.invariant.skipped k d (omega arith) (omega (arith, l, long, c.loop-index-test.false)))
       (subst (λ (q : Queue). Contains (charges_of q.entries) charge) (sym c.self.view_is) has)),
 )

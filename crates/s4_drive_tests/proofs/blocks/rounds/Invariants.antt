@@ -1,5 +1,0 @@
-use Rattle.s4_store.specs.Chains.{IsOpen}
-use Rattle.s4_drive_tests.proofs.blocks.rounds.Given as goal
-
-abbrev pub invariant-loop-round : goal.invariant-loop-round
-invariant-loop-round l = IsOpen l.arena.chains l.chain

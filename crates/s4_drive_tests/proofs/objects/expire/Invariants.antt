@@ -1,6 +1,0 @@
-use Rattle.s4_store.specs.PlainStore.{chains_of}
-use Rattle.s4_objects.specs.Table.{Holds}
-use Rattle.s4_drive_tests.proofs.objects.expire.Given as goal
-
-abbrev pub invariant-loop-horizon : goal.invariant-loop-horizon
-invariant-loop-horizon g l = Holds (chains_of l.store) l.objects

@@ -1,0 +1,5 @@
+pub mod Placing
+pub mod Filling
+pub mod Laying
+pub mod Searching
+pub mod Moving

@@ -1,0 +1,7 @@
+//! A queue whose items never move.
+#![tactic(auto)]
+
+mod blocks;
+mod queue;
+
+pub use queue::Queue;
