@@ -2,7 +2,7 @@
 
 use crate::gate::Holding;
 use crate::lines::{Check, End};
-use crate::same::same;
+use s4_calls_for_tests::same::same;
 use s4_cells::{Cell, cut_all};
 use s4_closing::{Verdict, reconcile};
 use s4_pool::{CloseFault, Closed, Front, Left, Names, Pass, Why};

@@ -1,8 +1,8 @@
 //! Many calls of a pass, with cuts between them.
 
-use crate::asked::What;
 use crate::fronts::ask;
 use crate::gate::Holding;
+use s4_calls_for_tests::asked::What;
 use s4_pool::{Front, Names, Pass};
 use s4_types::{Moment, NoMemory};
 use std::alloc::Global;

@@ -1,8 +1,8 @@
 //! A front's cells are cut: places go on, and what is left is closed.
 
-use crate::asked::{Told, What};
 use crate::fronts::check;
 use crate::lines::{Act, Call, Case, Check, End, Forgotten, Line};
+use s4_calls_for_tests::asked::{Told, What};
 use s4_pool::Claimed;
 use std::test::Fail;
 

@@ -2,10 +2,10 @@
 //! another type, and a cell is lent to be read alone. So what is asked here is `reconcile`, as a closing
 //! asks it.
 
-use crate::asked::{Told, What, asked};
 use crate::fronts::check;
 use crate::lines::{Call, Check, End, Line};
 use crate::pairs::records_of_two;
+use s4_calls_for_tests::asked::{Told, What, asked};
 use s4_pool::Blank;
 use std::marker::Brand;
 use std::test::Fail;

@@ -2,13 +2,13 @@
 
 ghost use Rattle.std.specs.Prelude.{◌≡◌, ◌<◌, ◌≤◌};
 
-use crate::asked::{Told, What, asked, reply};
 use crate::closed::close;
 use crate::gate::{Holding, Marks};
 use crate::lines::{Act, Call, End, Forgotten, Line};
 use crate::often::ask_often;
 use crate::parts::together;
-use crate::same::same;
+use s4_calls_for_tests::asked::{Told, What, asked, reply};
+use s4_calls_for_tests::same::same;
 use s4_pool::{Blank, Front, Names, Pass};
 use s4_types::{Moment, Reply};
 use std::alloc::Global;

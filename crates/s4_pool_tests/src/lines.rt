@@ -1,6 +1,6 @@
 //! What is done with a front, line by line.
 
-use crate::asked::{Told, What};
+use s4_calls_for_tests::asked::{Told, What};
 use s4_pool::Claimed;
 
 /// A call: by which pass, from 0; who asks; what the clock shows; and what is asked and replied. And the

@@ -1,9 +1,9 @@
 //! Many calls: of fronts of each number of cells, with windows of all kinds; before sweeps of cells; and of
 //! one pass.
 
-use crate::asked::{Told, What};
 use crate::fronts::check;
 use crate::lines::{Call, Case, Check, End, Line, Often};
+use s4_calls_for_tests::asked::{Told, What};
 use std::test::Fail;
 
 /// Numbers of cells, and windows.

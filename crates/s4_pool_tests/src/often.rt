@@ -1,10 +1,10 @@
 //! What a pass asks again and again.
 
-use crate::asked::{Told, What};
 use crate::fronts::serve;
 use crate::gate::Holding;
 use crate::lines::Often;
-use crate::same::same;
+use s4_calls_for_tests::asked::{Told, What};
+use s4_calls_for_tests::same::same;
 use s4_pool::{Front, Names, Pass};
 use std::alloc::Global;
 use std::sync::Wait;

@@ -1,9 +1,9 @@
 //! Threads call at once: one is held at a gate, one reads what another wrote, and cells count the calls of
 //! all.
 
-use crate::asked::{Told, What};
 use crate::fronts::check;
 use crate::lines::{Call, Case, Check, End, Line, Together};
+use s4_calls_for_tests::asked::{Told, What};
 use std::test::Fail;
 
 /// One record in each of two cells.

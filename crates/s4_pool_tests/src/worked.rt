@@ -1,8 +1,8 @@
 //! The worked case of two cells and two passes, and one of clocks that lag.
 
-use crate::asked::{Told, What};
 use crate::fronts::check;
 use crate::lines::{Call, Case, Check, End, Line};
+use s4_calls_for_tests::asked::{Told, What};
 use std::test::Fail;
 
 const FIVE: &[Call] = &[

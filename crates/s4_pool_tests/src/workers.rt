@@ -4,7 +4,7 @@ use crate::fronts::ask;
 use crate::gate::{Holding, Marks};
 use crate::lines::Call;
 use crate::parts::{Part, take_parts, wait};
-use crate::places::{Place, Task, places};
+use s4_calls_for_tests::places::{Place, Task, places};
 use s4_jobs::{Job, Jobs, work};
 use s4_pool::{Front, Names, Pass};
 use std::alloc::Global;

@@ -3,8 +3,8 @@
 ghost use Rattle.std.specs.Prelude.{◌≡◌, ◌<◌, length, true};
 ghost use Rattle.s4_jobs.specs.Seats.{AreAll};
 
-use crate::places::Task;
-use crate::same::same;
+use s4_calls_for_tests::places::Task;
+use s4_calls_for_tests::same::same;
 use s4_jobs::{Job, Jobs, Numbered, Seat};
 use std::alloc::Global;
 use std::sync::Wait;

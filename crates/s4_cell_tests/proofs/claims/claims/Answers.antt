@@ -1,7 +1,7 @@
 use Rattle.std.proofs.Common.{◌≡◌, ◌<◌, ℕ, List, [], ◌∷◌, length, suc, refl, ap, arith}
 use Rattle.s4_passes.specs.declared.call.Receipt.{Receipt}
 use Rattle.s4_passes.specs.Calls.{Call, receipts_of}
-use Rattle.s4_pool_tests.proofs.claims.claims.Goals as goal
+use Rattle.s4_cell_tests.proofs.claims.claims.Goals as goal
 
 as_many : (calls : List Call) → length (receipts_of calls) ≡ length calls
 as_many [] = refl

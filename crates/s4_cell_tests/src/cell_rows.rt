@@ -1,8 +1,8 @@
 //! What cells are asked and answer: one after the other and all at once, at each moment, and around cuts
 //! (docs/MODEL.md, "Histories that are cut").
 
-use crate::asked::{Told, What};
 use crate::cells::{Act, Line, check, check_step, check_twice, check_wide, open};
+use s4_calls_for_tests::asked::{Told, What};
 use std::test::Fail;
 
 /// An object is made at 5.

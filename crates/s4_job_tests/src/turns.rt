@@ -1,6 +1,6 @@
 //! Workers in threads of their own, and one thread that puts.
 
-use crate::places::{Place, Task, places};
+use s4_calls_for_tests::places::{Place, Task, places};
 use s4_jobs::{Job, Jobs, work};
 use std::alloc::Global;
 use std::sync::Wait;

@@ -3,9 +3,9 @@
 
 ghost use Rattle.std.specs.Prelude.{◌≡◌, ◌<◌};
 
-use crate::asked::{Told, What, asked, reply};
 use crate::cells::check_step;
-use crate::same::same;
+use s4_calls_for_tests::asked::{Told, What, asked, reply};
+use s4_calls_for_tests::same::same;
 use s4_cells::Cell;
 use s4_closing::claim_next;
 use s4_counts::{Blank, Book, Ledger, Names};

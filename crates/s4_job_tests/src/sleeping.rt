@@ -1,6 +1,6 @@
 //! A worker that goes to sleep while a job is put.
 
-use crate::places::{Place, Task, places};
+use s4_calls_for_tests::places::{Place, Task, places};
 use s4_jobs::{Job, Jobs, work};
 use std::sync::Wait;
 use std::sync::atomic::{AtomicU64, Ordering};

@@ -5,8 +5,8 @@ ghost use Rattle.std.specs.Prelude.{◌≤◌};
 ghost use Rattle.s4_types.specs.Play.{last_of};
 ghost use Rattle.s4_cells.specs.Many.{Each};
 
-use crate::asked::{Told, What, caller, reply, request};
-use crate::same::same;
+use s4_calls_for_tests::asked::{Told, What, caller, reply, request};
+use s4_calls_for_tests::same::same;
 use s4_cells::{Cell, cut_all, wide};
 use s4_types::{Moment, Refusal, Reply};
 use std::alloc::{AllocError, Global};
