@@ -4,12 +4,14 @@ import time
 import unittest
 
 from tests.frames import BAD_LOGIN, CALL, CREATE, HELLO, MADE, OTHER_HELLO, OTHER_MADE, WELCOME, WRONG_HELLO
-from tests.peers import exactly
-from tests.serving import Server, until
+from tests.peers import exactly, hello
+from tests.serving import SECRETS, Server, until
 from tools.lib.servers import everything
 
 # The least time for which a late answer waits, in seconds. It is told by a clock that goes in steps of a tenth.
 WAITS = 0.85
+# Who isn't among the logins.
+STRANGER = hello(4294967294, 1, SECRETS[7])
 # How often it is tried to be served while an answer waits: on a busy machine a second may be over before that.
 GUESSES = 20
 # The logins once 7 has the secret that was wrong before, with and without 8, and no logins.
@@ -39,13 +41,13 @@ def made(peer):
 
 
 class Logins(unittest.TestCase):
-    """Principals 7 and 8, and who says a wrong secret of 7."""
+    """Principals 7 and 8, who says a wrong secret of 7, and a stranger."""
 
-    def late_answer(self, server):
-        """The answer to a wrong secret of 7 whose answer waits, or none where it was there before 7 and 8 were welcomed."""
+    def late_answer(self, server, wrong):
+        """The answer to a wrong Hello, which waits, or none where it was there before 7 and 8 were welcomed."""
         start = time.monotonic()
         with server.connect() as late:
-            late.sendall(WRONG_HELLO)
+            late.sendall(wrong)
             self.assertEqual([server.tell(HELLO), server.tell(OTHER_HELLO)], [WELCOME, WELCOME])
             if has_answer(late):
                 everything(late)
@@ -55,11 +57,11 @@ class Logins(unittest.TestCase):
         self.assertGreaterEqual(time.monotonic() - start, WAITS)
         return answer
 
-    def test_the_third_failed_login_of_a_principal_waits_and_nobody_else_does(self):
+    def test_the_answer_to_each_failed_login_waits_and_nobody_else_does(self):
         with Server(connections=0, idle=60000, hello=60000) as server:
-            self.assertEqual([server.tell(WRONG_HELLO) for _ in range(2)], [BAD_LOGIN] * 2)
-            answers = (self.late_answer(server) for _ in range(GUESSES))
-            self.assertEqual(next((it for it in answers if it), None), BAD_LOGIN)
+            for wrong in (WRONG_HELLO, STRANGER):
+                answers = (self.late_answer(server, wrong) for _ in range(GUESSES))
+                self.assertEqual(next((it for it in answers if it), None), BAD_LOGIN)
             self.assertEqual(server.tell(CALL), WELCOME + MADE)
             server.ask_to_end()
             server.check_end(self, (1, 1))

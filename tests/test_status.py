@@ -7,22 +7,22 @@ import unittest
 from pathlib import Path
 
 from tests.frames import BAD_LOGIN, CREATE, FOREIGN_WRITE, HELLO, MADE, WRITE_DENIED, WRONG_HELLO
-from tests.peers import exactly
-from tests.serving import Server, until
+from tests.peers import exactly, hello
+from tests.serving import SECRETS, Server, until
 from tools.lib.servers import PORT
 
-# What is told once one connection is welcomed and asked for a Create, one is silent, and one had a wrong secret: places in the status, and the
-# numbers there.
+# What is told once one connection is welcomed and asked for a Create, one is silent, one had a wrong secret, and one was of a principal who isn't among
+# the logins: places in the status, and the numbers there.
 WANTED = {
     "port": PORT,
-    "connections/accepted": 3,
+    "connections/accepted": 4,
     "connections/turned_away": 0,
     "connections/open": 2,
     "connections/greeting": 1,
     "connections/welcomed": 1,
     "connections/leaving": 0,
-    "failed_logins/all": 1,
-    "failed_logins/others": 0,
+    "failed_logins/all": 2,
+    "failed_logins/others": 1,
     "failed_logins/principals/0/who": 7,
     "failed_logins/principals/0/count": 1,
     "records": 2,
@@ -32,6 +32,8 @@ WANTED = {
     "refusals/denied": 1,
     "refusals/no_memory": 0,
 }
+# Who isn't among the logins.
+STRANGER = hello(4294967294, 1, SECRETS[7])
 # How often the status is read at least while the server writes it, and how long it rests in between, in seconds.
 READ, REST = 100, 0.02
 # First moments, and the greatest moments that a clock may then tell within a minute.
@@ -54,7 +56,7 @@ class Status(unittest.TestCase):
             seven.sendall(CREATE + FOREIGN_WRITE)
             self.assertEqual(exactly(seven, 20), MADE + WRITE_DENIED)
             with server.connect():
-                self.assertEqual(server.tell(WRONG_HELLO), BAD_LOGIN)
+                self.assertEqual([server.tell(it) for it in (WRONG_HELLO, STRANGER)], [BAD_LOGIN] * 2)
                 self.read_often(server)
                 server.ask_to_end()
             server.check_end(self, (2, 2))

@@ -11,6 +11,7 @@ use s4_status::{CellStatus, Connections, JournalStatus, Refusals, Status, Teller
 use s4_types::NoMemory;
 use std::alloc::Global;
 use std::sync::Wait;
+use std::sync::atomic::Ordering;
 
 /// What the threads of a server share.
 #[derive(Drop)]
@@ -59,12 +60,13 @@ impl<R: Wait, C, N: Names> Source for Context<'_, R, C, N> {
 impl<R: Wait, C: Ticks, N: Names> Teller for Context<'_, R, C, N> {
     fn status(&self, resident: Option<u64>) -> Result<Status, NoMemory> {
         let kept = self.board.journal(self.rt);
+        let now = self.board.time.load(Ordering::SeqCst);
         let mut status = Status {
             moment: self.clock.moment().tick(),
             port: self.port,
             resident_bytes: resident,
             connections: Connections::of(self.posts, self.lobby),
-            failed_logins: self.lobby.failed_logins(self.alloc)?,
+            failed_logins: self.lobby.failed_logins(self.alloc, now)?,
             records: 0,
             values: 0,
             cells: Vec::new(self.alloc),

@@ -1,4 +1,4 @@
 pub mod Accepted
 pub mod Drains
+pub mod Guesses
 pub mod Records
-pub mod Slowing

@@ -1,52 +1,57 @@
-//! Failed logins, which are slowed.
+//! Failed logins: how many there were, and how long each answer waits.
 
-ghost use Rattle.std.specs.Prelude.{◌≡◌};
-ghost use Rattle.s4_sockets.specs.Slowing.{IsNext, delay_of};
+ghost use Rattle.std.specs.Prelude.{◌≡◌, ◌+◌, ◌-◌, ◌^◌, ◌==◌, ℕ, false, min, Some, None, IsTrue, unwrap_or};
+ghost use Rattle.std.specs.Ordering.{nat_cmp};
+ghost use Rattle.std.specs.BTreeMap.{get};
+ghost use Rattle.s4_sockets.specs.Guesses.{IsCounted, answered, next_of, no_failures};
 
+use s4_stream::SessionFault;
 use s4_types::NoMemory;
 use serde::Serialize;
 use std::alloc::Global;
 use std::collections::BTreeMap;
 use std::sync::{Mutex, Wait};
 
-/// How many principals have their failed logins counted apart. Those that come later are counted
-/// together, so guesses take no more memory than that.
-const MOST: usize = 4096;
-
-/// How long the answer to a failed login waits that is slowed, in milliseconds.
+/// How long the answer to a failed login waits, in milliseconds: whoever was tried, and however often.
+/// So it tells nothing but that the login failed.
 const DELAY: u64 = 1000;
 
-/// The time within which the third failed login, and each later one, is slowed, in milliseconds.
-const SPAN: u64 = 60000;
+/// For how long the failed logins of a principal are known behind the last one, in milliseconds: a day.
+const KNOWN: u64 = 86400000;
 
-/// The failed logins of a principal: their count, and when the last two came, in milliseconds.
+/// Until when the answer to a peer's first words waits that ended by this fault, in milliseconds, if it
+/// does: that to a failed login comes a second late.
+pub(crate) fn answered_at(fault: Option<SessionFault>, now: u64) -> Option<u64>
+    ensures { result ≡ answered fault now }
+{
+    match fault {
+        Some(SessionFault::BadLogin) => Some(now.saturating_add(DELAY)),
+        _ => None,
+    }
+}
+
+/// The failed logins of a principal: their count, and when the last one came, in milliseconds.
 #[derive(Clone, Copy)]
 pub(crate) struct Failures {
     pub count: u64,
     pub last: u64,
-    pub before: u64,
 }
 
 impl Failures {
     /// No failed login.
-    const NONE: Failures = Failures {
-        count: 0,
-        last: 0,
-        before: 0,
-    };
+    const NONE: Failures = Failures { count: 0, last: 0 };
 
-    /// Counts a failed login that comes now. Tells for how many milliseconds its answer waits: none
-    /// for the first two, and a second where the failure before the last one was within the last
-    /// minute.
-    pub(crate) fn add(&mut self, now: u64) -> u64
-        ensures delay { result ≡ delay_of self.old now }
-        ensures next { IsNext self.old now self.new }
+    /// These with one more, which comes now. They are counted anew where the last one came a day ago.
+    fn and_one(self, now: u64) -> Failures
+        ensures { result ≡ next_of self now }
     {
-        let is_slowed = self.count > 1 && now.saturating_sub(self.before) < SPAN;
-        self.count = self.count.saturating_add(1);
-        self.before = self.last;
-        self.last = now;
-        if is_slowed { DELAY } else { 0 }
+        let is_forgotten = now.saturating_sub(self.last) >= KNOWN;
+        let count = if is_forgotten {
+            1
+        } else {
+            self.count.saturating_add(1)
+        };
+        Failures { count, last: now }
     }
 }
 
@@ -56,22 +61,53 @@ pub(crate) struct Attempts {
     counts: Mutex<Counts>,
 }
 
-/// The failed logins by principal, and those of the principals that came when the table was full.
+/// How many logins failed in all, those of each principal whom the logins name, and how many were of
+/// others.
 #[derive(Drop)]
 struct Counts {
-    each: BTreeMap<u32, Failures>,
-    others: Failures,
+    all: u64,
+    named: BTreeMap<u32, Failures>,
+    others: u64,
 }
 
 impl Counts {
-    /// Those of the principal.
-    fn of(&mut self, who: u32) -> &mut Failures {
-        let Counts { each, others } = self;
-        if each.len() < MOST && !each.contains_key(&who) {
-            // Where there is no memory for another principal, it is counted with the others.
-            let _ = each.insert(who, Failures::NONE);
+    /// Counts a failed login that comes now: of this principal, whom the logins name, or of one whom they
+    /// don't. So nobody who invents principals is counted with one of theirs. Where there is no memory for
+    /// another principal, it is counted with the others.
+    fn add(&mut self, who: Option<u32>, now: u64)
+        ensures all { self.new.all ≡ min (self.old.all + 1) (2 ^ 64 - 1) }
+        ensures invented { who ≡ None → (w : ℕ)
+            → get nat_cmp self.new.named w ≡ get nat_cmp self.old.named w }
+        ensures others { who ≡ None → self.new.others ≡ min (self.old.others + 1) (2 ^ 64 - 1) }
+        ensures named { (w : ℕ) → who ≡ Some w
+            → IsCounted now (get nat_cmp self.old.named w) (get nat_cmp self.new.named w)
+            self.old.others self.new.others }
+        ensures apart { (named w : ℕ) → who ≡ Some named → (w == named) ≡ false
+            → get nat_cmp self.new.named w ≡ get nat_cmp self.old.named w }
+    {
+        self.all = self.all.saturating_add(1);
+        let is_counted = match who {
+            Some(who) => self.add_to(who, now),
+            None => false,
+        };
+        if !is_counted {
+            self.others = self.others.saturating_add(1);
         }
-        each.get_mut(&who).unwrap_or(others)
+    }
+
+    /// Counts it for a principal. Tells whether there was memory for that.
+    fn add_to(&mut self, who: u32, now: u64) -> bool
+        ensures counted { IsTrue result → get nat_cmp self.new.named who
+            ≡ Some (next_of (unwrap_or (get nat_cmp self.old.named who) no_failures) now) }
+        ensures refused { result ≡ false
+            → get nat_cmp self.new.named who ≡ get nat_cmp self.old.named who }
+        ensures apart { (w : ℕ) → (w == who) ≡ false
+            → get nat_cmp self.new.named w ≡ get nat_cmp self.old.named w }
+        ensures all { self.new.all ≡ self.old.all }
+        ensures others { self.new.others ≡ self.old.others }
+    {
+        let failures = self.named.get(&who).copied().unwrap_or(Failures::NONE);
+        self.named.insert(who, failures.and_one(now)).is_ok()
     }
 }
 
@@ -80,38 +116,46 @@ impl Attempts {
     pub(crate) fn new(alloc: Global) -> Attempts {
         Attempts {
             counts: Mutex::new(Counts {
-                each: BTreeMap::new(alloc),
-                others: Failures::NONE,
+                all: 0,
+                named: BTreeMap::new(alloc),
+                others: 0,
             }),
         }
     }
 
-    /// Counts a failed login of this principal that comes now, in milliseconds. Tells for how many
-    /// milliseconds its answer waits.
-    pub(crate) fn failed<R: Wait>(&self, rt: &R, who: u32, now: u64) -> u64 {
-        self.counts.lock(rt).of(who).add(now)
+    /// Counts a failed login that comes now, in milliseconds: of this principal, whom the logins name, or
+    /// of one whom they don't.
+    pub(crate) fn failed<R: Wait>(&self, rt: &R, who: Option<u32>, now: u64) {
+        self.counts.lock(rt).add(who, now);
     }
 
-    /// How many there were.
-    pub(crate) fn told<R: Wait>(&self, rt: &R, alloc: Global) -> Result<FailedLogins, NoMemory> {
+    /// How many there were: of each principal those of the last day, and of the days before in which they
+    /// went on.
+    pub(crate) fn told<R: Wait>(
+        &self,
+        rt: &R,
+        alloc: Global,
+        now: u64,
+    ) -> Result<FailedLogins, NoMemory> {
         let counts = self.counts.lock(rt);
-        let mut told = FailedLogins {
-            all: counts.others.count,
-            others: counts.others.count,
-            principals: Vec::new(alloc),
-        };
-        for (who, failures) in counts.each.iter() {
-            told.all = told.all.saturating_add(failures.count);
-            told.principals.push(FailedBy {
-                who: *who,
-                count: failures.count,
-            })?;
+        let mut principals = Vec::new(alloc);
+        for (who, failures) in counts.named.iter() {
+            if now.saturating_sub(failures.last) < KNOWN {
+                principals.push(FailedBy {
+                    who: *who,
+                    count: failures.count,
+                })?;
+            }
         }
-        Ok(told)
+        Ok(FailedLogins {
+            all: counts.all,
+            others: counts.others,
+            principals,
+        })
     }
 }
 
-/// How many logins failed: in all, by principal, and of the principals that aren't counted apart.
+/// How many logins failed: in all, by principal, and of those whom the logins don't name.
 #[derive(Serialize)]
 pub struct FailedLogins {
     pub all: u64,

@@ -2,11 +2,13 @@
 
 ghost use Rattle.std.specs.Prelude.{◌≡◌, false, IsTrue};
 ghost use Rattle.std_alloc.specs.Arc.{arc_value};
+ghost use Rattle.s4_stream.specs.Logins.{keeps_login};
 ghost use Rattle.s4_talk.specs.Turning.{Turns, TurnsSo, fresh_talk, scene};
 
 use crate::tables::Table;
 use s4_stream::{Logins, SessionFault};
 use s4_talk::{Answer, Talking, TurnEnd};
+use s4_types::Principal;
 use std::alloc::Global;
 use std::io::{Read, Write};
 use std::sync::Arc;
@@ -79,6 +81,14 @@ impl Conversation {
     /// The fault that ended the talk.
     pub(crate) fn fault(&self) -> Option<SessionFault> {
         self.talking.fault()
+    }
+
+    /// Whether the login table that it goes by names the principal.
+    pub(crate) fn names(&self, who: &Principal) -> bool
+        ensures { result
+            ≡ keeps_login (arc_value self.now.logins) (arc_value self.now.logins) who.now }
+    {
+        self.logins.keeps(&self.logins, who)
     }
 
     /// Whether it has met the table of this edition.

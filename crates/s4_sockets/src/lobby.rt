@@ -151,10 +151,10 @@ impl<R: Wait> Lobby<'_, R> {
         self.tables.newest(self.rt)
     }
 
-    /// Counts a failed login of this principal that comes now, in milliseconds. Tells for how many
-    /// milliseconds its answer waits.
-    pub(crate) fn failed(&self, who: u32, now: u64) -> u64 {
-        self.attempts.failed(self.rt, who, now)
+    /// Counts a failed login that comes now, in milliseconds: of this principal, whom the logins name, or
+    /// of one whom they don't.
+    pub(crate) fn failed(&self, who: Option<u32>, now: u64) {
+        self.attempts.failed(self.rt, who, now);
     }
 
     /// Counts a connection from the address. Tells whether it may be open.
@@ -185,8 +185,8 @@ impl<R: Wait> Lobby<'_, R> {
         self.trails.told(self.rt, alloc, cut)
     }
 
-    /// How many logins failed.
-    pub fn failed_logins(&self, alloc: Global) -> Result<FailedLogins, NoMemory> {
-        self.attempts.told(self.rt, alloc)
+    /// How many logins failed by now, in milliseconds.
+    pub fn failed_logins(&self, alloc: Global, now: u64) -> Result<FailedLogins, NoMemory> {
+        self.attempts.told(self.rt, alloc, now)
     }
 }

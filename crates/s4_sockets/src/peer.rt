@@ -1,5 +1,6 @@
 //! A peer that a worker serves beside others.
 
+use crate::attempts::answered_at;
 use crate::conversation::Conversation;
 use crate::ending::{Drained, Leaving, drain_some};
 use crate::gauge::{Gauge, Tap};
@@ -14,7 +15,7 @@ use s4_command::Patience;
 use s4_keeping::{Entrant, Kind};
 use s4_stream::SessionFault;
 use s4_talk::{TalkEnd, TurnEnd};
-use s4_types::NoMemory;
+use s4_types::{NoMemory, Principal};
 use std::alloc::Global;
 use std::mem::replace;
 use std::net::Shutdown;
@@ -228,7 +229,8 @@ impl Peer {
         }
         match end {
             TurnEnd::Stuck if greets => {
-                *held = answered_at(lobby, talk, opening, now);
+                count_failure(lobby, talk, opening, now);
+                *held = answered_at(talk.fault(), now);
                 Some(TurnEnd::More)
             }
             TurnEnd::More if reader.is_short() && !*last => Some(TurnEnd::Waits),
@@ -397,20 +399,18 @@ fn held_up<H: Host>(host: &H, opening: &Opening, held: Option<u64>, now: u64) ->
     }
 }
 
-/// Until when the answer to a peer's first words waits, if it does: that to a failed login is
-/// slowed, where such logins of that principal were many.
-fn answered_at<R: Wait>(
-    lobby: &Lobby<'_, R>,
-    talk: &Conversation,
-    opening: &Opening,
-    now: u64,
-) -> Option<u64> {
-    if talk.fault() != Some(SessionFault::BadLogin) {
-        return None;
+/// Counts the failed login that ended a peer's first words, where one did.
+fn count_failure<R: Wait>(lobby: &Lobby<'_, R>, talk: &Conversation, opening: &Opening, now: u64) {
+    if talk.fault() == Some(SessionFault::BadLogin) {
+        lobby.failed(named(talk, opening), now);
     }
-    match lobby.failed(opening.who(), now) {
-        0 => None,
-        delay => Some(now.saturating_add(delay)),
+}
+
+/// The principal whom a peer's first words name, where its login table has them.
+fn named(talk: &Conversation, opening: &Opening) -> Option<u32> {
+    match Principal::new(opening.who()) {
+        Some(who) if talk.names(&who) => Some(who.number()),
+        _ => None,
     }
 }
 
