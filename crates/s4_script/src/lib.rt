@@ -27,7 +27,7 @@ pub use laws::{
 pub use line::{Line, parse_line, parse_number, parse_principal};
 pub use lines::NumberedLines;
 pub use opening::{Opening, parse_opening, parse_window};
-pub use replies::{CutText, ReplyText, UsedText};
+pub use replies::{BytesText, CutText, GrantText, ReplyText, UsedText};
 pub use requests::parse_request;
 pub use sent::SentText;
 pub use text::{TextFault, read_file, read_up_to};

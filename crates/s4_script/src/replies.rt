@@ -114,7 +114,7 @@ impl fmt::Display for UserText {
 
 /// Bytes as hexadecimal digits in lower case, or as the word `empty`.
 #[derive(Clone, Copy)]
-pub(crate) struct BytesText<'a>(pub(crate) &'a [u8]);
+pub struct BytesText<'a>(pub &'a [u8]);
 
 impl fmt::Display for BytesText<'_> {
     ghost output = { λ t. Some (bytes_text t.0.now) };
@@ -190,7 +190,7 @@ pub(crate) fn text_of_name(name: &Name) -> &str
 
 /// Why a read was granted.
 #[derive(Clone, Copy)]
-struct GrantText(Grant);
+pub struct GrantText(pub Grant);
 
 impl fmt::Display for GrantText {
     ghost output = { λ t. Some (grant_text t.0) };
