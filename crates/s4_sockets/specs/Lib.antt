@@ -1,4 +1,5 @@
 pub mod Accepted
 pub mod Drains
 pub mod Guesses
+pub mod Holds
 pub mod Records

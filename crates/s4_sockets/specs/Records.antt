@@ -5,6 +5,8 @@ use Rattle.s4_types.specs.declared.request.Request.{Request}
 use Rattle.s4_types.specs.declared.request.Request.TheVariants.{Write, Append, SetAttr}
 use Rattle.s4_types.specs.declared.reply.Reply.{Reply}
 use Rattle.s4_types.specs.declared.reply.Reply.TheVariants.{Data, Attr, Names, Audit}
+use Rattle.s4_sockets.specs.declared.hold.Awaited.{Awaited}
+use Rattle.s4_sockets.specs.declared.hold.Awaited.TheVariants.{Room, Journal}
 use Rattle.s4_sockets.specs.declared.left.Span.{Span}
 
 -- a number, as far as it fits in 64 bits
@@ -38,6 +40,11 @@ is_below (Some most) bytes = nat_lt bytes most
 -- whether a request of this principal may leave a record more, whose records take so many bytes: the administrator's always may
 abbrev pub may_leave : ℕ → Option ℕ → ℕ → Bool
 may_leave who most bytes = (who == 0) || is_below most bytes
+
+-- what a request of this principal waits for, if anything, whose records take so many bytes, and those that the journal lacks so many
+abbrev pub awaited_of : ℕ → Option ℕ → ℕ → ℕ → Option Awaited
+awaited_of who most bytes lacking =
+    if may_leave who most bytes then (if may_leave who (Some 67108864) lacking then None else Some Journal) else Some Room
 
 -- how many bytes the records of these spans take
 abbrev pub span_bytes : List Span → ℕ

@@ -2,6 +2,7 @@
 
 ghost use Rattle.std.specs.Prelude.{◌≡◌};
 
+use crate::hold::Awaited;
 use s4_keeping::{Entrant, Event, Kind};
 use s4_talk::Answer;
 use s4_types::{Caller, Moment};
@@ -15,9 +16,8 @@ pub trait Host: Answer {
     /// How many nanoseconds went by in the turn since its first request came.
     fn spent(&self) -> u64;
 
-    /// Whether requests of this caller are to wait, since records of its principal take all the memory
-    /// that they may.
-    fn holds_up(&self, caller: &Caller) -> bool;
+    /// What requests of this caller are to wait for, if anything.
+    fn holds_up(&self, caller: &Caller) -> Option<Awaited>;
 
     /// The moment now.
     fn moment(&self) -> Moment;

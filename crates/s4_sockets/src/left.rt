@@ -53,7 +53,7 @@ fn given(reply: &Reply) -> u64
     }
 }
 
-/// The records that a principal's requests have left and that aren't cut yet: how many bytes they take,
+/// The records that a principal's requests have left and that aren't gone yet: how many bytes they take,
 /// by the spans of time in which they were made.
 #[derive(Drop)]
 pub(crate) struct Left {

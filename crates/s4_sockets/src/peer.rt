@@ -4,6 +4,7 @@ use crate::attempts::answered_at;
 use crate::conversation::Conversation;
 use crate::ending::{Drained, Leaving, drain_some};
 use crate::gauge::{Gauge, Tap};
+use crate::hold::{Awaited, Hold, hold_for};
 use crate::host::{Host, event_now, tell};
 use crate::lobby::Lobby;
 use crate::opening::Opening;
@@ -27,9 +28,6 @@ const TURNS: u32 = 8;
 /// How long it is listened to a peer who leaves, in milliseconds.
 const FAREWELL: u64 = 1000;
 
-/// For how long a request waits for memory at most, in milliseconds.
-const SCARCE: u64 = 1000;
-
 /// How many bytes the frame of a fault has.
 const FAULT_FRAME: usize = 6;
 
@@ -44,8 +42,8 @@ pub(crate) struct Peer {
     begun: u64,
     /// When a whole frame last came from it, or it last took bytes.
     since: u64,
-    /// Until then the answer to its failed login waits, or its next request, which has to wait for memory.
-    held: Option<u64>,
+    /// For how long the answer to its failed login waits, or its next request.
+    held: Option<Hold>,
     /// It has a place as one that is welcomed.
     seated: bool,
     /// It sends no more, so no further event tells of its stream.
@@ -230,7 +228,7 @@ impl Peer {
         match end {
             TurnEnd::Stuck if greets => {
                 count_failure(lobby, talk, opening, now);
-                *held = answered_at(talk.fault(), now);
+                *held = answered_at(talk.fault(), now).map(Hold::Until);
                 Some(TurnEnd::More)
             }
             TurnEnd::More if reader.is_short() && !*last => Some(TurnEnd::Waits),
@@ -238,16 +236,16 @@ impl Peer {
         }
     }
 
-    /// Whether it waits now: for the answer to its failed login, or for memory, before its next request is
-    /// heard.
+    /// Whether it waits now: for the answer to its failed login, or for what its next request awaits before
+    /// it is heard.
     fn waits<H: Host>(&mut self, host: &H, now: u64) -> bool {
         let Stage::Talks(talk) = &self.stage else {
             return false;
         };
         if self.seated && talk.waiting() == 0 {
-            self.held = held_up(host, &self.opening, self.held, now);
+            self.held = hold_for(awaited(host, &self.opening), self.held, now);
         }
-        self.held.is_some_and(|until| now < until)
+        self.held.is_some_and(|hold| hold.lasts(now))
     }
 
     /// Whether there is a place for it: for one that is welcomed now where there is one left. Nothing
@@ -328,11 +326,12 @@ impl Peer {
         }
     }
 
-    /// Why nobody has patience with the peer any more, if so.
+    /// Why nobody has patience with the peer any more, if so. While it waits for the journal it isn't idle.
     fn tires(&self, now: u64, patience: &Patience) -> Option<Kind> {
         let passed = now.saturating_sub(self.since);
         let begun = now.saturating_sub(self.begun);
         match &self.stage {
+            Stage::Talks(_) if matches!(self.held, Some(Hold::Unbounded)) => None,
             Stage::Talks(_) if is_past(passed, patience.idle) => Some(Kind::Idle),
             Stage::Talks(talk) if !talk.is_welcomed() && is_past(begun, patience.hello) => {
                 Some(Kind::Late)
@@ -353,10 +352,14 @@ impl Peer {
 
     /// Whether an answer that had to wait is due, or a request has to wait no more.
     pub(crate) fn is_due<H: Host>(&self, host: &H, now: u64) -> bool {
-        let Some(until) = self.held else {
-            return false;
-        };
-        until <= now || self.seated && !is_held_up(host, &self.opening)
+        match self.held {
+            None => false,
+            Some(hold) if !hold.lasts(now) => true,
+            Some(Hold::Until(_)) => self.seated && awaited(host, &self.opening).is_none(),
+            Some(Hold::Unbounded) => {
+                !matches!(awaited(host, &self.opening), Some(Awaited::Journal))
+            }
+        }
     }
 
     /// Meets the newest login table, unless it has met that. Tells whether it may stay.
@@ -379,24 +382,9 @@ fn is_past(passed: u64, most: u64) -> bool {
     most > 0 && passed >= most
 }
 
-/// Whether the requests are to wait of a peer that is welcomed.
-fn is_held_up<H: Host>(host: &H, opening: &Opening) -> bool {
-    opening
-        .caller()
-        .is_some_and(|caller| host.holds_up(&caller))
-}
-
-/// Until when the next request waits of a peer that is welcomed, if it does: for a second at most from
-/// when it first has to. Once that is over it is answered, and the one behind it waits.
-fn held_up<H: Host>(host: &H, opening: &Opening, held: Option<u64>, now: u64) -> Option<u64> {
-    if !is_held_up(host, opening) {
-        return None;
-    }
-    match held {
-        Some(until) if until <= now => None,
-        Some(until) => Some(until),
-        None => Some(now.saturating_add(SCARCE)),
-    }
+/// What the requests await of a peer that is welcomed, if anything.
+fn awaited<H: Host>(host: &H, opening: &Opening) -> Option<Awaited> {
+    opening.caller().and_then(|caller| host.holds_up(&caller))
 }
 
 /// Counts the failed login that ended a peer's first words, where one did.

@@ -1,8 +1,10 @@
 //! The records of one principal.
 
-ghost use Rattle.std.specs.Prelude.{◌≡◌, true, None, IfOk};
+ghost use Rattle.std.specs.Prelude.{◌≡◌, ◌≢◌, true, None, Some, IfOk};
+ghost use Rattle.s4_sockets.specs.declared.hold.Awaited.TheVariants.{Room};
 
-use crate::left::Left;
+use crate::counts::Counts;
+use crate::hold::Awaited;
 use s4_types::{Caller, Moment, NoMemory, Principal};
 use std::alloc::Global;
 use std::sync::{Mutex, Wait};
@@ -16,13 +18,13 @@ pub(crate) struct Terms {
     pub(crate) ticks: u64,
 }
 
-/// What the requests of one principal have left of records that aren't cut yet, for all workers of a
-/// server.
+/// What the requests of one principal have left of records that aren't cut yet, or that the journal lacks,
+/// for all workers of a server.
 #[derive(Drop)]
 pub struct Trail {
     who: Principal,
     terms: Terms,
-    left: Mutex<Left>,
+    counts: Mutex<Counts>,
 }
 
 impl Trail {
@@ -34,7 +36,7 @@ impl Trail {
         Ok(Trail {
             who: *who,
             terms,
-            left: Mutex::new(Left::new(alloc)?),
+            counts: Mutex::new(Counts::new(alloc)?),
         })
     }
 
@@ -52,9 +54,9 @@ impl Trail {
         ensures administrator { caller.now.who ≡ 0 → result ≡ true }
         ensures unbounded { self.now.terms.most ≡ None → result ≡ true }
     {
-        let mut left = self.left.lock(rt);
-        left.cut(cut);
-        left.has_room(&caller.who, self.terms.most)
+        let mut counts = self.counts.lock(rt);
+        counts.uncut.cut(cut);
+        counts.uncut.has_room(&caller.who, self.terms.most)
     }
 
     /// A request of this caller left a record of so many bytes at this moment. Tells whether one more may
@@ -64,15 +66,32 @@ impl Trail {
         ensures administrator { caller.now.who ≡ 0 → result ≡ true }
         ensures unbounded { self.now.terms.most ≡ None → result ≡ true }
     {
-        let mut left = self.left.lock(rt);
-        left.add(moment, bytes, self.terms.ticks);
-        left.has_room(&caller.who, self.terms.most)
+        let mut counts = self.counts.lock(rt);
+        counts.add(moment, bytes, self.terms.ticks);
+        counts.uncut.has_room(&caller.who, self.terms.most)
+    }
+
+    /// What a request of this caller is to wait for, if anything, where the records before a moment were
+    /// cut, and the journal has those before another one. The administrator's never waits. It waits.
+    pub fn awaited<R: Wait>(
+        &self,
+        rt: &R,
+        caller: &Caller,
+        cut: Moment,
+        written: Moment,
+    ) -> Option<Awaited>
+        requires own { self.now.who ≡ caller.now.who }
+        ensures administrator { caller.now.who ≡ 0 → result ≡ None }
+        ensures unbounded { self.now.terms.most ≡ None → result ≢ Some Room }
+    {
+        let mut counts = self.counts.lock(rt);
+        counts.awaited(&caller.who, self.terms.most, cut, written)
     }
 
     /// How many bytes they take, where those before a moment were cut. It waits.
     pub(crate) fn bytes<R: Wait>(&self, rt: &R, cut: Moment) -> u64 {
-        let mut left = self.left.lock(rt);
-        left.cut(cut);
-        left.bytes()
+        let mut counts = self.counts.lock(rt);
+        counts.uncut.cut(cut);
+        counts.uncut.bytes()
     }
 }
