@@ -62,7 +62,8 @@ const BACK: &[u8] =
 #[test]
 fn a_moment_that_goes_back_is_found(rt: HostRuntime) -> Result<(), Fail> {
     let alloc = rt.alloc();
-    let (header, mut source) = Source::open(alloc, BACK)?;
+    let (heading, mut source) = Source::open(alloc, BACK)?;
+    let header = heading.header;
     let cells = look(alloc, header.window, header.cells, &mut source)?;
     let looked = cells.first().ok_or("a cell")?;
     assert_eq!(rt; looked.replayed(), Replayed::GoesBack(1));
