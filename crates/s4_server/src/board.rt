@@ -1,5 +1,7 @@
 //! What the threads of a server tell each other.
 
+ghost use Rattle.std.specs.Prelude.{◌≡◌, ◌-◌, ◌^◌, true, false};
+
 use crate::start::Start;
 use s4_keeping::{Kept, Notebook};
 use s4_status::Tally;
@@ -29,6 +31,9 @@ pub(crate) struct Board {
     /// Before this moment no record is missing in the journal, as far as that is known to last; the
     /// greatest moment where none is kept.
     pub(crate) kept: AtomicU64,
+    /// The records before this moment are written into the journal, whether they last or not; the greatest
+    /// moment where none is kept, or none can be written now.
+    written: AtomicU64,
     /// How far the journal is; none where none is kept.
     journal: Mutex<Option<Kept>>,
     /// Nothing more is written into the journal.
@@ -53,6 +58,7 @@ impl Board {
         journal: Option<Kept>,
     ) -> Result<Board, NoMemory> {
         let keeps = journal.is_some();
+        let written = journal.as_ref().map_or(u64::MAX, written_to);
         Ok(Board {
             start: Start::new(workers),
             accepted: AtomicBool::new(false),
@@ -62,6 +68,7 @@ impl Board {
             tally: Tally::new(alloc)?,
             notebook: Notebook::new(alloc, workers, keeps)?,
             kept: AtomicU64::new(if keeps { 0 } else { u64::MAX }),
+            written: AtomicU64::new(written),
             journal: Mutex::new(journal),
             is_kept: AtomicBool::new(false),
             due: AtomicU64::new(0),
@@ -76,8 +83,14 @@ impl Board {
         Moment::new(self.cut.load(Ordering::SeqCst))
     }
 
+    /// The records before this moment are written into the journal, where it is kept and can be written.
+    pub(crate) fn written(&self) -> Moment {
+        Moment::new(self.written.load(Ordering::SeqCst))
+    }
+
     /// Notes how far the journal is.
     pub(crate) fn tell_journal<R: Wait>(&self, rt: &R, kept: Kept) {
+        self.written.store(written_to(&kept), Ordering::SeqCst);
         *self.journal.lock(rt) = Some(kept);
     }
 
@@ -85,4 +98,13 @@ impl Board {
     pub(crate) fn journal<R: Wait>(&self, rt: &R) -> Option<Kept> {
         *self.journal.lock(rt)
     }
+}
+
+/// Up to which moment nobody waits for a journal that is so far. Where it can't be written nobody waits at
+/// all: its disk may be full for long, and `--records` bounds what tenants leave meanwhile.
+fn written_to(kept: &Kept) -> u64
+    ensures reached { kept.now.fails ≡ false → result ≡ kept.now.reached }
+    ensures fails { kept.now.fails ≡ true → result ≡ 2 ^ 64 - 1 }
+{
+    if kept.fails { u64::MAX } else { kept.reached }
 }
