@@ -35,13 +35,13 @@ class Closed:
 
 class Server(servers.Server):
     """A server that listens. Settings are those of PLAIN, but for those that are given by name; `flags` are further words of its command line. It has its
-    journal in its folder where it `keeps` one, and lasts no longer than SECONDS."""
+    journal in its folder where it `keeps` one, and lasts no longer than SECONDS. `how` is what the system is told of its process."""
 
-    def __init__(self, *flags, logins=LOGINS, setup="", tells=True, keeps=False, **settings):
+    def __init__(self, *flags, logins=LOGINS, setup="", tells=True, keeps=False, how=None, **settings):
         told = PLAIN | {name.replace("_", "-"): value for name, value in settings.items()}
         self.cells, self.first_moment, self.start = told["cells"], told["first-moment"], time.monotonic()
         words = [word for name, value in told.items() for word in (f"--{name}", value)] + ["--journal", "journal"] * keeps
-        super().__init__(PROGRAM, *words, *flags, logins=logins, setup=setup, tells=tells, seconds=SECONDS)
+        super().__init__(PROGRAM, *words, *flags, logins=logins, setup=setup, tells=tells, seconds=SECONDS, **(how or {}))
         if not self.listens():
             errors = self.errors()
             self.kill()
