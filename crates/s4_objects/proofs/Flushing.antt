@@ -1,7 +1,6 @@
--- The flush of a track, of an object, and of all objects.
+-- The flush of a track, and of an object.
 use Rattle.std.proofs.Common.{◌≡◌, ℕ, ◌+◌, ◌≤◌, Bool, true, false, Option, Some, None, List, [], ◌∷◌, ◌++◌, refl, sym, ◌∙◌, ap, subst, arith, length}
-use Rattle.std.specs.Prelude.{is_some, map, count_by, ◌||◌, ◌&&◌, ◌==◌, if◌then◌else◌}
-use Rattle.std.specs.List.{cons_option}
+use Rattle.std.specs.Prelude.{is_some, map, count_by, ◌&&◌, ◌==◌, if◌then◌else◌}
 use Rattle.std.proofs.lemmas.List.{length-map}
 use Rattle.std.specs.FinMap as finmap
 use Rattle.std.proofs.lemmas.Bool.{eqb-true, eq-eqb}
@@ -10,21 +9,21 @@ use Rattle.s4_types.specs.declared.object.ObjectId.{ObjectId}
 use Rattle.s4_types.specs.declared.version.Version.{Version}
 use Rattle.s4_types.specs.Names.{same_purse, same_object, object_in}
 use Rattle.s4_types.specs.Spending.{sum_to}
-use Rattle.s4_types.proofs.Booleans.{by_test, both, not_both, &&-false}
+use Rattle.s4_types.proofs.Booleans.{by_test, both, not_both}
 use Rattle.s4_types.proofs.SameNames.{object_is, object_self, purse_is}
 use Rattle.s4_store.specs.Counts.{item_count-more}
 use Rattle.s4_store.specs.Chains.{Chains, items_of, IsOpen, StillOpen, item_count}
 use Rattle.s4_store.specs.Laws.{items_here, items_elsewhere, insert_twice, StillOpen-insert}
 use Rattle.s4_tracks.specs.declared.eraser.Eraser.{Eraser}
-use Rattle.s4_tracks.specs.Chain.{is_within, erased, flushed_one, flushed, is_erasable, told, first_told, with_first_erased}
+use Rattle.s4_tracks.specs.Chain.{flushed_one, flushed, is_erasable, told, first_told, with_first_erased}
 use Rattle.s4_tracks.proofs.Erasing.{flushed_next, told_next, flushed_done, told_done, all_passed, with_first_none}
 use Rattle.s4_objects.specs.declared.kept.Which.{Which}
 use Rattle.s4_objects.specs.declared.kept.Which.TheVariants as which
 use Rattle.s4_objects.specs.declared.kept.Kept.{Kept}
 use Rattle.s4_objects.specs.declared.flushes.Refund.{Refund}
 use Rattle.s4_objects.specs.Chains.{chain_of, held, Chained}
-use Rattle.s4_objects.specs.Flushes.{flushed_on, past_weight, track_weight, refunded, refund_to, refunds_of, erasable_count, Flushes}
-use Rattle.s4_objects.proofs.Counting.{count_next, told_count, told_none}
+use Rattle.s4_objects.specs.Flushes.{flushed_on, past_weight, track_weight, refunded, refund_to, refunds_of, Flushes}
+use Rattle.s4_objects.proofs.Counting.{count_next, told_count}
 use Rattle.s4_objects.proofs.Standing.{open_before}
 use Rattle.s4_objects.proofs.Weighing.{refunded_other, refunded_track, refunded_both, sums_alike, sum_less}
 
@@ -112,21 +111,6 @@ module _ (m a b : Chains Version) (d t from to : ℕ) (apart : (t == d) ≡ fals
 -- OBJECTS
 
 module _ (from to : ℕ) where
-  once : (v : Version) → flushed_one from to (flushed_one from to v) ≡ flushed_one from to v
-  once v = by_test (is_within from to v)
-      (λ e. ap (λ b. flushed_one from to (if b then erased v else v)) e ∙ ap (λ b. if b then erased v else erased v) e ∙ sym (ap (λ b. if b then erased v else v) e))
-      (λ e. ap (λ b. flushed_one from to (if b then erased v else v)) e)
-
-  twice : (vs : List Version) → flushed from to (flushed from to vs) ≡ flushed from to vs
-  twice [] = refl
-  twice (v ∷ vs) = ap (λ u. u ∷ flushed from to (flushed from to vs)) (once v) ∙ ap (λ us. flushed_one from to v ∷ us) (twice vs)
-
-  -- a second flush changes nothing
-  pub flushed_again : (w : Which) (vs : List Version) → flushed_on from to w (flushed_on from to w vs) ≡ flushed_on from to w vs
-  flushed_again which.Data vs = twice vs
-  flushed_again which.Attributes vs = twice vs
-  flushed_again which.Acl vs = refl
-
   flushed_nothing : (w : Which) → flushed_on from to w [] ≡ []
   flushed_nothing which.Data = refl
   flushed_nothing which.Attributes = refl
@@ -162,27 +146,6 @@ module _ {found : ObjectId → Option Kept} (from to : ℕ) where
       of : (o : ObjectId) (w : Which) (k : Option Kept) → found o ≡ k → (if asked o then flushed_on from to w (held m k w) else held m k w) ≡ (if other o then flushed_on from to w (held m k w) else held m k w)
       of o w None e = nothing w (asked o) ∙ sym (nothing w (other o))
       of o w (Some k) e = ap (λ b. if b then flushed_on from to w (items_of m (chain_of w k)) else items_of m (chain_of w k)) (same o k e)
-
-  -- a flush, and then another
-  pub flushes_then : {m a b : Chains Version} {asked more : ObjectId → Bool} {rs qs : List Refund} → Flushes m a found asked from to rs → Flushes a b found more from to qs → Flushes m b found (λ o. asked o || more o) from to (rs ++ qs)
-  flushes_then {m} {a} {b} {asked} {more} {rs} {qs} f h = record {
-    tracks = λ o w. h.tracks o w ∙ join (asked o) (more o) w (held m (found o) w) (held a (found o) w) (f.tracks o w);
-    others = λ c foreign. h.others c foreign ∙ f.others c foreign;
-    still = λ c opened. h.still c (f.still c opened);
-    unopened = λ c opened. f.unopened c (h.unopened c opened);
-    used = h.used ∙ f.used;
-    weights = λ weight p n high.
-        let first : sum_to n (λ s. past_weight weight a (found (object_in p s))) + refunded weight p rs ≡ sum_to n (λ s. past_weight weight m (found (object_in p s))) = f.weights weight p n high in
-        let second : sum_to n (λ s. past_weight weight b (found (object_in p s))) + refunded weight p qs ≡ sum_to n (λ s. past_weight weight a (found (object_in p s))) = h.weights weight p n high in
-        let all : refunded weight p (rs ++ qs) ≡ refunded weight p rs + refunded weight p qs = refunded_both weight p rs qs in
-        omega arith;
-  }
-    where
-      join : (x y : Bool) (w : Which) (vs us : List Version) → us ≡ (if x then flushed_on from to w vs else vs) → (if y then flushed_on from to w us else us) ≡ (if x || y then flushed_on from to w vs else vs)
-      join true true w vs us e = ap (flushed_on from to w) e ∙ flushed_again from to w vs
-      join true false w vs us e = e
-      join false true w vs us e = ap (flushed_on from to w) e
-      join false false w vs us e = e
 
   -- a flush of one object
   module _ {m new : Chains Version} (c : Chained m found) (o : ObjectId) (k : Kept) (kept : found o ≡ Some k)
@@ -299,33 +262,8 @@ chained_apart c o k kept = by_test (k.attributes.chain == k.data.chain)
     differ : which.Attributes ≡ which.Data → ⊥
     differ e = cc
 
--- ALL OBJECTS
+-- AS MANY REFUNDS AS VALUES THAT ARE ERASED
 
 module _ (from to : ℕ) where
   pub refunds_count : (p : Purse) (vs : List Version) → length (refunds_of p from to vs) ≡ count_by (is_erasable from to) vs
   refunds_count p vs = length-map (told from to vs) (refund_to p) ∙ told_count from to vs
-
-  flushed-done : (v : Version) → is_erasable from to (flushed_one from to v) ≡ false
-  flushed-done v = by_test (is_within from to v)
-      (λ e. ap (λ b. is_erasable from to (if b then erased v else v)) e ∙ &&-false (is_within from to (erased v)))
-      (λ e. ap (λ b. is_erasable from to (if b then erased v else v)) e ∙ ap (λ b. b && is_some v.item) e)
-
-  told-flushed : (vs : List Version) → told from to (flushed from to vs) ≡ []
-  told-flushed [] = refl
-  told-flushed (v ∷ vs) = ap (λ o. cons_option o (told from to (flushed from to vs))) (told_none from to (flushed_one from to v) (flushed-done v)) ∙ told-flushed vs
-
-  fewer-count : (b : Bool) (vs us : List Version) → us ≡ (if b then flushed from to vs else vs) → count_by (is_erasable from to) us ≤ count_by (is_erasable from to) vs
-  fewer-count true vs us e =
-      let none : length (told from to us) ≡ 0 = ap (λ ws. length (told from to ws)) e ∙ ap length (told-flushed vs) in
-      omega (arith, told_count from to us)
-  fewer-count false vs us e = let same : count_by (is_erasable from to) us ≡ count_by (is_erasable from to) vs = ap (count_by (is_erasable from to)) e in omega arith
-
-  module _ {m now : Chains Version} {found : ObjectId → Option Kept} {asked : ObjectId → Bool} {rs : List Refund} (f : Flushes m now found asked from to rs) where
-    -- once some objects are flushed none has more to erase
-    pub fewer_erasable : (o : ObjectId) (k : Kept) → found o ≡ Some k → erasable_count now from to k ≤ erasable_count m from to k
-    fewer_erasable o k kept =
-        let data' : items_of now k.data.chain ≡ (if asked o then flushed from to (items_of m k.data.chain) else items_of m k.data.chain) = subst (λ x. held now x which.Data ≡ (if asked o then flushed_on from to which.Data (held m x which.Data) else held m x which.Data)) kept (f.tracks o which.Data) in
-        let attributes : items_of now k.attributes.chain ≡ (if asked o then flushed from to (items_of m k.attributes.chain) else items_of m k.attributes.chain) = subst (λ x. held now x which.Attributes ≡ (if asked o then flushed_on from to which.Attributes (held m x which.Attributes) else held m x which.Attributes)) kept (f.tracks o which.Attributes) in
-        let first = fewer-count (asked o) (items_of m k.data.chain) (items_of now k.data.chain) data' in
-        let second = fewer-count (asked o) (items_of m k.attributes.chain) (items_of now k.attributes.chain) attributes in
-        omega (arith, first, second)

@@ -1,6 +1,7 @@
 -- What is kept stands over a store, as objects are made, values are put, end, are erased and are freed.
 use Rattle.std.proofs.Common.{◌≡◌, ℕ, Bool, true, false, Option, Some, None, Result, Ok, Err, List, [], ◌∷◌, ◌++◌, refl, sym, ◌∙◌, ap, subst, drop}
 use Rattle.std.specs.Prelude.{◌&&◌, ◌||◌, ◌==◌, nat_le, is_some, IfOk, OnErr, if◌then◌else◌}
+use Rattle.std.specs.List.{list_all}
 use Rattle.std.specs.FinMap as finmap
 use Rattle.std.proofs.lemmas.Bool.{eqb-true, eq-eqb}
 use Rattle.std.proofs.lemmas.List.{append-nil}
@@ -19,7 +20,7 @@ use Rattle.s4_objects.specs.declared.kept.Kept.{Kept}
 use Rattle.s4_objects.specs.declared.ends.Ended.{Ended}
 use Rattle.s4_objects.specs.declared.flushes.Refund.{Refund}
 use Rattle.s4_objects.specs.Chains.{same_which, chain_of, held, Chained}
-use Rattle.s4_objects.specs.Ends.{is_of, ends_of, all_ends, all_by, IsRising, HasEnds, is_any}
+use Rattle.s4_objects.specs.Ends.{is_of, ends_of, all_ends, all_by, IsRising, HasEnds, is_any, is_timely}
 use Rattle.s4_objects.specs.Flushes.{flushed_on, Flushes}
 use Rattle.s4_objects.specs.Opening.{Begins, first_on, IsHollow, without}
 use Rattle.s4_objects.specs.Table.{holds_any, HoldsFor, SparesOthers, LeavesNone, Frees}
@@ -28,6 +29,7 @@ use Rattle.std.proofs.lemmas.List.Sorted.{IsNonDecreasingBy-short, IsNonDecreasi
 use Rattle.s4_tracks.proofs.Beginning.{InOrder}
 use Rattle.s4_objects.proofs.Beginning.{order_flushed}
 use Rattle.s4_objects.proofs.Flushing.{flushed_chained}
+use Rattle.s4_objects.proofs.Timing.{timely_flushed, timely_rest}
 use Rattle.s4_objects.proofs.Opening.{items_without, open_without, open_within}
 use Rattle.s4_objects.proofs.Standing.{which_self, which_is, open_before, chained_still, held_now}
 use Rattle.s4_objects.proofs.Queueing.{rising_more, all_ends_more, ends_more, flushed_has, flushed_any, freed_has, freed_any, freed_swept, none_wait}
@@ -98,7 +100,7 @@ module _ {chains new : Chains Version} {found : ObjectId → Option Kept} (c : C
       (λ t. ap (λ b. is_any (if b then f (items_of chains (chain_of w k)) else held chains (Some l) u)) t ∙ e))
 
 -- the current value of a track ends, and its end waits behind the others
-module _ {chains new : Chains Version} {found : ObjectId → Option Kept} {queue : List Ended} (h : HoldsFor chains found queue) (o : ObjectId) (k : Kept) (kept : found o ≡ Some k) (w : Which) (f : List Version → List Version)
+module _ {chains new : Chains Version} {found : ObjectId → Option Kept} {queue : List Ended} {reversed : Bool} (h : HoldsFor chains found queue reversed) (o : ObjectId) (k : Kept) (kept : found o ≡ Some k) (w : Which) (f : List Version → List Version)
     (changed : new ≡ finmap.insert chains (chain_of w k) (f (items_of chains (chain_of w k)))) (t : ℕ) where
   abbrev ended_now : Ended
   ended_now = record { end = t; object = o; which = w }
@@ -106,8 +108,14 @@ module _ {chains new : Chains Version} {found : ObjectId → Option Kept} {queue
   held-kept : items_of chains (chain_of w k) ≡ held chains (found o) w
   held-kept = sym (ap (λ x. held chains x w) kept)
 
-  pub holds_more : HasEnds (ends_of o w queue ++ t ∷ []) (f (held chains (found o) w)) → is_any (f (held chains (found o) w)) ≡ true → all_by t (all_ends queue) ≡ true → InOrder (f (held chains (found o) w)) → HoldsFor new found (queue ++ ended_now ∷ [])
-  holds_more has some later in_order = record {
+  pub holds_more : HasEnds (ends_of o w queue ++ t ∷ []) (f (held chains (found o) w)) → is_any (f (held chains (found o) w)) ≡ true → all_by t (all_ends queue) ≡ true → InOrder (f (held chains (found o) w)) → (more : Bool) → (more ≡ false → reversed ≡ false) → (more ≡ false → list_all is_timely (f (held chains (found o) w)) ≡ true)
+      → HoldsFor new found (queue ++ ended_now ∷ []) more
+  holds_more has some later in_order more never in_time = record {
+    timely = λ none q u. ap (list_all is_timely) (held_by h.chained o k kept w f changed q u) ∙ by_test (same_object o q && same_which w u)
+        (λ e. let parts = both (same_object o q) (same_which w u) e in
+        ap (λ b. list_all is_timely (if b then f (held chains (found q) u) else held chains (found q) u)) e
+        ∙ subst (λ x. list_all is_timely (f (held chains (found q) x)) ≡ true) (which_is w u parts.1) (subst (λ x. list_all is_timely (f (held chains (found x) w)) ≡ true) (object_is o q parts.0) (in_time none)))
+        (λ e. ap (λ b. list_all is_timely (if b then f (held chains (found q) u) else held chains (found q) u)) e ∙ h.timely (never none) q u);
     begun = λ q u. subst InOrder (sym (held_by h.chained o k kept w f changed q u)) (by_test (same_object o q && same_which w u)
         (λ e. let parts = both (same_object o q) (same_which w u) e in
         subst (λ b. InOrder (if b then f (held chains (found q) u) else held chains (found q) u)) (sym e)
@@ -145,8 +153,14 @@ module _ (from to : ℕ) where
   any-flushed which.Attributes true vs = flushed_any from to vs
   any-flushed which.Acl true vs = refl
 
-module _ {chains new : Chains Version} {found : ObjectId → Option Kept} {queue : List Ended} (h : HoldsFor chains found queue) (from to : ℕ) where
-  pub holds_flushed : {asked : ObjectId → Bool} {rs : List Refund} → Flushes chains new found asked from to rs → HoldsFor new found queue
+  timely-flushed : (w : Which) (b : Bool) (vs : List Version) → list_all is_timely (if b then flushed_on from to w vs else vs) ≡ list_all is_timely vs
+  timely-flushed w false vs = refl
+  timely-flushed which.Data true vs = timely_flushed from to vs
+  timely-flushed which.Attributes true vs = timely_flushed from to vs
+  timely-flushed which.Acl true vs = refl
+
+module _ {chains new : Chains Version} {found : ObjectId → Option Kept} {queue : List Ended} {reversed : Bool} (h : HoldsFor chains found queue reversed) (from to : ℕ) where
+  pub holds_flushed : {asked : ObjectId → Bool} {rs : List Refund} → Flushes chains new found asked from to rs → HoldsFor new found queue reversed
   holds_flushed {asked} f = record {
     chained = flushed_chained from to h.chained f;
     begun = λ o w. subst InOrder (sym (f.tracks o w)) (order_flushed from to w (asked o) (held chains (found o) w) (h.begun o w));
@@ -155,12 +169,13 @@ module _ {chains new : Chains Version} {found : ObjectId → Option Kept} {queue
     living = λ o k got. any-still chains new k (λ w e.
         ap is_any (subst (λ x. held new x w ≡ (if asked o then flushed_on from to w (held chains x w) else held chains x w)) got (f.tracks o w))
         ∙ any-flushed from to w (asked o) (items_of chains (chain_of w k)) ∙ e) (h.living o k got);
+    timely = λ never o w. ap (list_all is_timely) (f.tracks o w) ∙ timely-flushed from to w (asked o) (held chains (found o) w) ∙ h.timely never o w;
   }
 
   -- whether there was memory or not
-  pub holds_either : {A E : Type 0} (asked : ObjectId → Bool) (told : A → List Refund) (r : Result A E) → IfOk r (λ rs. Flushes chains new found asked from to (told rs)) → OnErr r (new ≡ chains) → HoldsFor new found queue
+  pub holds_either : {A E : Type 0} (asked : ObjectId → Bool) (told : A → List Refund) (r : Result A E) → IfOk r (λ rs. Flushes chains new found asked from to (told rs)) → OnErr r (new ≡ chains) → HoldsFor new found queue reversed
   holds_either asked told (Ok rs) f e = holds_flushed f
-  holds_either asked told (Err x) f e = subst (λ m. HoldsFor m found queue) (sym e) h
+  holds_either asked told (Err x) f e = subst (λ m. HoldsFor m found queue reversed) (sym e) h
 
   pub leaves_either : {A E : Type 0} (asked : ObjectId → Bool) (told : A → List Refund) (r : Result A E) → IfOk r (λ rs. Flushes chains new found asked from to (told rs)) → OnErr r (new ≡ chains) → LeavesNone chains new found found
   leaves_either asked told (Ok rs) f e c o u = (f.unopened c o, u)
@@ -168,7 +183,7 @@ module _ {chains new : Chains Version} {found : ObjectId → Option Kept} {queue
 
 -- AN OBJECT IS MADE
 
-module _ {chains new : Chains Version} {found found' : ObjectId → Option Kept} {queue : List Ended} (h : HoldsFor chains found queue) (o : ObjectId) (fresh : found o ≡ None) {k : Kept} {m creator : ℕ} (b : Begins chains new k m creator)
+module _ {chains new : Chains Version} {found found' : ObjectId → Option Kept} {queue : List Ended} {reversed : Bool} (h : HoldsFor chains found queue reversed) (o : ObjectId) (fresh : found o ≡ None) {k : Kept} {m creator : ℕ} (b : Begins chains new k m creator)
     (keeps : (q : ObjectId) → found' q ≡ (if same_object o q then Some k else found q)) where
   here : (q : ObjectId) → same_object o q ≡ true → found' q ≡ Some k
   here q e = keeps q ∙ ap (λ x. if x then Some k else found q) e
@@ -217,8 +232,16 @@ module _ {chains new : Chains Version} {found found' : ObjectId → Option Kept}
   none-waits : (w : Which) → ends_of o w queue ≡ []
   none-waits w = none_wait (ends_of o w queue) (subst (HasEnds (ends_of o w queue)) (ap (λ f. held chains f w) fresh) (h.queued o w))
 
-  pub holds_made : HoldsFor new found' queue
+  first-timely : (w : Which) → list_all is_timely (first_on w m creator ∷ []) ≡ true
+  first-timely which.Data = refl
+  first-timely which.Attributes = refl
+  first-timely which.Acl = refl
+
+  pub holds_made : HoldsFor new found' queue reversed
   holds_made = record {
+    timely = λ never q w. ap (list_all is_timely) (held_made q w) ∙ by_test (same_object o q)
+        (λ e. ap (λ x. list_all is_timely (if x then first_on w m creator ∷ [] else held chains (found q) w)) e ∙ first-timely w)
+        (λ e. ap (λ x. list_all is_timely (if x then first_on w m creator ∷ [] else held chains (found q) w)) e ∙ h.timely never q w);
     chained = chained-made;
     begun = λ q w. subst InOrder (sym (held_made q w)) (by_test (same_object o q)
         (λ e. subst (λ x. InOrder (if x then first_on w m creator ∷ [] else held chains (found q) w)) (sym e) (IsNonDecreasingBy-short (λ (v : Version). v.begin) (first_on w m creator ∷ []) (omega arith)))
@@ -364,7 +387,7 @@ frees_one {chains} {new} c o k kept w changed some = record {
 }
 
 -- the value whose end waits first
-module _ {chains : Chains Version} {found : ObjectId → Option Kept} {queue : List Ended} (e : Ended) (h : HoldsFor chains found (e ∷ queue)) where
+module _ {chains : Chains Version} {found : ObjectId → Option Kept} {queue : List Ended} {reversed : Bool} (e : Ended) (h : HoldsFor chains found (e ∷ queue) reversed) where
   first-has : HasEnds (e.end ∷ ends_of e.object e.which queue) (held chains (found e.object) e.which)
   first-has = subst (λ ends. HasEnds ends (held chains (found e.object) e.which))
       (ap (λ b. if b then e.end ∷ ends_of e.object e.which queue else ends_of e.object e.which queue) (ap (λ b. b && same_which e.which e.which) (object_self e.object) ∙ which_self e.which))
@@ -374,8 +397,11 @@ module _ {chains : Chains Version} {found : ObjectId → Option Kept} {queue : L
   first_any = freed_any e.end (ends_of e.object e.which queue) (held chains (found e.object) e.which) first-has
 
   module _ {new : Chains Version} {found' : ObjectId → Option Kept} (f : Frees chains new found found' e.object e.which) where
-    pub holds_drained : HoldsFor new found' queue
+    pub holds_drained : HoldsFor new found' queue reversed
     holds_drained = record {
+      timely = λ never q u. ap (list_all is_timely) (f.tracks q u) ∙ by_test (same_object e.object q && same_which e.which u)
+          (λ t. ap (λ b. list_all is_timely (if b then drop 1 (held chains (found q) u) else held chains (found q) u)) t ∙ timely_rest (held chains (found q) u) (h.timely never q u))
+          (λ t. ap (λ b. list_all is_timely (if b then drop 1 (held chains (found q) u) else held chains (found q) u)) t ∙ h.timely never q u);
       chained = f.chained;
       begun = λ q u. subst InOrder (sym (f.tracks q u)) (by_test (same_object e.object q && same_which e.which u)
           (λ t. subst (λ b. InOrder (if b then drop 1 (held chains (found q) u) else held chains (found q) u)) (sym t) (IsNonDecreasingBy-drop (λ (v : Version). v.begin) 1 (held chains (found q) u) (h.begun q u)))

@@ -6,6 +6,10 @@ pub mod Opening
 pub mod Standing
 pub mod Queueing
 pub mod Beginning
+pub mod Timing
 pub mod Holding
+pub mod Dues
+pub mod Spanning
+pub mod Nexting
 pub mod Using
 pub mod Fitting

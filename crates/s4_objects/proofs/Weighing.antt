@@ -9,7 +9,7 @@ use Rattle.s4_types.specs.declared.version.Version.{Version}
 use Rattle.s4_types.specs.Names.{same_purse}
 use Rattle.s4_types.specs.Spending.{sum_to}
 use Rattle.s4_types.proofs.Booleans.{by_test, both, not_both}
-use Rattle.s4_tracks.specs.Chain.{is_within, erased, flushed_one, flushed, is_erasable, told}
+use Rattle.s4_tracks.specs.Chain.{is_within, erased, flushed_one, flushed, is_erasable, told_by, told_of, told, first_told, with_first_erased}
 use Rattle.s4_objects.specs.declared.flushes.Refund.{Refund}
 use Rattle.s4_objects.specs.Flushes.{weight_by, weight_of, track_weight, refund_weight, refunded, refund_to, refunds_of}
 use Rattle.s4_objects.proofs.Counting.{erasable_end, told_erasable, told_none}
@@ -50,6 +50,29 @@ module _ (weight : ℕ → ℕ → ℕ) (from to : ℕ) where
       let kept : weight_of weight (flushed_one from to v) ≡ weight_of weight v = weight-kept v e in
       omega arith)
 
+  -- the same where one value is erased
+  track-next : (vs : List Version) → track_weight weight (with_first_erased from to vs) + told_weight (cons_option (first_told from to vs) []) ≡ track_weight weight vs
+  track-next [] = refl
+  track-next (v ∷ vs) =
+      let before : track_weight weight (v ∷ vs) ≡ weight_of weight v + track_weight weight vs = sum_by-cons (weight_of weight) v vs in
+      by_test (is_erasable from to v)
+      (λ e. let end = erasable_end from to v e in
+      let told' : first_told from to (v ∷ vs) ≡ Some (end.0, v.cost) = ap (λ b. if b then told_of v else first_told from to vs) e ∙ ap (told_by v.cost) end.1 in
+      let more : told_weight (cons_option (first_told from to (v ∷ vs)) []) ≡ weight end.0 v.cost + told_weight [] =
+      ap (λ o. told_weight (cons_option o [])) told' ∙ sum_by-cons (λ (t : ℕ × ℕ). weight t.0 t.1) (end.0, v.cost) [] in
+      let nothing : told_weight [] ≡ 0 = refl in
+      let now : track_weight weight (with_first_erased from to (v ∷ vs)) ≡ track_weight weight (erased v ∷ vs) = ap (λ b. track_weight weight (if b then erased v ∷ vs else v ∷ with_first_erased from to vs)) e in
+      let after : track_weight weight (erased v ∷ vs) ≡ weight_of weight (erased v) + track_weight weight vs = sum_by-cons (weight_of weight) (erased v) vs in
+      let gone : weight_of weight (erased v) ≡ 0 = refl in
+      let had : weight_of weight v ≡ weight end.0 v.cost = weight-erasable v end.0 e end.1 in
+      omega arith)
+      (λ e. let told' : told_weight (cons_option (first_told from to (v ∷ vs)) []) ≡ told_weight (cons_option (first_told from to vs) []) =
+      ap (λ b. told_weight (cons_option (if b then told_of v else first_told from to vs) [])) e in
+      let now : track_weight weight (with_first_erased from to (v ∷ vs)) ≡ track_weight weight (v ∷ with_first_erased from to vs) = ap (λ b. track_weight weight (if b then erased v ∷ vs else v ∷ with_first_erased from to vs)) e in
+      let after : track_weight weight (v ∷ with_first_erased from to vs) ≡ weight_of weight v + track_weight weight (with_first_erased from to vs) = sum_by-cons (weight_of weight) v (with_first_erased from to vs) in
+      let rest : track_weight weight (with_first_erased from to vs) + told_weight (cons_option (first_told from to vs) []) ≡ track_weight weight vs = track-next vs in
+      omega arith)
+
   module _ (q : Purse) where
     -- refunds of the purse itself, and of another
     refunded-own : (p : Purse) (ts : List (ℕ × ℕ)) → same_purse q p ≡ true → refunded weight p (map (refund_to q) ts) ≡ told_weight ts
@@ -60,20 +83,25 @@ module _ (weight : ℕ → ℕ → ℕ) (from to : ℕ) where
         ∙ ap (λ n. weight t.0 t.1 + n) (refunded-own p ts e)
         ∙ sym (sum_by-cons (λ (u : ℕ × ℕ). weight u.0 u.1) t ts)
 
+    pub refunded_none : (p : Purse) (ts : List (ℕ × ℕ)) → same_purse q p ≡ false → refunded weight p (map (refund_to q) ts) ≡ 0
+    refunded_none p [] e = refl
+    refunded_none p (t ∷ ts) e =
+        let front : refunded weight p (map (refund_to q) (t ∷ ts)) ≡ refund_weight weight p (refund_to q t) + refunded weight p (map (refund_to q) ts) = sum_by-cons (refund_weight weight p) (refund_to q t) (map (refund_to q) ts) in
+        let none : refund_weight weight p (refund_to q t) ≡ zero = ap (λ b. if b then weight t.0 t.1 else 0) e in
+        let rest : refunded weight p (map (refund_to q) ts) ≡ 0 = refunded_none p ts e in
+        omega arith
+
     pub refunded_other : (p : Purse) (vs : List Version) → same_purse q p ≡ false → refunded weight p (refunds_of q from to vs) ≡ 0
-    refunded_other p vs e = of (told from to vs)
-      where
-        of : (ts : List (ℕ × ℕ)) → refunded weight p (map (refund_to q) ts) ≡ 0
-        of [] = refl
-        of (t ∷ ts) =
-            let front : refunded weight p (map (refund_to q) (t ∷ ts)) ≡ refund_weight weight p (refund_to q t) + refunded weight p (map (refund_to q) ts) = sum_by-cons (refund_weight weight p) (refund_to q t) (map (refund_to q) ts) in
-            let none : refund_weight weight p (refund_to q t) ≡ zero = ap (λ b. if b then weight t.0 t.1 else 0) e in
-            let rest : refunded weight p (map (refund_to q) ts) ≡ 0 = of ts in
-            omega arith
+    refunded_other p vs e = refunded_none p (told from to vs) e
 
     -- what a track weighs less is refunded
     pub refunded_track : (p : Purse) (vs : List Version) → same_purse q p ≡ true → track_weight weight (flushed from to vs) + refunded weight p (refunds_of q from to vs) ≡ track_weight weight vs
     refunded_track p vs e = ap (λ n. track_weight weight (flushed from to vs) + n) (refunded-own p (told from to vs) e) ∙ track-flushed vs
+
+    -- what one value weighs
+    pub refunded_next : (p : Purse) (vs : List Version) → same_purse q p ≡ true
+        → track_weight weight (with_first_erased from to vs) + refunded weight p (map (refund_to q) (cons_option (first_told from to vs) [])) ≡ track_weight weight vs
+    refunded_next p vs e = ap (λ n. track_weight weight (with_first_erased from to vs) + n) (refunded-own p (cons_option (first_told from to vs) []) e) ∙ track-next vs
 
 pub refunded_both : (weight : ℕ → ℕ → ℕ) (p : Purse) (rs qs : List Refund) → refunded weight p (rs ++ qs) ≡ refunded weight p rs + refunded weight p qs
 refunded_both weight p rs qs = sum_by-append (refund_weight weight p) rs qs

@@ -1,5 +1,5 @@
 -- The ends of past values that are held, in the order in which they came.
-use Rattle.std.specs.Prelude.{◌≡◌, ℕ, Bool, true, false, ◌&&◌, nat_le, Some, None, List, [], ◌∷◌, map, if◌then◌else◌}
+use Rattle.std.specs.Prelude.{◌≡◌, ℕ, Bool, true, false, ◌&&◌, nat_le, nat_lt, Option, Some, None, List, [], ◌∷◌, map, if◌then◌else◌}
 use Rattle.std.specs.List.{list_all}
 use Rattle.s4_types.specs.declared.object.ObjectId.{ObjectId}
 use Rattle.s4_types.specs.declared.version.Version.{Version}
@@ -49,3 +49,16 @@ HasEnds (end ∷ ends) (v ∷ vs) = (v.end ≡ Some end) × HasEnds ends vs
 abbrev pub is_any : List Version → Bool
 is_any [] = false
 is_any (v ∷ vs) = true
+
+-- whether the value has no end, or one that isn't before its begin
+abbrev pub is_end_from : ℕ → Option ℕ → Bool
+is_end_from begin None = true
+is_end_from begin (Some end) = nat_le begin end
+
+abbrev pub is_timely : Version → Bool
+is_timely v = is_end_from v.begin v.end
+
+-- whether there is a value, and it begins after the moment
+abbrev pub is_later : ℕ → Option Version → Bool
+is_later m None = false
+is_later m (Some v) = nat_lt m v.begin

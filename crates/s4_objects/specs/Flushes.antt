@@ -70,10 +70,6 @@ abbrev pub erasable_of : Chains Version → ℕ → ℕ → Option Kept → ℕ
 erasable_of chains from to None = 0
 erasable_of chains from to (Some k) = erasable_count chains from to k
 
--- how many values of all these objects
-abbrev pub erasable_in : Chains Version → ℕ → ℕ → List (ObjectId × Kept) → ℕ
-erasable_in chains from to entries = sum_by (λ e. erasable_count chains from to e.1) entries
-
 -- the objects that are asked for are flushed of what lies between the moments, and nothing else changes
 pub record Flushes (before after : Chains Version) (found : ObjectId → Option Kept) (asked : ObjectId → Bool) (from to : ℕ)
     (refunds : List Refund) : Type 0 where

@@ -1,6 +1,7 @@
 -- What a change of other chains leaves of what is kept.
 use Rattle.std.proofs.Common.{◌≡◌, Option, Some, None, refl, sym, ◌∙◌, ap, subst}
 use Rattle.std.specs.Prelude.{◌||◌}
+use Rattle.std.specs.List.{list_all}
 use Rattle.std.specs.List.Sorted.{IsNonDecreasingBy}
 use Rattle.s4_store.specs.Chains.{Chains, items_of, IsOpen}
 use Rattle.s4_types.specs.declared.object.ObjectId.{ObjectId}
@@ -10,7 +11,7 @@ use Rattle.s4_objects.specs.declared.kept.Which.TheVariants as which
 use Rattle.s4_objects.specs.declared.kept.Kept.{Kept}
 use Rattle.s4_objects.specs.declared.objects.Objects.{Objects}
 use Rattle.s4_objects.specs.Chains.{chain_of, held}
-use Rattle.s4_objects.specs.Ends.{ends_of, HasEnds, is_any}
+use Rattle.s4_objects.specs.Ends.{ends_of, HasEnds, is_any, is_timely}
 use Rattle.s4_objects.specs.Table.{found_in, held_in, Holds}
 
 -- the chains of the objects' tracks are open, and hold what they held
@@ -40,4 +41,5 @@ module _ {old new : Chains Version} {objects : Objects} (k : KeepsObjects old ne
         ∙ ap (λ vs. is_any (items_of old l.data.chain) || is_any vs || is_any (items_of new l.acl.chain)) (k.items o l which.Attributes got)
         ∙ ap (λ vs. is_any (items_of old l.data.chain) || is_any (items_of old l.attributes.chain) || is_any vs) (k.items o l which.Acl got)
         ∙ h.living o l got;
+    timely = λ never o w. ap (list_all is_timely) (held_still o w) ∙ h.timely never o w;
   }

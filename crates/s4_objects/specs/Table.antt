@@ -1,6 +1,7 @@
 -- What is kept of objects, as its callers see it.
 use Rattle.std.specs.Prelude.{◌≡◌, ℕ, Bool, true, false, ◌||◌, ◌&&◌, ◌==◌, is_some, Option, Some, List, drop, if◌then◌else◌}
 use Rattle.std.specs.BTreeMap.{get}
+use Rattle.std.specs.List.{list_all}
 use Rattle.std.specs.List.Sorted.{IsNonDecreasingBy}
 use Rattle.s4_store.specs.Chains.{Chains, items_of, IsOpen}
 use Rattle.s4_types.specs.declared.object.ObjectId.{ObjectId}
@@ -12,7 +13,7 @@ use Rattle.s4_objects.specs.declared.ends.Ended.{Ended}
 use Rattle.s4_objects.specs.declared.objects.Objects.{Objects}
 use Rattle.s4_objects.specs.Keys.{object_cmp}
 use Rattle.s4_objects.specs.Chains.{same_which, chain_of, held, Chained}
-use Rattle.s4_objects.specs.Ends.{ends_of, all_ends, IsRising, HasEnds, is_any}
+use Rattle.s4_objects.specs.Ends.{ends_of, all_ends, IsRising, HasEnds, is_any, is_timely}
 
 -- WHAT IS KEPT
 
@@ -42,7 +43,7 @@ abbrev pub holds_any : Chains Version → Kept → Bool
 holds_any chains k = is_any (items_of chains k.data.chain) || is_any (items_of chains k.attributes.chain)
     || is_any (items_of chains k.acl.chain)
 
-pub record HoldsFor (chains : Chains Version) (found : ObjectId → Option Kept) (queue : List Ended) : Type 0 where
+pub record HoldsFor (chains : Chains Version) (found : ObjectId → Option Kept) (queue : List Ended) (reversed : Bool) : Type 0 where
   pub chained : Chained chains found
   -- the ends of a track's past values wait in their order, and only its newest value may have none
   pub queued : (o : ObjectId) (w : Which) → HasEnds (ends_of o w queue) (held chains (found o) w)
@@ -51,9 +52,11 @@ pub record HoldsFor (chains : Chains Version) (found : ObjectId → Option Kept)
   pub begun : (o : ObjectId) (w : Which) → IsNonDecreasingBy (λ v. v.begin) (held chains (found o) w)
   -- an object without values isn't kept
   pub living : (o : ObjectId) (k : Kept) → found o ≡ Some k → holds_any chains k ≡ true
+  -- no value ended before it began, unless it is told that one did
+  pub timely : reversed ≡ false → (o : ObjectId) (w : Which) → list_all is_timely (held chains (found o) w) ≡ true
 
 abbrev pub Holds : Chains Version → Objects → Type 0
-Holds chains objects = HoldsFor chains (found_in objects) objects.ends.items
+Holds chains objects = HoldsFor chains (found_in objects) objects.ends.items objects.has_reversed
 
 -- no track has the chain
 abbrev pub IsUnused : (ObjectId → Option Kept) → ℕ → Type 0

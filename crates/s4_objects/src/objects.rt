@@ -7,13 +7,13 @@ ghost use Rattle.std.specs.Option.{option_copied};
 ghost use Rattle.s4_types.specs.declared.object.ObjectId.{ObjectId};
 ghost use Rattle.s4_types.specs.declared.version.Version.{Version};
 ghost use Rattle.s4_types.specs.Names.{same_object};
-ghost use Rattle.s4_store.specs.Chains.{Chains, item_count, newest_of};
+ghost use Rattle.s4_store.specs.Chains.{Chains, items_of, item_count, newest_of, IsOpen};
 ghost use Rattle.s4_tracks.specs.Chain.{IsSmall, current_of, version_in, with_end, with_put};
 ghost use Rattle.s4_tracks.specs.Swept.{IsSwept};
 ghost use Rattle.s4_objects.specs.declared.kept.Which.{Which};
 ghost use Rattle.s4_objects.specs.Chains.{same_which};
 ghost use Rattle.s4_objects.specs.Keys.{object_cmp};
-ghost use Rattle.s4_objects.specs.Ends.{is_gone, all_by};
+ghost use Rattle.s4_objects.specs.Ends.{is_gone, all_by, is_later};
 ghost use Rattle.s4_objects.specs.Opening.{first_on};
 ghost use Rattle.s4_objects.specs.Flushes.{Flushes, erasable_of};
 ghost use Rattle.s4_objects.specs.Table.{found_in, kept_in, held_in, ends_in, room_in, Holds, KeepsOthers, LeavesNoChain};
@@ -25,6 +25,7 @@ use crate::free::free;
 use crate::kept::{Kept, Which};
 use s4_queue::Queue;
 use s4_store::Store;
+use s4_tracks::Track;
 use s4_types::{Acl, Item, Moment, NoMemory, ObjectId, Version};
 use std::alloc::Global;
 use std::collections::BTreeMap;
@@ -36,6 +37,8 @@ use std::collections::BTreeMap;
 pub struct Objects {
     pub(crate) kept: BTreeMap<ObjectId, Kept>,
     pub(crate) ends: Queue<Ended>,
+    // Whether a value ever ended before it began: then its end tells nothing of its begin.
+    pub(crate) has_reversed: bool,
 }
 
 impl Objects {
@@ -50,6 +53,7 @@ impl Objects {
         Objects {
             kept: BTreeMap::new(alloc),
             ends: Queue::new(alloc),
+            has_reversed: false,
         }
     }
 
@@ -232,7 +236,9 @@ impl Objects {
         ensures store_room { S.room store.new ≡ S.room store.old }
     {
         let kept = self.kept.get(object).copied().unwrap();
-        kept.track(which).end(store, moment);
+        let track = kept.track(which);
+        self.has_reversed |= begins_after(store, &track, moment);
+        track.end(store, moment);
         self.ends.push(Ended {
             end: moment,
             object: *object,
@@ -242,8 +248,9 @@ impl Objects {
 
     /// Erases the past values of all objects' data and attributes that begin at or after `from` and
     /// end at or before `to`, and puts what that takes back of the purses' charges into a list that
-    /// is empty. It looks at each value that is held. It takes no memory where the list has room
-    /// for as many as the store holds.
+    /// is empty. It goes over the ends that lie between those moments, and finds the value of each in
+    /// O(log) looks; where a track had several values at one moment, each of their ends may look at
+    /// all of them. It takes no memory where the list has room for as many as the store holds.
     pub fn flush<S: Store<Version>>(
         &self,
         store: &mut S,
@@ -264,7 +271,7 @@ impl Objects {
         ensures leaves { LeavesNoChain (S.chains store.old) (S.chains store.new) self.now self.now }
         ensures room { S.room store.new ≡ S.room store.old }
     {
-        flushes::flush(store, &self.kept, from, to, refunds)
+        flushes::flush(store, self, from, to, refunds)
     }
 
     /// Erases the past values of one object's data and attributes that begin at or after `from` and
@@ -325,6 +332,17 @@ impl Objects {
             free(store, &mut self.kept, &ended.object, ended.which);
         }
         most
+    }
+}
+
+// Whether the current value of a track begins after the moment.
+fn begins_after<S: Store<Version>>(store: &S, track: &Track, moment: Moment) -> bool
+    requires { IsOpen (S.chains store.now) track.now.chain }
+    ensures { result ≡ is_later moment (current_of (items_of (S.chains store.now) track.now.chain)) }
+{
+    match track.current(store) {
+        Some(version) => moment < version.begin,
+        None => false,
     }
 }
 

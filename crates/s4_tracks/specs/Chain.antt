@@ -1,5 +1,5 @@
 -- The values of one track as a chain holds them: oldest first, and each but the newest with an end.
-use Rattle.std.specs.Prelude.{ℕ, Bool, ◌+◌, ◌*◌, ◌^◌, ◌<◌, ◌≤◌, ◌&&◌, nat_le, Option, Some, None, is_some, List, [], ◌∷◌, ◌++◌, fold, map, filter_map, length, if◌then◌else◌}
+use Rattle.std.specs.Prelude.{ℕ, Bool, false, nat_lt, ◌+◌, ◌*◌, ◌^◌, ◌<◌, ◌≤◌, ◌&&◌, nat_le, Option, Some, None, is_some, List, [], ◌∷◌, ◌++◌, fold, map, filter_map, length, if◌then◌else◌}
 use Rattle.s4_store.specs.Chains.{newest_of}
 use Rattle.s4_types.specs.declared.version.Version.{Version}
 use Rattle.s4_types.specs.Versions.{ends_by}
@@ -122,6 +122,14 @@ told from to vs = filter_map (told_if from to) vs
 -- whether the value is past, and its end is at most the horizon
 abbrev pub is_expired : ℕ → Version → Bool
 is_expired horizon v = ends_by horizon v.end
+
+-- whether the value is past, and its end is below the moment
+abbrev pub end_is_before : ℕ → Option ℕ → Bool
+end_is_before m None = false
+end_is_before m (Some end) = nat_lt end m
+
+abbrev pub ended_before : ℕ → Version → Bool
+ended_before m v = end_is_before m v.end
 
 -- an end, and then one that isn't below it or none
 abbrev pub EndsBefore : Option ℕ → Option ℕ → Type 0

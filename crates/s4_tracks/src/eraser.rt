@@ -106,7 +106,7 @@ impl<P: Copy> Eraser<P> {
 }
 
 // Whether a flush of these moments has yet to erase the value.
-fn is_erasable(version: &Version, from: Moment, to: Moment) -> bool
+pub(crate) fn is_erasable(version: &Version, from: Moment, to: Moment) -> bool
     ensures { result ≡ can_be_erased from to version.now }
 {
     from.tick() <= version.begin.tick() && is_by(version.end, to) && version.item.is_some()

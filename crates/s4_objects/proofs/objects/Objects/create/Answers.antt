@@ -24,8 +24,8 @@ returns-in-Err-clause-refused g c = c.close.ensures.chains ∙ closed c.in_ok-ke
 
 pub returns-in-Err-clause-holds : goal.returns-in-Err-clause-holds
 returns-in-Err-clause-holds g c =
-    subst (λ m. HoldsFor m (get object_cmp c.keep.new.objects) c.args.self.now.ends.items) (sym (c.close.ensures.chains ∙ closed c.in_ok-kept.ensures.ok))
-    (subst (λ f. HoldsFor (g.S.Store.chains c.args.store.now) f c.args.self.now.ends.items) (λ i q. sym (c.in-Err.ensures.err q) i) c.requires.holds)
+    subst (λ m. HoldsFor m (get object_cmp c.keep.new.objects) c.args.self.now.ends.items c.args.self.now.has_reversed) (sym (c.close.ensures.chains ∙ closed c.in_ok-kept.ensures.ok))
+    (subst (λ f. HoldsFor (g.S.Store.chains c.args.store.now) f c.args.self.now.ends.items c.args.self.now.has_reversed) (λ i q. sym (c.in-Err.ensures.err q) i) c.requires.holds)
 
 pub returns-in-Err-clause-others : goal.returns-in-Err-clause-others
 returns-in-Err-clause-others g c =

@@ -34,8 +34,8 @@ loop-freed-init g c = record {
 }
 
 -- what is kept, where the end that waits first is shown
-holds-first : (g : Over) (c : In-Some g) → HoldsFor (g.S.Store.chains c.loop-freed.store) (found_in c.loop-freed.self) (c.in-Some.ended ∷ c.take_gone.new.ends.items)
-holds-first g c = subst (HoldsFor (g.S.Store.chains c.loop-freed.store) (found_in c.loop-freed.self)) c.in-Some.ensures.taken c.loop-freed.invariant.holds
+holds-first : (g : Over) (c : In-Some g) → HoldsFor (g.S.Store.chains c.loop-freed.store) (found_in c.loop-freed.self) (c.in-Some.ended ∷ c.take_gone.new.ends.items) c.loop-freed.self.has_reversed
+holds-first g c = subst (λ es. HoldsFor (g.S.Store.chains c.loop-freed.store) (found_in c.loop-freed.self) es c.loop-freed.self.has_reversed) c.in-Some.ensures.taken c.loop-freed.invariant.holds
 
 pub free-requires-clause-chained : goal.free-requires-clause-chained
 free-requires-clause-chained g c = c.loop-freed.invariant.holds.chained
@@ -85,7 +85,7 @@ pub returns-in_default-clause-kept : goal.returns-in_default-clause-kept
 returns-in_default-clause-kept g c o kept = some-there (found_in c.loop-freed.self o) (found_in c.args.self.now o) (c.loop-freed.invariant.kept o) kept
 
 pub returns-in_default-clause-holds : goal.returns-in_default-clause-holds
-returns-in_default-clause-holds g c = subst (HoldsFor (g.S.Store.chains c.loop-freed.store) (found_in c.loop-freed.self)) (sym c.in_default.ensures.same) c.loop-freed.invariant.holds
+returns-in_default-clause-holds g c = subst (λ es. HoldsFor (g.S.Store.chains c.loop-freed.store) (found_in c.loop-freed.self) es c.loop-freed.self.has_reversed) (sym c.in_default.ensures.same) c.loop-freed.invariant.holds
 
 pub returns-clause-first : goal.returns-clause-first
 returns-clause-first g c =

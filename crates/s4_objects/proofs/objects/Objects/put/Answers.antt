@@ -8,6 +8,7 @@ use Rattle.s4_objects.specs.Table.{HoldsFor, found_in, held_in, ends_in}
 use Rattle.s4_objects.proofs.Queueing.{by_more, all_ends_more, put_has, put_any}
 use Rattle.s4_objects.proofs.Holding.{held_by, spares_by, leaves_by, holds_more}
 use Rattle.s4_objects.proofs.Beginning.{order_put}
+use Rattle.s4_objects.proofs.Timing.{timely_put}
 use Rattle.s4_objects.proofs.Using.{used_put}
 use Rattle.s4_objects.proofs.objects.Objects.put.Given.{Over}
 use Rattle.s4_objects.proofs.objects.Objects.put.Goals as goal
@@ -23,9 +24,10 @@ pub returns-clause-holds : goal.returns-clause-holds
 returns-clause-holds g c =
     let at = (goal.at.returns-clause-holds g c).After-push in
     let values = held_in (g.S.Store.chains c.args.store.now) c.args.self.now c.args.object.now c.args.which in
-    subst (HoldsFor (g.S.Store.chains c.put.new.store) (found_in c.args.self.now)) (sym c.push.ensures.items)
+    subst (λ es. HoldsFor (g.S.Store.chains c.put.new.store) (found_in c.args.self.now) es c.args.self.now.has_reversed) (sym c.push.ensures.items)
     (holds_more c.requires.holds c.args.object.now c.unwrap-kept.result (found g at) c.args.which (with_put c.args.moment c.args.item) (changed g at) c.args.moment
-    (put_has c.args.moment c.args.item _ values (c.requires.holds.queued c.args.object.now c.args.which) c.requires.current) (put_any c.args.moment c.args.item values) c.requires.later (order_put c.args.moment c.args.item values c.requires.begun (c.requires.holds.begun c.args.object.now c.args.which)))
+    (put_has c.args.moment c.args.item _ values (c.requires.holds.queued c.args.object.now c.args.which) c.requires.current) (put_any c.args.moment c.args.item values) c.requires.later (order_put c.args.moment c.args.item values c.requires.begun (c.requires.holds.begun c.args.object.now c.args.which))
+    c.args.self.now.has_reversed (λ never. never) (λ never. timely_put c.args.moment c.args.item values c.requires.begun (c.requires.holds.timely never c.args.object.now c.args.which)))
 
 pub returns-clause-held : goal.returns-clause-held
 returns-clause-held g c =
