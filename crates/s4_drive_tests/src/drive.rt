@@ -4,7 +4,7 @@ use crate::asked::{Asked, Told, reply, request};
 use crate::counting::Counting;
 use s4_drive::{Drive, never_down};
 use s4_store::PlainStore;
-use s4_types::{Moment, Step};
+use s4_types::{Moment, Request, Step};
 use s4_values_for_tests::{caller, object};
 use std::alloc::Global;
 use std::cell::Cell;
@@ -151,6 +151,49 @@ fn steps_are_answered(rt: HostRuntime) -> Result<(), Fail> {
         check_rows(&rt, alloc, &mut fresh(alloc, &reads, 100), &reads, rows)?;
         check_at_once(&rt, alloc, &mut fresh(alloc, &reads, 100), rows)?;
     }
+    Ok(())
+}
+
+/// Makes the object at 1, and writes it at each moment from there up to the last.
+fn write_until(
+    rt: &impl Abort,
+    alloc: Global,
+    drive: &mut Drive<Counting>,
+    last: u64,
+) -> Result<(), Fail> {
+    let of = object((7, 0), 1)?;
+    for tick in 1..last {
+        let asked = if tick == 1 {
+            Asked::Create
+        } else {
+            Asked::Write(0, b"a")
+        };
+        let moment = Moment::new(tick);
+        assert!(rt; drive.last() <= moment);
+        drive.step(moment, caller(7)?, &request(alloc, &of, &asked)?);
+    }
+    Ok(())
+}
+
+/// A flush looks at no more of 200 values than it takes to find the four that end in its span.
+#[test]
+fn a_flush_finds_the_values_of_its_span(rt: HostRuntime) -> Result<(), Fail> {
+    let (alloc, reads, last) = (rt.alloc(), Cell::new(0), 200);
+    let mut drive = fresh(alloc, &reads, 1000);
+    write_until(&rt, alloc, &mut drive, last)?;
+    reads.set(0);
+    let (moment, flush) = (
+        Moment::new(last),
+        Request::Flush {
+            from: Moment::new(100),
+            to: Moment::new(103),
+        },
+    );
+    assert!(rt; drive.last() <= moment);
+    let told = drive.step(moment, caller(0)?, &flush);
+    assert_eq!(rt; told, reply(alloc, &object((7, 0), 1)?, &Told::Done)?);
+    let looks = reads.get();
+    assert!(rt; 0 < looks && looks <= 4 * (8 + 2), "{looks} looks");
     Ok(())
 }
 
