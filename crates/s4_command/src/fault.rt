@@ -1,11 +1,10 @@
 //! Why words spell no command.
 
 ghost use Rattle.std.specs.Prelude.{◌≡◌, Some};
-ghost use Rattle.s4_command.specs.Faults.{IsFaultOf, exit_status, fault_of_call, fault_of_request, fault_text};
+ghost use Rattle.s4_command.specs.Faults.{IsFaultOf, exit_status, fault_of_call, fault_text};
 ghost use Rattle.s4_command.specs.declared.fault.WordsFault.TheVariants as fault;
 
 use s4_client::CallFault;
-use s4_script::ParseError;
 use std::alloc::{AllocError, AllocFailed, Global};
 use std::fmt;
 use thiserror::Error;
@@ -15,10 +14,12 @@ use thiserror::Error;
 pub enum WordsFault {
     /// They are wrong; the text says how.
     Wrong(String),
-    /// The file with this path, which one of them names, can't be read, or is no text.
+    /// A file that one of them names can't be read, or is no text. The text is its path, and why.
     CannotReadFile(String),
-    /// They spell no request, or one that has no spelling within a frame.
-    BadRequest,
+    /// They spell no request; the text says which word is wrong.
+    BadRequest(String),
+    /// They spell a request that has no spelling within a frame.
+    TooLong,
     /// There isn't enough memory.
     NoMemory,
 }
@@ -48,20 +49,10 @@ impl fmt::Display for WordsFault {
     fn fmt<W: fmt::Write>(&self, f: &mut fmt::Formatter<W>) -> fmt::Result {
         match self {
             WordsFault::Wrong(text) => write!(f, "{text}"),
-            WordsFault::CannotReadFile(path) => write!(f, "cannot read {path}"),
-            WordsFault::BadRequest => write!(f, "bad request"),
+            WordsFault::CannotReadFile(told) => write!(f, "cannot read {told}"),
+            WordsFault::BadRequest(cause) => write!(f, "bad request: {cause}"),
+            WordsFault::TooLong => write!(f, "bad request: it is longer than a frame takes"),
             WordsFault::NoMemory => write!(f, "no memory"),
-        }
-    }
-}
-
-impl From<ParseError> for WordsFault {
-    ghost from_gives = { λ request why. why ≡ fault_of_request request };
-
-    fn from(fault: ParseError) -> WordsFault {
-        match fault {
-            ParseError::Bad => WordsFault::BadRequest,
-            ParseError::NoMemory => WordsFault::NoMemory,
         }
     }
 }
@@ -72,7 +63,7 @@ impl From<CallFault> for WordsFault {
     fn from(fault: CallFault) -> WordsFault {
         match fault {
             CallFault::NoMemory => WordsFault::NoMemory,
-            _ => WordsFault::BadRequest,
+            _ => WordsFault::TooLong,
         }
     }
 }

@@ -2,16 +2,18 @@
 //! "The commands").
 #![tactic(auto)]
 
+mod asking;
 mod call;
+mod checks;
 mod command;
 mod fault;
 mod history;
 mod service;
-mod settings;
 
+pub use asking::{Asker, Askers, Asking, Company};
 pub use call::Call;
-pub use command::Command;
+pub use checks::{FileCheck, TextKind};
+pub use command::{Command, Explained};
 pub use fault::WordsFault;
-pub use history::{History, Telling};
+pub use history::{Form, History, Peer, Records, Starts, Subject, Telling, Time};
 pub use service::{Journal, Service};
-pub use settings::{Patience, Settings};

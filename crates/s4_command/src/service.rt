@@ -1,6 +1,6 @@
 //! What a served drive is.
 
-use crate::settings::Settings;
+use s4_settings::Settings;
 
 /// A served drive: where it listens, the file of who may log in, and how it is set up.
 #[derive(Drop)]
@@ -15,6 +15,12 @@ pub struct Service {
     pub setup: Option<String>,
     /// The path of the file in which the server tells of itself, where there is one.
     pub status: Option<String>,
+    /// The path of the file in which it tells the same as text, where there is one.
+    pub status_text: Option<String>,
+    /// Whether its lines on standard error begin with the time.
+    pub logs_times: bool,
+    /// Whether the moment at the start is the time then, in milliseconds since 1970, and not the one of the settings.
+    pub begins_now: bool,
     /// Where it keeps its history, if it does.
     pub journal: Option<Journal>,
     pub settings: Settings,
@@ -27,4 +33,6 @@ pub struct Journal {
     pub folder: String,
     /// Whether the system is to write each second what it was given, to where it lasts.
     pub syncs: bool,
+    /// The path of the file that gets a line each minute about how far it is, where there is one.
+    pub sums: Option<String>,
 }

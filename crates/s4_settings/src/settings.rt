@@ -1,7 +1,9 @@
 //! How a server is set up.
 
 ghost use Rattle.std.specs.Prelude.{◌≡◌, ◌<◌, ◌≤◌};
-ghost use Rattle.s4_command.specs.Bounds.{tenants_of};
+ghost use Rattle.s4_settings.specs.Bounds.{tenants_of};
+
+use std::net::IpAddr;
 
 /// For how long a server has patience with a peer, in milliseconds; 0 for ever.
 #[derive(Clone, Copy, PartialEq, Eq)]
@@ -28,7 +30,9 @@ pub struct Settings {
     pub open: u32,
     /// How many of them may be open from one address; 0 where there is no bound.
     pub open_each: u32,
-    /// The moment at the start.
+    /// The address from which a proxy passes connections on, where there is one.
+    pub proxy: Option<IpAddr>,
+    /// The moment at the start, unless the service begins now.
     pub first: u64,
     /// Whether records that no reply needs any more are cut.
     pub cuts: bool,
@@ -57,6 +61,7 @@ impl Settings {
             },
             open: 1024,
             open_each: 0,
+            proxy: None,
             first: 0,
             cuts: false,
             records: None,
