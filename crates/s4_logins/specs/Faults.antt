@@ -21,4 +21,5 @@ fault_of_text text_fault.NoMemory = fault.NoMemory
 abbrev pub fault_text : LoginsFault → List ℕ
 fault_text (fault.Line number) = codes "logins line " ++ decimal number
 fault_text fault.CannotRead = codes "cannot read logins"
+fault_text fault.Unguarded = codes "others may write the logins"
 fault_text fault.NoMemory = codes "no memory"

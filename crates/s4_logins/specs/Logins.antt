@@ -1,6 +1,6 @@
--- What reading a text of logins gives.
-use Rattle.std.specs.Prelude.{◌≡◌, ⊤, Result, Ok, Err}
-use Rattle.s4_stream.specs.Logins.{Logins}
+-- What reading a text of logins gives, and what is the same in two tables.
+use Rattle.std.specs.Prelude.{◌≡◌, ⊤, Bool, ◌==◌, ◌&&◌, Result, Ok, Err, length}
+use Rattle.s4_stream.specs.Logins.{Logins, changed_in, missing_in}
 use Rattle.s4_stream.specs.declared.logins.LoginFault.{LoginFault}
 use Rattle.s4_logins.specs.declared.fault.LoginsFault.{LoginsFault}
 use Rattle.s4_logins.specs.declared.fault.LoginsFault.TheVariants as fault
@@ -15,3 +15,7 @@ told (Err why) = Err (fault_of_logins why)
 abbrev pub IsLogins : Result Logins LoginsFault → Result Logins LoginFault → Type 0
 IsLogins (Err fault.NoMemory) said = ⊤
 IsLogins result said = result ≡ told said
+
+-- whether the newer table adds, changes and removes nobody
+abbrev pub is_same_table : Logins → Logins → Bool
+is_same_table older newer = length (missing_in newer older) == 0 && length (changed_in older newer) == 0 && length (missing_in older newer) == 0

@@ -17,6 +17,8 @@ pub enum LoginsFault {
     Line(usize),
     /// The logins can't be read, or are no text.
     CannotRead,
+    /// Others than the file's owner may write it.
+    Unguarded,
     /// There isn't enough memory.
     NoMemory,
 }
@@ -40,6 +42,7 @@ impl fmt::Display for LoginsFault {
         match self {
             LoginsFault::Line(number) => write!(f, "logins line {number}"),
             LoginsFault::CannotRead => write!(f, "cannot read logins"),
+            LoginsFault::Unguarded => write!(f, "others may write the logins"),
             LoginsFault::NoMemory => write!(f, "no memory"),
         }
     }

@@ -6,5 +6,5 @@ mod reading;
 mod reloading;
 
 pub use fault::LoginsFault;
-pub use reading::{open_logins, read_logins};
+pub use reading::{open_guarded, open_logins, read_logins};
 pub use reloading::Reloading;

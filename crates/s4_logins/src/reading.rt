@@ -10,11 +10,27 @@ use crate::fault::LoginsFault;
 use s4_script::{read_file, read_up_to};
 use s4_stream::Logins;
 use std::alloc::Global;
+use std::fs;
 use std::io::Read;
+use std::os::unix::fs::MetadataExt;
 use std::rt::Files;
 
 /// The most bytes of a text of logins, and the most reads that it may take.
 const TEXT_LIMIT: u32 = 268435456;
+
+/// What a file's mode has where others than its owner may write it.
+const OTHERS_WRITE: u32 = 0o022;
+
+/// The logins of the file with that path. `Unguarded` where others than its owner may write it: whoever
+/// writes it logs in as anybody.
+pub fn open_guarded<R: Files + AllocGlobal>(rt: &R, path: &str) -> Result<Logins, LoginsFault> {
+    let is_unguarded = fs::metadata(rt, path).is_ok_and(|metadata| metadata.is_file()
+        && metadata.mode() & OTHERS_WRITE != 0);
+    if is_unguarded {
+        return Err(LoginsFault::Unguarded);
+    }
+    open_logins(rt, path)
+}
 
 /// The logins of the file with that path.
 pub fn open_logins<R: Files + AllocGlobal>(rt: &R, path: &str) -> Result<Logins, LoginsFault> {

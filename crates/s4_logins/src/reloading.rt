@@ -1,10 +1,11 @@
 //! A file of logins that is read again where it has changed.
 
-ghost use Rattle.std.specs.Prelude.{◌≡◌, ◌-◌, ◌<◌, false, IfOk, IsErr, OnErr};
+ghost use Rattle.std.specs.Prelude.{◌≡◌, ◌-◌, ◌<◌, false, IfOk, IfSome, IsErr, OnErr};
 ghost use Rattle.std_alloc.specs.Arc.{arc_value};
+ghost use Rattle.s4_logins.specs.Logins.{is_same_table};
 
 use crate::fault::LoginsFault;
-use crate::reading::open_logins;
+use crate::reading::open_guarded;
 use s4_stream::Logins;
 use std::alloc::Global;
 use std::fs;
@@ -32,8 +33,10 @@ pub struct Reloading<'a> {
     every: u64,
     /// The newest table that was read.
     table: Arc<Logins>,
-    /// How the file looked when it was last read.
+    /// How the file looked when it was last looked at.
     stamp: Option<Stamp>,
+    /// Whether it was looked at. Up to then it may have changed since the table was read.
+    was_looked_at: bool,
     /// When it was last looked, in milliseconds.
     looked: u64,
 }
@@ -48,13 +51,15 @@ impl Drop for Reloading<'_> {
             every: _,
             table: _,
             stamp: _,
+            was_looked_at: _,
             looked: _,
         } = self;
     }
 }
 
 impl<'a> Reloading<'a> {
-    /// Begins with the table that was read before the server listened, and the file as it is now.
+    /// Begins with the table that was read before the server listened. The file is looked at first when
+    /// it is time: then its table is read, and compared with this one.
     pub fn new(
         alloc: Global,
         files: &'a HostRuntime,
@@ -73,12 +78,14 @@ impl<'a> Reloading<'a> {
             path,
             every,
             table,
-            stamp: stamp_of(files, path),
+            stamp: None,
+            was_looked_at: false,
             looked: now,
         }
     }
 
-    /// Whether it is time to look at the file, and that has changed since it was last read.
+    /// Whether it is time to look at the file, and that has changed since it was last looked at, or at
+    /// first has another table than the one to begin with.
     pub fn is_due(&mut self, now: u64) -> bool
         ensures never { self.old.every ≡ 0 → result ≡ false }
         ensures early { now - self.old.looked < self.old.every → result ≡ false }
@@ -89,9 +96,22 @@ impl<'a> Reloading<'a> {
         }
         self.looked = now;
         let stamp = stamp_of(self.files, self.path);
-        let has_changed = stamp != self.stamp;
+        let has_changed = if self.was_looked_at {
+            stamp != self.stamp
+        } else {
+            !self.has_table()
+        };
+        self.was_looked_at = true;
         self.stamp = stamp;
         has_changed
+    }
+
+    /// Whether the file has the newest table. Where that can't be told it hasn't.
+    fn has_table(&self) -> bool {
+        match open_regular(self.files, self.path) {
+            Ok(logins) => is_same(self.alloc, &self.table, &logins).unwrap_or(false),
+            Err(_) => false,
+        }
     }
 
     /// Reads the logins, which are the newest table from now on, and gives that. Where they can't be
@@ -118,9 +138,20 @@ impl<'a> Reloading<'a> {
 /// ever write into it.
 fn open_regular(files: &HostRuntime, path: &str) -> Result<Logins, LoginsFault> {
     match fs::metadata(files, path) {
-        Ok(metadata) if metadata.is_file() => open_logins(files, path),
+        Ok(metadata) if metadata.is_file() => open_guarded(files, path),
         _ => Err(LoginsFault::CannotRead),
     }
+}
+
+/// Whether the newer table has the logins of the older one and no others; none where there is no memory
+/// to tell it.
+fn is_same(alloc: Global, older: &Logins, newer: &Logins) -> Option<bool>
+    ensures { IfSome result (λ same. same ≡ is_same_table older.now newer.now) }
+{
+    let added = newer.missing_in(alloc, older).ok()?;
+    let changed = older.changed_in(alloc, newer).ok()?;
+    let removed = older.missing_in(alloc, newer).ok()?;
+    Some(added.is_empty() && changed.is_empty() && removed.is_empty())
 }
 
 /// How the file with that path looks from outside; none where it can't be told.

@@ -18,6 +18,7 @@ fault_of_line parse_error.NoMemory number = fault.NoMemory
 abbrev pub fault_of_logins : LoginsFault → RunFault
 fault_of_logins (logins_fault.Line number) = fault.LoginsLine number
 fault_of_logins logins_fault.CannotRead = fault.CannotReadLogins
+fault_of_logins logins_fault.Unguarded = fault.UnguardedLogins
 fault_of_logins logins_fault.NoMemory = fault.NoMemory
 
 -- the fault of a text that doesn't come in

@@ -10,6 +10,7 @@ fault_text (fault.MomentGoesBack number) = codes "line " ++ decimal number ++ co
 fault_text (fault.CutAboveHorizon number) = codes "line " ++ decimal number ++ codes ": cut above horizon"
 fault_text (fault.LoginsLine number) = codes "logins line " ++ decimal number
 fault_text fault.CannotReadLogins = codes "cannot read logins"
+fault_text fault.UnguardedLogins = codes "others may write the logins"
 fault_text fault.CannotRead = codes "cannot read"
 fault_text fault.CannotWrite = codes "cannot write"
 fault_text fault.NoMemory = codes "no memory"

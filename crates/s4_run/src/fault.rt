@@ -26,6 +26,8 @@ pub enum RunFault {
     LoginsLine(usize),
     /// The logins can't be read.
     CannotReadLogins,
+    /// Others than the owner of the file of the logins may write it.
+    UnguardedLogins,
     /// The input failed, or is too long.
     CannotRead,
     /// The output failed.
@@ -67,6 +69,7 @@ impl fmt::Display for RunFault {
             RunFault::CutAboveHorizon(number) => write!(f, "line {number}: cut above horizon"),
             RunFault::LoginsLine(number) => write!(f, "logins line {number}"),
             RunFault::CannotReadLogins => write!(f, "cannot read logins"),
+            RunFault::UnguardedLogins => write!(f, "others may write the logins"),
             RunFault::CannotRead => write!(f, "cannot read"),
             RunFault::CannotWrite => write!(f, "cannot write"),
             RunFault::NoMemory => write!(f, "no memory"),
@@ -92,6 +95,7 @@ impl From<LoginsFault> for RunFault {
         match fault {
             LoginsFault::Line(number) => RunFault::LoginsLine(number),
             LoginsFault::CannotRead => RunFault::CannotReadLogins,
+            LoginsFault::Unguarded => RunFault::UnguardedLogins,
             LoginsFault::NoMemory => RunFault::NoMemory,
         }
     }

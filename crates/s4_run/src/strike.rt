@@ -1,9 +1,10 @@
 //! Scripts without what a principal's strangers ask.
 
-ghost use Rattle.std.specs.Prelude.{◌≡◌, ◌++◌, ◌∷◌, [], true, false, IfOk, IfErr, IfSome, OnOk, Err};
+ghost use Rattle.std.specs.Prelude.{◌≡◌, ◌++◌, ◌∷◌, [], true, false, Some, IfOk, IfErr, IfSome, OnOk, Err};
 ghost use Rattle.std.specs.Io.KnownBytes.{Appends};
 ghost use Rattle.s4_drive.specs.Near.{IsNearIn};
-ghost use Rattle.s4_run.specs.Struck.{is_before, line_text, lines_text, steps_of, struck_lines, texts_of};
+ghost use Rattle.s4_script.specs.Lines.{lines};
+ghost use Rattle.s4_run.specs.Struck.{is_before, line_text, lines_text, steps_of, struck_lines, texts_of, WritesStruck};
 ghost use Rattle.s4_run.specs.declared.fault.RunFault.TheVariants as fault;
 
 use crate::fault::RunFault;
@@ -23,7 +24,10 @@ pub fn run_strike<R: Read + Drop, W: Write>(
     who: Principal,
     mut reader: R,
     writer: &mut W,
-) -> Result<(), RunFault> {
+) -> Result<(), RunFault>
+    ensures written { OnOk result (IfSome (R.remaining reader) (λ text.
+        WritesStruck who (lines text) (W.contents writer.old) (W.contents writer.new))) }
+{
     let text = text::read_text(alloc, &mut reader)?;
     match Script::read(alloc, who, &text)? {
         Some(script) => script.write_struck(writer),
@@ -54,25 +58,54 @@ struct Script<'a> {
 }
 
 impl<'a> Script<'a> {
+    ghost use Rattle.std.specs.Option.{option_map};
+    ghost use Rattle.s4_script.specs.Readings.{line_in_text};
+    ghost use Rattle.s4_run.specs.Scripts.{Begins, ReadsScript};
+    ghost use Rattle.s4_run.specs.Struck.{asked_by, asked_of};
+
     /// The script of a text, or none of an empty one.
     fn read(alloc: Global, who: Principal, text: &'a [u8]) -> Result<Option<Script<'a>>, RunFault>
-        ensures { IfOk result (λ script. IfSome script (λ s. s.who ≡ who)) }
+        ensures { IfOk result (ReadsScript who (lines text.now)) }
     {
-        let mut script = None;
-        for (number, line) in NumberedLines::of(text) {
-            let refuse = |why| RunFault::parsing(why, number);
-            match &mut script {
-                None => {
-                    let opening = parse_opening(alloc, line).map_err(refuse)?;
-                    script = Some(Script::open(alloc, who, opening.version, line));
-                }
-                Some(script) => {
-                    let told = parse_line(script.version, alloc, line).map_err(refuse)?;
-                    script.add(told, line, number)?;
-                }
-            }
+        let mut lines = NumberedLines::of(text);
+        let Some((number, first)) = lines.next() else {
+            return Ok(None);
+        };
+        let mut script = Script::begin(alloc, who, first, number)?;
+        for (number, line) in lines {
+            script.take(alloc, line, number)?;
         }
-        Ok(script)
+        Ok(Some(script))
+    }
+
+    /// The script that the first line, of that number, begins.
+    fn begin(
+        alloc: Global,
+        who: Principal,
+        first: &'a [u8],
+        number: usize,
+    ) -> Result<Script<'a>, RunFault>
+        ensures { IfOk result (Begins who first.now) }
+    {
+        match parse_opening(alloc, first) {
+            Ok(opening) => Ok(Script::open(alloc, who, opening.version, first)),
+            Err(why) => Err(RunFault::parsing(why, number)),
+        }
+    }
+
+    /// Takes a further line, of that number.
+    fn take(&mut self, alloc: Global, line: &'a [u8], number: usize) -> Result<(), RunFault>
+        ensures who { self.new.who ≡ self.old.who }
+        ensures version { self.new.version ≡ self.old.version }
+        ensures window { self.new.window.now ≡ self.old.window.now }
+        ensures kept { OnOk result (option_map
+            (λ told. asked_of self.old.requests.items ++ asked_by told line.now)
+            (line_in_text self.old.version line.now) ≡ Some (asked_of self.new.requests.items)) }
+    {
+        match parse_line(self.version, alloc, line) {
+            Ok(told) => self.add(told, line, number),
+            Err(why) => Err(RunFault::parsing(why, number)),
+        }
     }
 
     /// A script with that line of a window, and no requests yet. Takes no memory.
@@ -96,6 +129,10 @@ impl<'a> Script<'a> {
     /// Takes the line of that number, where it makes a request, unless its moment goes back.
     fn add(&mut self, told: Line, line: &'a [u8], number: usize) -> Result<(), RunFault>
         ensures who { self.new.who ≡ self.old.who }
+        ensures version { self.new.version ≡ self.old.version }
+        ensures window { self.new.window.now ≡ self.old.window.now }
+        ensures kept { OnOk result (asked_of self.new.requests.items
+            ≡ asked_of self.old.requests.items ++ asked_by told line.now) }
         ensures back { is_before self.old.newest told ≡ true
             → result ≡ Err (fault.MomentGoesBack number) }
         ensures refused { is_before self.old.newest told ≡ false
@@ -122,7 +159,10 @@ impl<'a> Script<'a> {
             (steps_of self.new.requests.items ≡ steps_of self.old.requests.items ++ step ∷ []) }
         ensures texts { OnOk result
             (texts_of self.new.requests.items ≡ texts_of self.old.requests.items ++ line.now ∷ []) }
+        ensures asked { OnOk result (asked_of self.new.requests.items
+            ≡ asked_of self.old.requests.items ++ (step, line.now) ∷ []) }
         ensures who { self.new.who ≡ self.old.who }
+        ensures version { self.new.version ≡ self.old.version }
         ensures window { self.new.window.now ≡ self.old.window.now }
         ensures newest { self.new.newest ≡ self.old.newest }
     {

@@ -1,5 +1,5 @@
 -- Who may log in.
-use Rattle.std.specs.Prelude.{ℕ, Bool, false, nat_eq, Option, Some, None, List}
+use Rattle.std.specs.Prelude.{ℕ, Bool, false, nat_eq, not, ◌&&◌, Option, Some, None, is_some, List, filter, map}
 use Rattle.std.specs.Map.{lookup}
 use Rattle.std.specs.Ordering.{is_eq, nat_cmp}
 use Rattle.std.specs.Cmp.Lexicographic.{pointwise}
@@ -29,3 +29,19 @@ is_kept (Some secret) other = is_secret other secret
 -- whether the principal may log in by both tables, with the same secret
 abbrev pub keeps_login : Logins → Logins → ℕ → Bool
 keeps_login old new who = is_kept (secret_of old who) (secret_of new who)
+
+-- the principals of a table, by rising number
+abbrev pub principals_of : Logins → List ℕ
+principals_of logins = map (λ login. login.0) logins
+
+-- whether the principal has a secret
+abbrev pub is_named : Logins → ℕ → Bool
+is_named logins who = is_some (secret_of logins who)
+
+-- the principals of a table that the other one doesn't name
+abbrev pub missing_in : Logins → Logins → List ℕ
+missing_in table other = filter (λ who. not (is_named other who)) (principals_of table)
+
+-- the principals of both tables whose secret isn't the same in both
+abbrev pub changed_in : Logins → Logins → List ℕ
+changed_in old new = filter (λ who. is_named new who && not (keeps_login old new who)) (principals_of old)

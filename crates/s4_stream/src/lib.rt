@@ -17,6 +17,6 @@ pub use laws::{
     connections_speak_in_order, cuts_change_nothing, hellos_are_their_rows,
     hellos_have_one_spelling,
 };
-pub use login_text::{principal_in, secret_in};
+pub use login_text::{principal_in, secret_in, split_at_byte};
 pub use logins::{LoginFault, Logins};
 pub use session::{FeedError, FillError, Session};

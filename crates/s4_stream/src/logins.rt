@@ -1,11 +1,11 @@
 //! Who may log in.
 
-ghost use Rattle.std.specs.Prelude.{◌≡◌, nat_eq};
+ghost use Rattle.std.specs.Prelude.{◌≡◌, IfOk, nat_eq};
 ghost use Rattle.std.specs.Cmp.Lexicographic.{pointwise};
 ghost use Rattle.s4_stream.specs.declared.logins.LoginFault.TheVariants as login_fault;
 
 use crate::login_text::{login_in, split_at_byte};
-use s4_types::Principal;
+use s4_types::{NoMemory, Principal};
 use std::alloc::{AllocFailed, Global};
 use std::collections::BTreeMap;
 use std::marker::Model;
@@ -50,7 +50,7 @@ impl Model for Logins {
 }
 
 impl Logins {
-    ghost use Rattle.s4_stream.specs.Logins.{is_login, keeps_login};
+    ghost use Rattle.s4_stream.specs.Logins.{changed_in, is_login, keeps_login, missing_in};
     ghost use Rattle.s4_stream.specs.LoginText.{entered, login_of, table_in, IsTable};
 
     /// The table that a text spells, a login a line: the principal in decimal digits, without
@@ -107,6 +107,37 @@ impl Logins {
         match self.secrets.get(&who.number()) {
             Some(secret) => newer.accepts(who, secret),
             None => false,
+        }
+    }
+
+    /// The principals of this table that aren't in the other one, by rising number.
+    pub fn missing_in(&self, alloc: Global, other: &Logins) -> Result<Vec<u32>, NoMemory>
+        ensures { IfOk result (λ missing. missing.items ≡ missing_in self.now other.now) }
+    {
+        let missing = self
+            .secrets
+            .keys()
+            .copied()
+            .filter(|who| !other.secrets.contains_key(who));
+        Ok(missing.collect(alloc)?)
+    }
+
+    /// The principals of both tables that have another secret in the newer one, by rising number.
+    pub fn changed_in(&self, alloc: Global, newer: &Logins) -> Result<Vec<u32>, NoMemory>
+        ensures { IfOk result (λ changed. changed.items ≡ changed_in self.now newer.now) }
+    {
+        let changed = self.secrets.keys().copied().filter(|who| newer.secrets.contains_key(who)
+            && !self.is_same_in(newer, *who));
+        Ok(changed.collect(alloc)?)
+    }
+
+    /// Whether the principal of that number has the same secret in both tables.
+    fn is_same_in(&self, newer: &Logins, who: u32) -> bool
+        ensures { result ≡ keeps_login self.now newer.now who }
+    {
+        match (self.secrets.get(&who), newer.secrets.get(&who)) {
+            (Some(secret), Some(other)) => is_same(secret, other),
+            _ => false,
         }
     }
 }

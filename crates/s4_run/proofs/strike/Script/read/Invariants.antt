@@ -1,6 +1,7 @@
-use Rattle.std.proofs.Common.{◌≡◌}
-use Rattle.std.specs.Prelude.{IfSome}
+use Rattle.s4_script.specs.Lines.{lines}
+use Rattle.s4_run.proofs.Reading.{IsGoing}
 use Rattle.s4_run.proofs.strike.Script.read.Given as goal
 
+-- the lines so far are in the script
 abbrev pub invariant-loop-number : goal.invariant-loop-number
-invariant-loop-number l = IfSome l.script (λ s. s.who ≡ l.fn.who)
+invariant-loop-number l = IsGoing l.fn.who (lines l.fn.text) l.number-iterator l.script

@@ -1,0 +1,4 @@
+pub mod Taken
+pub mod Begun
+pub mod Logins
+pub mod Checked
