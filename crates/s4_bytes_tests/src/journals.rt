@@ -8,16 +8,36 @@ mod lines;
 mod scribes;
 
 use crate::journals::example::{
-    CALLS, FIRST, FRONT, JOURNAL, TOLD, header, header_sum, held, record,
+    CALLS, FIRST, JOURNAL, TOLD, header, header_sum, held, link, record,
 };
-use s4_journal::{Batch, Calls, Sum, Writer, open};
+use s4_journal::{
+    Calls, Entries, Entry, Heading, JournalFormat, Next, Sum, Writer, begin, open, open_heading,
+};
 use std::alloc::Global;
 use std::test::Fail;
 
+/// The heading of the example.
+fn heading() -> Result<Heading, Fail> {
+    Ok(Heading {
+        header: header(),
+        link: Some(link()?),
+    })
+}
+
 #[test]
-fn a_header_is_read(rt: HostRuntime) -> Result<(), Fail> {
+fn a_heading_is_read(rt: HostRuntime) -> Result<(), Fail> {
     let journal = hex::decode(rt.alloc(), JOURNAL)?;
-    let Ok((fields, _)) = open(&journal) else {
+    let Ok((read, _)) = open_heading(&journal) else {
+        return Err("a heading".into());
+    };
+    assert!(rt; read == heading()?);
+    Ok(())
+}
+
+#[test]
+fn a_header_of_format_1_is_read(rt: HostRuntime) -> Result<(), Fail> {
+    let (front, _) = begin(rt.alloc(), &header())?;
+    let Ok((fields, _)) = open(&front) else {
         return Err("a header".into());
     };
     assert!(rt; fields == header());
@@ -26,17 +46,23 @@ fn a_header_is_read(rt: HostRuntime) -> Result<(), Fail> {
 
 /// The sum of the journal's first block.
 fn first_sum(alloc: Global, journal: &[u8]) -> Result<Sum, Fail> {
-    let block = journal.get(FRONT..FIRST).ok_or("a block")?;
-    let (_, sum) = held::<Batch>(alloc, header_sum(alloc)?, block)?;
-    Ok(sum)
+    let Ok((_, mut reader)) = open_heading(journal.get(..FIRST).ok_or("a block")?) else {
+        return Err("a heading".into());
+    };
+    let next: Next<Entries> = reader.next_in(JournalFormat::Two, alloc)?;
+    if !matches!(next, Next::Block(_)) || !reader.rest.is_empty() {
+        return Err("no first block".into());
+    }
+    Ok(reader.sum)
 }
 
 #[test]
 fn a_journal_that_was_cut_goes_on(rt: HostRuntime) -> Result<(), Fail> {
     let alloc = rt.alloc();
     let journal = hex::decode(alloc, JOURNAL)?;
-    let second = Batch::new(0, vec![in alloc; record(1)?]?);
-    let block = Writer::new(first_sum(alloc, &journal)?).block(alloc, &second)?;
+    let second = Entries::new(0, vec![in alloc; Entry::of(record(1)?)]?);
+    let mut writer = Writer::new(first_sum(alloc, &journal)?);
+    let block = writer.block_in(JournalFormat::Two, alloc, &second)?;
     assert!(rt; journal.get(FIRST..) == Some(block.as_slice()));
     Ok(())
 }

@@ -2,10 +2,8 @@
 
 use crate::journals::blocks::{Made, record_of};
 use crate::journals::disks::{AMPLE, Narrow, on_disk};
-use crate::journals::example::{
-    FIRST, FRONT, JOURNAL, LAST_SUM, WHOLE, header, header_sum, held, record,
-};
-use s4_journal::{Batch, Sum};
+use crate::journals::example::{FIRST, FRONT, JOURNAL, LAST_SUM, WHOLE, header, link, record};
+use s4_journal::{Entries, Entry, JournalFormat, Next, Sum, open_heading};
 use s4_scribe::{Scribe, ScribeFault, file_path};
 use s4_types::{Record, WireVersion};
 use std::alloc::Global;
@@ -73,7 +71,7 @@ const CASES: [Case; 4] = [
             Deed::Write(4, 0, 1, OUT_OF_TURN),
             Deed::Write(0, 0, 1, Ok(())),
             Deed::Sync(Ok(())),
-            Deed::Lasts(237, false, 0),
+            Deed::Lasts(333, false, 0),
             Deed::Next(3, Some(1)),
             Deed::Next(0, Some(1)),
             Deed::Next(1, Some(0)),
@@ -105,20 +103,20 @@ const CASES: [Case; 4] = [
         begun: Ok(()),
         deeds: &[
             Deed::Sync(Ok(())),
-            Deed::Lasts(76, false, 0),
+            Deed::Lasts(172, false, 0),
             Deed::Write(3, 0, 0, Ok(())),
             Deed::Breaks(true),
             Deed::Sync(SYNCING),
             Deed::Breaks(false),
             Deed::Sync(SYNCING),
-            Deed::Lasts(76, true, 80),
+            Deed::Lasts(172, true, 80),
             Deed::Write(0, 0, 1, SYNCING),
             Deed::GoOn(10, WRITING),
             Deed::GoOn(AMPLE, Ok(())),
-            Deed::Lasts(76, false, 80),
+            Deed::Lasts(172, false, 80),
             Deed::Write(0, 0, 1, Ok(())),
             Deed::Sync(Ok(())),
-            Deed::Lasts(237, false, 0),
+            Deed::Lasts(333, false, 0),
         ],
         first: FRONT,
     },
@@ -148,7 +146,7 @@ fn check_case<R: Abort>(
 ) -> Result<(), Fail> {
     let alloc = files.alloc();
     let file = on_disk(files, path, room)?;
-    let mut scribe = match Scribe::begin(alloc, file, &header(), true) {
+    let mut scribe = match Scribe::begin(alloc, file, &header(), &link()?, true) {
         Ok(scribe) => scribe,
         Err(fault) => {
             assert!(rt; case.begun == Err(fault), "{room}: {fault}");
@@ -228,19 +226,25 @@ fn large(alloc: Global, count: usize) -> Result<Vec<Record>, Fail> {
     Ok(records)
 }
 
-/// Whether so many blocks stand behind the header of a file, each with one large record of cell 3, and
-/// have that last sum.
+/// Whether the file has a header, and so many blocks behind it, each with the entry of one large record of
+/// cell 3, of which the last has that sum.
 fn stand_alone(files: &HostRuntime, path: &str, count: usize, sum: Sum) -> Result<bool, Fail> {
     let alloc = files.alloc();
     let written = fs::read(files, path)?;
-    let blocks = written.get(FRONT..).ok_or("blocks")?;
-    let (read, last) = held::<Batch>(alloc, header_sum(alloc)?, blocks)?;
-    let wanted = large(alloc, 1)?;
-    let mut alone = read.len() == count && last == sum;
-    for one in &read {
-        alone = alone && one.cell() == 3 && one.records() == wanted.as_slice();
+    let mut reader = match open_heading(&written) {
+        Ok((_, reader)) => reader,
+        Err(_) => return Ok(false),
+    };
+    let mut alone = true;
+    for _ in 0..count {
+        let next: Next<Entries> = reader.next_in(JournalFormat::Two, alloc)?;
+        let Next::Block(one) = next else {
+            return Ok(false);
+        };
+        let wanted = Entry::of(record_of(alloc, WireVersion::Two, &LARGE)?);
+        alone = alone && one.cell() == 3 && matches!(one.entries(), [it] if it.is_same(&wanted));
     }
-    Ok(alone)
+    Ok(alone && reader.rest.is_empty() && reader.sum == sum)
 }
 
 /// Records of which one block doesn't hold all stand each in one of its own.
@@ -249,7 +253,7 @@ fn large_records_stand_alone(rt: HostRuntime) -> Result<(), Fail> {
     let alloc = rt.alloc();
     let path = format!(in alloc; "/tmp/s4d_large_{}", process::id(rt.process()))?;
     let file = on_disk(&rt, path.as_str(), 100 * AMPLE * AMPLE)?;
-    let mut scribe = Scribe::begin(alloc, file, &header(), true)?;
+    let mut scribe = Scribe::begin(alloc, file, &header(), &link()?, true)?;
     scribe.write(alloc, 3, 0, large(alloc, 8)?)?;
     assert!(rt; scribe.place(3) == Some(8));
     assert!(rt; stand_alone(&rt, path.as_str(), 8, scribe.roll.sum().0)?);
