@@ -2,11 +2,17 @@
 use Rattle.std.specs.Prelude.{◌≡◌, ℕ, ◌<◌, List, [], length, slice_index_or}
 use Rattle.s4_passes.specs.Calls.{CallList}
 
--- the window that it was opened with, how many cells it has, and how many passes were opened with it
+-- the window that it was opened with, how many cells it has, how many passes were opened with it, and how many expired values it frees at
+-- most behind each ordinary request
 pub record FrontState : Type 0 where
   pub window : ℕ
   pub cells : ℕ
   pub passes : ℕ
+  pub freed_behind : ℕ
+
+-- the front that frees at most so many from now on, and of which nothing else is changed
+abbrev pub freeing_behind : ℕ → FrontState → FrontState
+freeing_behind most front = record { window = front.window; cells = front.cells; passes = front.passes; freed_behind = most }
 
 -- passes with the numbers from 0 on, without calls
 abbrev pub AreFresh : List CallList → Type 0

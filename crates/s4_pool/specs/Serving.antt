@@ -1,11 +1,11 @@
 -- What one call leaves.
-use Rattle.std.specs.Prelude.{◌≡◌, ℕ, ◌+◌, ◌≤◌, List, [], ◌∷◌, ◌++◌, length, slice_index_or, MatchBool}
+use Rattle.std.specs.Prelude.{◌≡◌, ℕ, ◌+◌, ◌≤◌, List, length, slice_index_or, MatchBool}
 use Rattle.s4_types.specs.declared.principal.Caller.{Caller}
 use Rattle.s4_types.specs.declared.request.Request.{Request}
 use Rattle.s4_types.specs.declared.reply.Reply.{Reply}
 use Rattle.s4_types.specs.declared.record.Record.{Record}
 use Rattle.s4_types.specs.Play.{is_no_memory}
-use Rattle.s4_types.specs.Log.{Log}
+use Rattle.s4_types.specs.Log.{Log, swept, with_record}
 use Rattle.s4_cells.specs.Many.{AllAdd}
 use Rattle.s4_passes.specs.declared.call.Asked.{Asked}
 use Rattle.s4_passes.specs.declared.call.Receipt.{Receipt}
@@ -39,15 +39,20 @@ record_of_call call = record {
   reply = call.receipt.reply;
 }
 
--- the cell and the pass have one more, and the receipt names the record by the cell's number and by its place, which counts from the first
--- record that the cell ever had
+-- the cell has one record more and the pass one call, and the receipt names the record by the cell's number and by its place, which counts
+-- from the first record that the cell ever had
 pub record Adds (cell : ℕ) (before after : Log) (old new : CallList) : Type 0 where
   pub call : Call
   pub adds : AddsCall call old new
-  pub history : after.history ≡ before.history ++ record_of_call call ∷ []
-  pub base : after.base ≡ before.base
+  pub log : after ≡ with_record before (record_of_call call)
   pub place : call.receipt.place ≡ gone before + length before.history
   pub cell_is : call.receipt.cell ≡ cell
+
+-- and of the values that are expired then at most so many are freed
+pub record AddsAndFrees (most cell : ℕ) (before after : Log) (old new : CallList) : Type 0 where
+  pub between : Log
+  pub adds : Adds cell before between old new
+  pub freed : after ≡ swept most between
 
 -- every cell and the pass have one more: the record stands in each cell, and the receipt names the first cell's
 pub record AddsToAll (before after : List Log) (old new : CallList) : Type 0 where

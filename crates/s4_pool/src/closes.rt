@@ -61,6 +61,7 @@ impl<G: Gate, N: Names> Front<G, N> {
             window,
             count,
             passes: opened,
+            freed_behind,
             gate,
             cells,
         } = self;
@@ -87,6 +88,7 @@ impl<G: Gate, N: Names> Front<G, N> {
                     window,
                     count,
                     passes: opened,
+                    freed_behind,
                     gate,
                     cells: RwLock::new(unlocked.lock()),
                 };

@@ -1,7 +1,7 @@
 //! A cell as it lies under its lock.
 
 ghost use Rattle.std.specs.Prelude.{◌≡◌, ◌+◌, ◌<◌, ◌≤◌, true, false, length, min, IfOk, OnErr, MatchBool, MatchOption};
-ghost use Rattle.s4_types.specs.Log.{horizon_in};
+ghost use Rattle.s4_types.specs.Log.{expired_in, horizon_in, swept};
 ghost use Rattle.s4_state.specs.CutLog.{IsCut};
 ghost use Rattle.s4_drive.specs.Alike.{AnswersAlike};
 ghost use Rattle.s4_cells.specs.Counts.{count_of};
@@ -91,8 +91,11 @@ impl<N: Names> Locked<N> {
         cut_claimed(alloc, slice::from_mut(cell), slice::from_mut(book), moment)
     }
 
-    /// Sweeps the cell.
-    pub fn sweep(&mut self, most: u64) -> u64 {
+    /// Frees at most so many values of the cell that are expired and still held, and tells how many.
+    pub fn sweep(&mut self, most: u64) -> u64
+        ensures freed { result ≡ min most (expired_in self.old.cell) }
+        ensures swept { self.new.cell ≡ swept most self.old.cell }
+    {
         self.cell.sweep(most)
     }
 }

@@ -3,11 +3,12 @@
 ghost use Rattle.std.specs.Prelude.{◌≡◌, ◌<◌, ◌≤◌, true, false, IsTrue, IfOk, OnOk, OnErr, length};
 ghost use Rattle.s4_types.specs.Kinds.{is_wide};
 ghost use Rattle.s4_types.specs.Limits.{data_asked, data_in, is_within_limits};
+ghost use Rattle.s4_types.specs.Log.{swept};
 ghost use Rattle.s4_types.specs.Play.{is_no_memory, last_of};
 ghost use Rattle.s4_cells.specs.Many.{Each, AllStay};
 ghost use Rattle.s4_pool.specs.Counts.{AreCounted, HaveWindow};
 ghost use Rattle.s4_passes.specs.Counts.{KeepsCalls};
-ghost use Rattle.s4_pool.specs.Serving.{Serves, Adds, AddsToAll};
+ghost use Rattle.s4_pool.specs.Serving.{Serves, Adds, AddsAndFrees, AddsToAll};
 
 use crate::locked::Locked;
 use s4_cells::{Cell, wide_with_copy};
@@ -58,6 +59,33 @@ pub fn step_in_cell<N: Names>(
     };
     pass.add(ledger, book, asked, receipt);
     Ok(reply)
+}
+
+/// Carries out an ordinary request in its cell, as `step_in_cell`, and frees at most so many of the
+/// values of the cell that are expired then, also where the request met want of memory.
+pub fn step_and_free<N: Names>(
+    held: &mut Locked<N>,
+    ledger: &Ledger,
+    pass: &mut Pass<N>,
+    caller: Caller,
+    clock: Moment,
+    request: &Request,
+    most: u64,
+) -> Result<Reply, NoMemory>
+    requires ledger { ledger.now ≡ N.ledger }
+    requires ordinary { is_wide caller request.now ≡ false }
+    ensures told { IfOk result (λ reply. is_no_memory reply ≡ false) }
+    ensures limits { IfOk result (λ reply. IsTrue (is_within_limits caller.version reply)) }
+    ensures asked { IfOk result (λ reply. data_in reply ≤ data_asked request.now) }
+    ensures pass { IfOk result (λ reply. Serves pass.old pass.new caller clock request.now reply) }
+    ensures cell { OnOk result
+        (AddsAndFrees most held.old.book.cell held.old.cell held.new.cell pass.old pass.new) }
+    ensures idle { OnErr result (KeepsCalls pass.old pass.new) }
+    ensures freed { OnErr result (held.new.cell ≡ swept most held.old.cell) }
+{
+    let told = step_in_cell(held, ledger, pass, caller, clock, request);
+    held.sweep(most);
+    told
 }
 
 /// Carries out a wide request in all cells, at the greatest of the caller's clock, the pass's last

@@ -55,10 +55,12 @@ fn check_front<N: Names + Send + Sync, R: Threads + Wait + Sync>(
 {
     let (cells, window, passes) = opened;
     let gate = Holding { marks };
-    let (front, mut passes) = Front::<Holding, N>::open(alloc, window, cells, passes, gate, blank)?;
+    let (mut front, mut passes) = Front::<Holding, N>::open(
+        alloc, window, cells, passes, gate, blank,
+    )?;
     same("the window", &front.window(), &window)?;
     for line in lines {
-        carry_out(rt, alloc, marks, &front, cells, &mut passes, line)?;
+        carry_out(rt, alloc, marks, &mut front, cells, &mut passes, line)?;
     }
     same(
         "what the gate marked",
@@ -72,18 +74,19 @@ fn carry_out<N: Names + Send + Sync, R: Threads + Wait + Sync>(
     rt: &R,
     alloc: Global,
     marks: &Marks,
-    front: &Front<Holding<'_>, N>,
+    front: &mut Front<Holding<'_>, N>,
     cells: usize,
     passes: &mut Vec<Pass<N>>,
     line: &Line,
 ) -> Result<(), Fail>
-    requires { front.now.cells ≡ cells }
+    requires { front.old.cells ≡ cells }
+    ensures { front.new.cells ≡ cells }
 {
     match line {
-        Line::Calls(calls) => serve_all(rt, alloc, front, passes.as_mut_slice(), calls),
+        Line::Calls(calls) => serve_all(rt, alloc, &*front, passes.as_mut_slice(), calls),
         Line::Pass(number, act) => {
             let pass = passes.get_mut(*number).ok_or("a pass")?;
-            check_pass(rt, front, pass, act)
+            check_pass(rt, &*front, pass, act)
         }
         Line::Cut(moment, at) => {
             let found = front.cut(rt, Moment::new(*moment))?;
@@ -97,19 +100,23 @@ fn carry_out<N: Names + Send + Sync, R: Threads + Wait + Sync>(
             same("what is freed", &front.sweep(rt, *cell, *most), freed)
         }
         Line::CutOne(..) | Line::Sweep(..) => Err("a cell".into()),
+        Line::FreedBehind(most) => {
+            front.set_freed_behind(*most);
+            Ok(())
+        }
         Line::Since(cell, place, most, wanted) => {
-            let found = records_since(rt, front, *cell, *place, *most)?;
+            let found = records_since(rt, &*front, *cell, *place, *most)?;
             same("the records from a place on", &found, wanted)
         }
         Line::Often(what) => {
             let pass = passes.first_mut().ok_or("a pass")?;
-            ask_often(rt, alloc, front, cells, pass, what)
+            ask_often(rt, alloc, &*front, cells, pass, what)
         }
         Line::Arm => {
             marks.armed.store(1, Ordering::SeqCst);
             Ok(())
         }
-        Line::Together(what) => together(rt, alloc, marks, front, passes, what),
+        Line::Together(what) => together(rt, alloc, marks, &*front, passes, what),
     }
 }
 

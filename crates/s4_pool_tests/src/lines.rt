@@ -26,6 +26,8 @@ pub enum Line {
     CutOne(usize, u64, u64),
     /// The cell of that number frees at most so many values: so many.
     Sweep(usize, u64, u64),
+    /// From now on at most so many values are freed behind each ordinary request.
+    FreedBehind(u64),
     /// Of the cell of that number, the records from a place on, at most so many: the place of the first of
     /// them, how many there are, and the moment of the last. None where there is no such cell.
     Since(usize, u64, usize, Option<(u64, usize, Option<u64>)>),

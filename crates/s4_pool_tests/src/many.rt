@@ -39,9 +39,32 @@ fn each_range_has_its_cell_and_each_front_is_closed(rt: HostRuntime) -> Result<(
     Ok(())
 }
 
+/// An object is made, and written a tick later each time; all values but the last ten expire. A front of which
+/// nothing else was said frees none of them behind a request.
+const KEPT: &[Line] = &[
+    Line::Calls(&[Call(0, 7, 10, What::Create, Told::Made(7, 1), (10, 1, 0))]),
+    Line::Often(Often::Writes(7, 11, 1000)),
+    Line::Sweep(1, 2000, 990),
+    Line::Sweep(1, 2000, 0),
+    Line::Sweep(0, 2000, 0),
+];
+
+/// The same where each request frees one, which is as many as expire at it; then so many are written again,
+/// and none is freed behind these requests.
+const FREED: &[Line] = &[
+    Line::FreedBehind(1),
+    Line::Calls(&[Call(0, 7, 10, What::Create, Told::Made(7, 1), (10, 1, 0))]),
+    Line::Often(Often::Writes(7, 11, 1000)),
+    Line::Sweep(1, 2000, 0),
+    Line::FreedBehind(0),
+    Line::Often(Often::Writes(7, 1011, 1000)),
+    Line::Sweep(1, 2000, 1000),
+];
+
 /// Principals 4 to 7 write their objects in cells 0 to 3 so often that 7, 994, no and 11 values expire. The
 /// request that has them expire frees four of them.
 const SWEPT: &[Line] = &[
+    Line::FreedBehind(4),
     Line::Calls(&[Call(0, 4, 4000, What::Create, Told::Made(4, 1), (4000, 0, 0))]),
     Line::Often(Often::Writes(4, 4001, 7)),
     Line::Calls(&[Call(0, 5, 5000, What::Create, Told::Made(5, 1), (5000, 1, 0))]),
@@ -70,7 +93,19 @@ const SWEPT: &[Line] = &[
     Line::Sweep(1, 1, 0),
 ];
 
-const CASES: [Case; 2] = [
+const CASES: [Case; 4] = [
+    Case {
+        name: "a front frees what is expired when it is swept",
+        opened: (2, 10, 1),
+        lines: KEPT,
+        end: End::Open,
+    },
+    Case {
+        name: "as many are freed behind requests as was set last",
+        opened: (2, 10, 1),
+        lines: FREED,
+        end: End::Open,
+    },
     Case {
         name: "each cell is swept of as much as is asked for",
         opened: (4, 1000, 1),
