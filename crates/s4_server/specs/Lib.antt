@@ -2,3 +2,4 @@ pub mod Desks
 pub mod Faults
 pub mod Places
 pub mod Setup
+pub mod Ends

@@ -6,7 +6,7 @@ use Rattle.s4_types.specs.declared.request.Request.{Request}
 use Rattle.s4_types.specs.declared.reply.Reply.{Reply}
 use Rattle.s4_passes.specs.Calls.{CallList, none_dropped}
 use Rattle.s4_pool.specs.Serving.{ServesUnlessRefused}
-use Rattle.s4_command.specs.declared.settings.Settings.{Settings}
+use Rattle.s4_settings.specs.declared.settings.Settings.{Settings}
 
 -- its settings, and its first pass, by which it is asked before connections are served
 pub record Setup : Type 0 where

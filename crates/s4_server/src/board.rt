@@ -3,8 +3,8 @@
 ghost use Rattle.std.specs.Prelude.{◌≡◌, ◌-◌, ◌^◌, true, false};
 
 use crate::start::Start;
-use s4_keeping::{Kept, Notebook};
-use s4_status::Tally;
+use s4_keeping::{Kept, LoginsChange, Notebook};
+use s4_status::{LoginsStatus, Tally};
 use s4_types::{Moment, NoMemory};
 use std::alloc::Global;
 use std::sync::atomic::{AtomicBool, AtomicU64, Ordering};
@@ -13,6 +13,10 @@ use std::sync::{Mutex, Wait};
 /// Where each thread of a server reads what the others wrote.
 #[derive(Drop)]
 pub(crate) struct Board {
+    /// The milliseconds since 1970 when the server began.
+    pub(crate) began: u64,
+    /// The login table by which it goes.
+    logins: Mutex<LoginsStatus>,
     /// Where the threads wait for each other at the begin.
     pub(crate) start: Start,
     /// No more connections are accepted.
@@ -49,17 +53,20 @@ pub(crate) struct Board {
 }
 
 impl Board {
-    /// The board of a server of so many workers that begins now, and whose journal is so far, where it
-    /// keeps one.
+    /// The board of a server of so many workers that begins now, so many milliseconds since 1970, and whose
+    /// journal is so far, where it keeps one.
     pub(crate) fn new(
         alloc: Global,
         workers: u64,
         now: u64,
+        began: u64,
         journal: Option<Kept>,
     ) -> Result<Board, NoMemory> {
         let keeps = journal.is_some();
         let written = journal.as_ref().map_or(u64::MAX, written_to);
         Ok(Board {
+            began,
+            logins: Mutex::new(LoginsStatus::of(began, LoginsChange::none(alloc))),
             start: Start::new(workers),
             accepted: AtomicBool::new(false),
             time: AtomicU64::new(now),
@@ -92,6 +99,16 @@ impl Board {
     pub(crate) fn tell_journal<R: Wait>(&self, rt: &R, kept: Kept) {
         self.written.store(written_to(&kept), Ordering::SeqCst);
         *self.journal.lock(rt) = Some(kept);
+    }
+
+    /// Notes what the login table changes that is taken now.
+    pub(crate) fn tell_logins<R: Wait>(&self, rt: &R, taken: LoginsStatus) {
+        *self.logins.lock(rt) = taken;
+    }
+
+    /// The login table by which the server goes.
+    pub(crate) fn logins<R: Wait>(&self, rt: &R) -> Result<LoginsStatus, NoMemory> {
+        self.logins.lock(rt).copy()
     }
 
     /// How far the journal is; none where none is kept.

@@ -6,6 +6,7 @@ use crate::board::Board;
 use crate::upkeep::Upkeep;
 use s4_keeping::{Notebook, Source, Stretch};
 use s4_pool::{Front, Names, OpenGate};
+use s4_settings::VERSION;
 use s4_sockets::{Lobby, Post, Ticks};
 use s4_status::{CellStatus, Connections, JournalStatus, Refusals, Status, Teller};
 use s4_types::NoMemory;
@@ -23,6 +24,8 @@ pub(crate) struct Context<'a, R, C, N: Names> {
     /// How many cells the front has.
     pub(crate) cells: usize,
     pub(crate) upkeep: &'a Upkeep<'a>,
+    /// The window at the start, in milliseconds.
+    pub(crate) window: u64,
     /// The port at which the server listens; 0 where that can't be told.
     pub(crate) port: u16,
     /// Where connections are left for the workers.
@@ -61,12 +64,17 @@ impl<R: Wait, C: Ticks, N: Names> Teller for Context<'_, R, C, N> {
     fn status(&self, resident: Option<u64>) -> Result<Status, NoMemory> {
         let kept = self.board.journal(self.rt);
         let now = self.board.time.load(Ordering::SeqCst);
+        let moment = self.clock.moment().tick();
         let mut status = Status {
-            moment: self.clock.moment().tick(),
+            version: VERSION,
+            began: self.board.began,
+            moment,
+            window: self.window,
             port: self.port,
             resident_bytes: resident,
-            connections: Connections::of(self.posts, self.lobby),
+            connections: Connections::of(self.alloc, self.posts, self.lobby)?,
             failed_logins: self.lobby.failed_logins(self.alloc, now)?,
+            logins: self.board.logins(self.rt)?,
             records: 0,
             values: 0,
             cells: Vec::new(self.alloc),
@@ -74,7 +82,7 @@ impl<R: Wait, C: Ticks, N: Names> Teller for Context<'_, R, C, N> {
             refusals: Refusals::of(&self.board.tally),
             record_bytes: self.lobby.records_left(self.alloc, self.board.cut())?,
             journal: match kept {
-                Some(kept) => Some(JournalStatus::of(self.alloc, kept)?),
+                Some(kept) => Some(JournalStatus::of(self.alloc, kept, moment)?),
                 None => None,
             },
         };

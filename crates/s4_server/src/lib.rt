@@ -11,6 +11,7 @@ mod fault;
 mod noting;
 mod places;
 mod quiet;
+mod reloads;
 mod server;
 mod start;
 mod sweeping;

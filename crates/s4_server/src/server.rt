@@ -21,10 +21,10 @@ use crate::places::Places;
 use crate::upkeep::Upkeep;
 use s4_cells::Cell;
 use s4_closing::none_went;
-use s4_command::Settings;
 use s4_keeping::{Keeper, Kept};
 use s4_pool::{Blank, Closed, Front, Names, OpenGate, Pass, Why};
-use s4_sockets::{Lobby, Post, Ticks};
+use s4_settings::Settings;
+use s4_sockets::{Lobby, Post, Ticks, wall_clock};
 use s4_stream::Logins;
 use s4_types::{Caller, Moment, NoMemory, Reply, Request};
 use std::alloc::Global;
@@ -34,6 +34,10 @@ use std::sync::atomic::Ordering;
 use std::sync::{Arc, Wait};
 use std::thread::Threads;
 use std::time::Clock;
+
+/// How many expired values are freed at most behind a request. It ends three at most (docs/THREADS.md,
+/// "A server's threads"), so no more expire than are freed.
+const FREED_BEHIND: u64 = 4;
 
 /// A server that is set up, and accepts nothing yet. Callers see its settings, and its first pass.
 #[derive(Drop)]
@@ -57,7 +61,8 @@ impl<N: Names> Model for Server<N> {
     ghost invariant = { λ s. (s.front.window ≡ s.settings.window)
         × (s.front.cells ≡ s.settings.cells)
         × (s.front.passes ≡ s.settings.workers)
-        × (length s.passes.items ≡ s.settings.workers) };
+        × (length s.passes.items ≡ s.settings.workers)
+        × (s.front.freed_behind ≡ 4) };
 }
 
 impl<N: Names + Send + Sync> Server<N> {
@@ -80,7 +85,8 @@ impl<N: Names + Send + Sync> Server<N> {
             workers,
             ..
         } = settings;
-        let (front, passes) = Front::open(alloc, window, cells, workers, OpenGate, blank)?;
+        let (mut front, passes) = Front::open(alloc, window, cells, workers, OpenGate, blank)?;
+        front.set_freed_behind(FREED_BEHIND);
         let (places, posts) = Places::open(net, alloc, &settings)?;
         Ok(Server {
             alloc,
@@ -161,6 +167,7 @@ impl<N: Names + Send + Sync> Server<N> {
             cells: settings.cells,
             clock,
             upkeep,
+            window: settings.window,
             board: &board,
             lobby: &lobby,
             port: port_of(listener),
@@ -184,7 +191,7 @@ impl<N: Names + Send + Sync> Server<N> {
 
 /// What connections go by, what threads tell each other, and the login table, in a server that begins
 /// now. Where it keeps a journal, which is so far, the calls that the passes have are noted.
-fn begun<'a, R: Wait, N: Names>(
+fn begun<'a, R: Wait + Clock, N: Names>(
     rt: &'a R,
     alloc: Global,
     settings: &Settings,
@@ -194,7 +201,7 @@ fn begun<'a, R: Wait, N: Names>(
     passes: &[Pass<N>],
 ) -> Result<(Lobby<'a, R>, Board, Arc<Logins>), NoMemory> {
     let lobby = Lobby::new(rt, alloc, logins, settings)?;
-    let board = Board::new(alloc, settings.workers, now, journal)?;
+    let board = Board::new(alloc, settings.workers, now, wall_clock(rt), journal)?;
     note_passes(rt, &board.notebook, passes)?;
     let table = lobby.logins()?;
     Ok((lobby, board, table))

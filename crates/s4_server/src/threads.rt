@@ -5,15 +5,17 @@ ghost use Rattle.std.specs.Prelude.{◌≡◌};
 use crate::context::Context;
 use crate::cutting::Cutter;
 use crate::quiet::find_quiet;
+use crate::reloads::reload;
 use crate::sweeping::{SWEEPING, sweep_round};
+use crate::upkeep::Upkeep;
 use crate::workers::Worker;
-use s4_command::Settings;
 use s4_jobs::{Jobs, Seat};
 use s4_keeping::Keeper;
 use s4_logins::Reloading;
 use s4_pool::Names;
+use s4_settings::Settings;
 use s4_sockets::{Connection, Door, Ticks, accept_all, wake_all};
-use s4_status::Telling;
+use s4_status::{Summing, Telling};
 use std::sync::Wait;
 use std::sync::atomic::{AtomicBool, Ordering};
 use std::thread;
@@ -190,7 +192,15 @@ fn look_to_the_end<R: Wait + Clock + Eprint, C: Ticks, N: Names>(
     if !context.board.start.is_made(context.rt) {
         return;
     }
-    let mut telling = Telling::new(context.upkeep.files, context.upkeep.status);
+    let Upkeep {
+        files,
+        status,
+        status_text,
+        sums,
+        ..
+    } = context.upkeep;
+    let mut telling = Telling::new(*files, *status, *status_text);
+    let mut summing = Summing::new(*files, *sums);
     for _ in context.rt.forever() {
         let is_kept = context.board.is_kept.load(Ordering::SeqCst);
         let is_last = is_kept && ended.load(Ordering::SeqCst);
@@ -200,6 +210,8 @@ fn look_to_the_end<R: Wait + Clock + Eprint, C: Ticks, N: Names>(
         }
         reload(context, reloading, now);
         telling.tell(context.rt, context, now);
+        let kept = context.board.journal(context.rt);
+        summing.add(context.rt, kept, now, is_last);
         if is_last {
             return;
         }
@@ -256,21 +268,4 @@ fn keep_piece<R: Wait + Clock + Eprint, C: Ticks, N: Names>(
         context.board.kept.store(kept, Ordering::SeqCst);
     }
     context.board.tell_journal(context.rt, keeper.kept());
-}
-
-/// Reads the logins again where it is time and they changed, and tells where they can't be had.
-fn reload<R: Wait + Eprint, C, N: Names>(
-    context: &Context<'_, R, C, N>,
-    reloading: &mut Reloading<'_>,
-    now: u64,
-) {
-    if reloading.is_due(now) {
-        match reloading.read() {
-            Ok(table) => context.lobby.replace(table),
-            Err(fault) => {
-                // Where this can't be written, nobody is told.
-                let _ = eprintln!(context.rt; "s4d: {fault}");
-            }
-        }
-    }
 }

@@ -19,6 +19,10 @@ pub struct Upkeep<'a> {
     pub reload: u64,
     /// The path of the file in which the server tells of itself; none where it doesn't.
     pub status: Option<&'a str>,
+    /// The path of the file in which it tells the same as text; none where it doesn't.
+    pub status_text: Option<&'a str>,
+    /// The path of the file that gets sums of the journal; none where none does.
+    pub sums: Option<&'a str>,
 }
 
 impl<'a> Upkeep<'a> {

@@ -1,2 +1,3 @@
 pub mod Drained
+pub mod Families
 pub mod Owned

@@ -113,12 +113,12 @@ impl<R: Wait + Clock> Door<'_, R> {
         // A reply is sent at once, also where the peer has not yet told that it has the last one.
         let _ = stream.set_nodelay(true);
         let is_ready = stream.set_nonblocking(true).is_ok();
-        let is_counted = is_ready && self.lobby.enter(address.ip());
-        if is_counted && self.finds_place(rt) {
+        let is_in = is_ready && self.lobby.lets_in(address.ip());
+        if is_in && self.finds_place(rt) {
             return true;
         }
-        if is_counted {
-            self.lobby.leave(address.ip());
+        if is_in {
+            self.lobby.lets_out(address.ip());
         }
         self.lobby.turn_away();
         self.tell_turned_away(rt, clock, address);
@@ -188,6 +188,7 @@ pub fn accept_all<R: Wait + Clock, C: Ticks>(
             number,
             address,
             stream,
+            is_proxied: door.lobby.is_proxy(address.ip()),
         };
         put(rt, jobs, seat, connection);
         give(rt, door.posts, number);

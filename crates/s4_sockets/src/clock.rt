@@ -4,7 +4,7 @@ ghost use Rattle.std.specs.Prelude.{◌≡◌, ◌≤◌, ◌-◌, ◌/◌, ◌^
 ghost use Rattle.std.specs.Duration.{as_nanos};
 
 use s4_types::Moment;
-use std::time::{Clock, Duration, Instant};
+use std::time::{Clock, Duration, Instant, SystemTime, UNIX_EPOCH};
 
 /// What tells the moments at which requests are carried out.
 pub trait Ticks: Sync {
@@ -61,4 +61,12 @@ fn milliseconds(time: Duration) -> u64
     ensures { result ≡ min (as_nanos time / 1000000) (2 ^ 64 - 1) }
 {
     u64::try_from(time.as_millis()).unwrap_or(u64::MAX)
+}
+
+/// The milliseconds since 1970, as far as the system tells; else 0.
+pub fn wall_clock<R: Clock>(rt: &R) -> u64 {
+    let Ok(now) = SystemTime::now(rt) else {
+        return 0;
+    };
+    now.duration_since(UNIX_EPOCH).map_or(0, milliseconds)
 }

@@ -12,6 +12,8 @@ pub struct Connection {
     pub(crate) number: u64,
     pub(crate) address: SocketAddr,
     pub(crate) stream: TcpStream,
+    /// A proxy passes it on, so it begins with a line that says whose it is.
+    pub(crate) is_proxied: bool,
 }
 
 impl Connection {

@@ -3,6 +3,8 @@
 ghost use Rattle.std.specs.Prelude.{◌≡◌, false, IsTrue};
 ghost use Rattle.std_alloc.specs.Arc.{arc_value};
 ghost use Rattle.s4_stream.specs.Logins.{keeps_login};
+ghost use Rattle.s4_stream.specs.Stream.{caller_at};
+ghost use Rattle.s4_sockets.specs.Staying.{may_stay};
 ghost use Rattle.s4_talk.specs.Turning.{Turns, TurnsSo, fresh_talk, scene};
 
 use crate::tables::Table;
@@ -103,6 +105,9 @@ impl Conversation {
         // A talk in which something was heard keeps its table.
         ensures anew { IsTrue is_fresh → self.new.talking ≡ fresh_talk }
         ensures one_table { is_fresh ≡ false → self.new.logins ≡ self.old.logins }
+        ensures stays { result ≡ may_stay is_fresh
+            (caller_at self.old.talking.session.state) self.old.talking.fault
+            (arc_value self.old.logins) (arc_value newer.logins) }
     {
         if is_fresh {
             *self = Conversation::open(self.alloc, newer);

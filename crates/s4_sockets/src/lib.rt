@@ -3,7 +3,6 @@
 #![tactic(auto)]
 
 mod accepting;
-mod addresses;
 mod attempts;
 mod clock;
 mod connection;
@@ -15,10 +14,12 @@ mod hold;
 mod host;
 mod left;
 mod lobby;
+mod open_by;
 mod opening;
 mod peer;
 mod peers;
 mod post;
+mod proxy_line;
 mod rota;
 mod share;
 mod states;
@@ -29,12 +30,12 @@ mod watch;
 
 pub use accepting::{Door, accept_all};
 pub use attempts::{FailedBy, FailedLogins};
-pub use clock::{Stopwatch, Ticks};
+pub use clock::{Stopwatch, Ticks, wall_clock};
 pub use connection::Connection;
 pub use hold::Awaited;
 pub use host::Host;
 pub use left::record_bytes;
-pub use lobby::Lobby;
+pub use lobby::{Lobby, OpenFrom, OpenOf};
 pub use peers::Peers;
 pub use post::{Post, least_claimed, wake_all};
 pub use states::States;

@@ -2,17 +2,18 @@
 
 ghost use Rattle.std.specs.Prelude.{◌≡◌, IfOk};
 ghost use Rattle.std_alloc.specs.Arc.{arc_value};
-ghost use Rattle.s4_command.specs.Bounds.{tenants_of};
+ghost use Rattle.s4_settings.specs.Bounds.{tenants_of};
 
-use crate::addresses::Addresses;
 use crate::attempts::{Attempts, FailedLogins};
+use crate::open_by::OpenBy;
 use crate::share::{Share, Shares};
 use crate::tables::{Table, Tables};
 use crate::trail::Trail;
 use crate::trails::{LeftBy, Trails};
-use s4_command::{Patience, Settings};
+use s4_settings::{Patience, Settings};
 use s4_stream::Logins;
 use s4_types::{Caller, Moment, NoMemory, Principal};
+use serde::Serialize;
 use std::alloc::Global;
 use std::net::IpAddr;
 use std::sync::atomic::{AtomicBool, AtomicU64, Ordering};
@@ -26,7 +27,11 @@ pub struct Lobby<'a, R> {
     attempts: Attempts,
     pub(crate) patience: Patience,
     /// How many connections are open from each address.
-    addresses: Addresses,
+    addresses: OpenBy<IpAddr>,
+    /// How many are welcomed of each principal.
+    principals: OpenBy<u32>,
+    /// The address from which connections are a proxy's, if there is one.
+    proxy: Option<IpAddr>,
     /// What each principal has of the workers' time.
     shares: Shares,
     /// What each principal's requests left of records.
@@ -50,6 +55,8 @@ impl<R> Drop for Lobby<'_, R> {
             attempts: _,
             patience: _,
             addresses: _,
+            principals: _,
+            proxy: _,
             shares: _,
             trails: _,
             tenants: _,
@@ -78,7 +85,9 @@ impl<'a, R> Lobby<'a, R> {
             tables: Tables::new(alloc, logins)?,
             attempts: Attempts::new(alloc),
             patience: settings.patience,
-            addresses: Addresses::new(alloc, settings.open_each),
+            addresses: OpenBy::new(alloc, settings.open_each),
+            principals: OpenBy::new(alloc, 0),
+            proxy: settings.proxy,
             shares: Shares::new(alloc),
             trails: Trails::new(alloc, settings.records, settings.window),
             tenants: AtomicU64::new(0),
@@ -108,25 +117,29 @@ impl<'a, R> Lobby<'a, R> {
         self.turned_away.fetch_add(1, Ordering::SeqCst);
     }
 
-    /// Takes a place for a connection whose caller is welcomed now. Tells whether there was one: some
-    /// are the administrator's.
-    pub(crate) fn seat(&self, caller: &Caller) -> bool {
-        if caller.who.is_administrator() {
+    /// Takes a place for a tenant, unless this is the administrator. Tells whether there was one.
+    fn take_place(&self, who: &Principal) -> bool {
+        if who.is_administrator() {
             return true;
         }
         let before = self.tenants.fetch_add(1, Ordering::SeqCst);
         if before < self.most_tenants {
             return true;
         }
-        self.unseat(caller);
+        self.give_place(who);
         false
     }
 
-    /// Gives the place back of a connection that had one by its caller.
-    pub(crate) fn unseat(&self, caller: &Caller) {
-        if !caller.who.is_administrator() {
+    /// Gives the place of a tenant back, unless this is the administrator.
+    fn give_place(&self, who: &Principal) {
+        if !who.is_administrator() {
             self.tenants.fetch_sub(1, Ordering::SeqCst);
         }
+    }
+
+    /// Whether a proxy is at this address, which may be written as an IPv6 address.
+    pub(crate) fn is_proxy(&self, address: IpAddr) -> bool {
+        self.proxy == Some(address.to_canonical())
     }
 
     /// How many login tables there were before the newest one.
@@ -155,6 +168,36 @@ impl<R: Wait> Lobby<'_, R> {
     /// of one whom they don't.
     pub(crate) fn failed(&self, who: Option<u32>, now: u64) {
         self.attempts.failed(self.rt, who, now);
+    }
+
+    /// Takes a place for a connection whose caller is welcomed now. Tells whether there was one: some are
+    /// the administrator's.
+    pub(crate) fn seat(&self, caller: &Caller) -> bool {
+        let is_seated = self.take_place(&caller.who);
+        if is_seated {
+            // There is no bound on these, so none is turned away.
+            let _ = self.principals.enter(self.rt, caller.who.number());
+        }
+        is_seated
+    }
+
+    /// Gives the place back of a connection that had one by its caller.
+    pub(crate) fn unseat(&self, caller: &Caller) {
+        self.principals.leave(self.rt, caller.who.number());
+        self.give_place(&caller.who);
+    }
+
+    /// Whether a connection that comes from the address may be open. It is counted, unless a proxy is there:
+    /// then the peer is that its first line names.
+    pub(crate) fn lets_in(&self, address: IpAddr) -> bool {
+        self.is_proxy(address) || self.enter(address)
+    }
+
+    /// A connection from the address that was let in isn't open any more.
+    pub(crate) fn lets_out(&self, address: IpAddr) {
+        if !self.is_proxy(address) {
+            self.leave(address);
+        }
     }
 
     /// Counts a connection from the address. Tells whether it may be open.
@@ -189,4 +232,37 @@ impl<R: Wait> Lobby<'_, R> {
     pub fn failed_logins(&self, alloc: Global, now: u64) -> Result<FailedLogins, NoMemory> {
         self.attempts.told(self.rt, alloc, now)
     }
+
+    /// From which addresses the most connections are open, and how many.
+    pub fn open_from(&self, alloc: Global) -> Result<Vec<OpenFrom>, NoMemory> {
+        let mut told = Vec::new(alloc);
+        for (address, count) in self.addresses.told(self.rt)? {
+            let address = address.to_string(alloc)?;
+            told.push(OpenFrom { address, count })?;
+        }
+        Ok(told)
+    }
+
+    /// Of which principals the most connections are welcomed, and how many.
+    pub fn open_of(&self, alloc: Global) -> Result<Vec<OpenOf>, NoMemory> {
+        let mut told = Vec::new(alloc);
+        for (who, count) in self.principals.told(self.rt)? {
+            told.push(OpenOf { who, count })?;
+        }
+        Ok(told)
+    }
+}
+
+/// How many connections are open from an address.
+#[derive(Drop, Serialize)]
+pub struct OpenFrom {
+    pub address: String,
+    pub count: u32,
+}
+
+/// How many connections of a principal are welcomed.
+#[derive(Clone, Copy, Serialize)]
+pub struct OpenOf {
+    pub who: u32,
+    pub count: u32,
 }

@@ -8,16 +8,18 @@ use crate::hold::{Awaited, Hold, hold_for};
 use crate::host::{Host, event_now, tell};
 use crate::lobby::Lobby;
 use crate::opening::Opening;
+use crate::proxy_line::{Heard, MOST, Origin, hear};
 use crate::rota::{Rota, Turn};
 use crate::states::State;
 use crate::tables::Table;
 use mio::net::TcpStream;
-use s4_command::Patience;
 use s4_keeping::{Entrant, Kind};
+use s4_settings::Patience;
 use s4_stream::SessionFault;
 use s4_talk::{TalkEnd, TurnEnd};
 use s4_types::{NoMemory, Principal};
 use std::alloc::Global;
+use std::io::{ErrorKind, Read};
 use std::mem::replace;
 use std::net::Shutdown;
 use std::sync::Wait;
@@ -35,6 +37,10 @@ const FAULT_FRAME: usize = 6;
 #[derive(Drop)]
 pub(crate) struct Peer {
     entrant: Entrant,
+    /// A proxy passes it on, and the line isn't there yet that says whose it is.
+    announced: bool,
+    /// It counts among the connections of its address.
+    counted: bool,
     stream: TcpStream,
     stage: Stage,
     opening: Opening,
@@ -78,10 +84,11 @@ pub(crate) enum Next {
 }
 
 impl Peer {
-    /// A peer with whom nothing was said. Takes no memory.
+    /// A peer with whom nothing was said. `is_proxied` says that a proxy passes it on. Takes no memory.
     pub(crate) fn new(
         alloc: Global,
         entrant: Entrant,
+        is_proxied: bool,
         stream: TcpStream,
         table: Table,
         queue: usize,
@@ -89,6 +96,8 @@ impl Peer {
     ) -> Peer {
         Peer {
             entrant,
+            announced: is_proxied,
+            counted: !is_proxied,
             stream,
             stage: Stage::Talks(Conversation::open(alloc, table)),
             opening: Opening::new(),
@@ -106,6 +115,11 @@ impl Peer {
     /// Who it is.
     pub(crate) fn entrant(&self) -> &Entrant {
         &self.entrant
+    }
+
+    /// Whether a proxy passes it on, and the line isn't there yet that says whose it is.
+    pub(crate) fn is_announced(&self) -> bool {
+        self.announced
     }
 
     /// The stream, to be watched.
@@ -138,6 +152,12 @@ impl Peer {
         if !self.meets(lobby) {
             return Next::Over(Kind::Revoked);
         }
+        if self.announced && !lobby.is_over() {
+            match self.hear_proxy(lobby, host) {
+                Next::GoesOn => {}
+                next => return next,
+            }
+        }
         host.turn_to(self.entrant.connection);
         for _ in 0..TURNS {
             let end = self.talk(lobby, host, now);
@@ -159,6 +179,62 @@ impl Peer {
             }
         }
         Next::GoesOn
+    }
+
+    /// Hears the line of the proxy that passes the peer on: nothing behind it is taken.
+    fn hear_proxy<R: Wait, H: Host>(&mut self, lobby: &Lobby<'_, R>, host: &H) -> Next {
+        let mut bytes = [0; MOST];
+        let heard = match self.stream.peek(&mut bytes) {
+            Ok(0) => return Next::Over(Kind::Closed),
+            Ok(count) => hear(&bytes[..count]),
+            Err(error) => match error.kind() {
+                ErrorKind::WouldBlock | ErrorKind::Interrupted => return Next::Waits,
+                _ => return Next::Over(Kind::Reset),
+            },
+        };
+        match heard {
+            Heard::Line(count, origin) if self.skip(count) => self.comes_from(lobby, host, origin),
+            Heard::Torn if !self.last => Next::Waits,
+            _ => {
+                self.opens(host);
+                tell(host, &self.entrant, Kind::Malformed);
+                Next::Over(Kind::Closed)
+            }
+        }
+    }
+
+    /// Takes so many bytes that are there. Tells whether it did.
+    fn skip(&self, count: usize) -> bool {
+        let mut bytes = [0; MOST];
+        let mut reader: &TcpStream = &self.stream;
+        match reader.read(&mut bytes[..count.min(MOST)]) {
+            Ok(read) => read == count,
+            Err(_) => false,
+        }
+    }
+
+    /// The proxy says whose connection this is. It has to have a place among those of its address.
+    fn comes_from<R: Wait, H: Host>(
+        &mut self,
+        lobby: &Lobby<'_, R>,
+        host: &H,
+        origin: Origin,
+    ) -> Next {
+        if let Origin::Peer(address) = origin {
+            self.entrant.address = Some(address);
+            self.counted = lobby.enter(address.ip());
+            if !self.counted {
+                return Next::Over(Kind::TurnedAway);
+            }
+        }
+        self.opens(host);
+        Next::GoesOn
+    }
+
+    /// Leaves word that it was opened, once it is known whose it is.
+    fn opens<H: Host>(&mut self, host: &H) {
+        self.announced = false;
+        tell(host, &self.entrant, Kind::Opened);
     }
 
     /// The turn that it waits for at this place.
@@ -263,7 +339,9 @@ impl Peer {
 
     /// Gives its places back. Its connection is over.
     pub(crate) fn leave_places<R: Wait>(&self, lobby: &Lobby<'_, R>) {
-        if let Some(address) = self.entrant.address {
+        if let Some(address) = self.entrant.address
+            && self.counted
+        {
             lobby.leave(address.ip());
         }
         match self.opening.caller() {

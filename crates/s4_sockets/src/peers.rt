@@ -107,16 +107,24 @@ impl Peers {
         ensures looked { self.new.looked ≡ self.old.looked }
     {
         let entrant = connection.entrant();
+        let is_proxied = connection.is_proxied;
         let stream = TcpStream::from_std(connection.stream);
         let table = lobby.newest();
-        tell(host, &entrant, Kind::Opened);
+        if !is_proxied {
+            tell(host, &entrant, Kind::Opened);
+        }
         let is_in = match table {
-            Ok(table) => self.add(lobby, watch, entrant, stream, table, now).is_ok(),
+            Ok(table) => self
+                .add(lobby, watch, entrant, is_proxied, stream, table, now)
+                .is_ok(),
             Err(_) => false,
         };
         if !is_in {
             if let Some(address) = entrant.address {
-                lobby.leave(address.ip());
+                lobby.lets_out(address.ip());
+            }
+            if is_proxied {
+                tell(host, &entrant, Kind::Opened);
             }
             tell(host, &entrant, Kind::NoMemory);
         }
@@ -129,6 +137,7 @@ impl Peers {
         lobby: &Lobby<'_, R>,
         watch: &Watch,
         entrant: Entrant,
+        is_proxied: bool,
         stream: TcpStream,
         table: Table,
         now: u64,
@@ -136,7 +145,7 @@ impl Peers {
         ensures looked { self.new.looked ≡ self.old.looked }
     {
         let queue = self.rota.queue_of(lobby, None)?;
-        let peer = Peer::new(self.alloc, entrant, stream, table, queue, now);
+        let peer = Peer::new(self.alloc, entrant, is_proxied, stream, table, queue, now);
         let place = self.places.insert(peer)?;
         let watched = match self.places.get_mut(place) {
             Some(peer) => watch.add(peer.stream_mut(), place),
@@ -356,6 +365,9 @@ fn stays<R: Wait, H: Host>(
             peer.leave_places(lobby);
             if matches!(parting, Kind::TurnedAway) {
                 lobby.turn_away();
+            }
+            if peer.is_announced() {
+                tell(host, peer.entrant(), Kind::Opened);
             }
             tell(host, peer.entrant(), parting);
             false

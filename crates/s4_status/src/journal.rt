@@ -1,6 +1,6 @@
 //! What is told of a server's journal.
 
-ghost use Rattle.std.specs.Prelude.{◌≡◌, IfOk};
+ghost use Rattle.std.specs.Prelude.{◌≡◌, ◌-◌, IfOk};
 
 use s4_keeping::{FileKept, Kept};
 use s4_types::NoMemory;
@@ -18,6 +18,8 @@ pub struct JournalStatus {
     pub sum: String,
     pub calls: FileStatus,
     pub connections: FileStatus,
+    /// For how many milliseconds no record can wait longer that it lacks.
+    pub behind: u64,
     /// Whether it couldn't be written when that was last tried.
     pub fails: bool,
 }
@@ -32,8 +34,9 @@ pub struct FileStatus {
 }
 
 impl JournalStatus {
-    /// What is told of a journal that is so far.
-    pub fn of(alloc: Global, kept: Kept) -> Result<JournalStatus, NoMemory>
+    /// What is told now of a journal that is so far.
+    pub fn of(alloc: Global, kept: Kept, now: u64) -> Result<JournalStatus, NoMemory>
+        ensures behind { IfOk result (λ told. told.behind ≡ now - kept.reached) }
         ensures start { IfOk result (λ told. told.start ≡ kept.start) }
         ensures bytes { IfOk result (λ told. told.bytes ≡ kept.records.bytes) }
         ensures fails { IfOk result (λ told. told.fails ≡ kept.fails) }
@@ -44,6 +47,7 @@ impl JournalStatus {
             sum: hex::encode(alloc, kept.records.sum.as_slice())?,
             calls: FileStatus::of(alloc, kept.calls)?,
             connections: FileStatus::of(alloc, kept.events)?,
+            behind: now.saturating_sub(kept.reached),
             fails: kept.fails,
         })
     }

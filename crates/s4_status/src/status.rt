@@ -4,20 +4,30 @@ ghost use Rattle.std.specs.Prelude.{◌≡◌, ◌+◌, ◌-◌, ◌^◌, ◌++�
 
 use crate::journal::JournalStatus;
 use crate::tally::{KINDS, Tally};
-use s4_sockets::{FailedLogins, LeftBy, Lobby, Post, States};
+use s4_keeping::LoginsChange;
+use s4_sockets::{FailedLogins, LeftBy, Lobby, OpenFrom, OpenOf, Post, States};
 use s4_types::NoMemory;
 use serde::Serialize;
+use std::alloc::Global;
+use std::sync::Wait;
 
 /// What a server tells of itself at a moment.
 #[derive(Serialize)]
 pub struct Status {
+    /// The program's version.
+    pub version: &'static str,
+    /// The milliseconds since 1970 when it began.
+    pub began: u64,
     pub moment: u64,
+    /// The window at the start, in milliseconds.
+    pub window: u64,
     /// The port at which it listens.
     pub port: u16,
     /// How many bytes of memory the process has, as far as the system tells.
     pub resident_bytes: Option<u64>,
     pub connections: Connections,
     pub failed_logins: FailedLogins,
+    pub logins: LoginsStatus,
     pub records: u64,
     pub values: u64,
     pub cells: Vec<CellStatus>,
@@ -33,11 +43,15 @@ pub struct Status {
 impl Drop for Status {
     fn drop(self) {
         let Status {
+            version: _,
+            began: _,
             moment: _,
+            window: _,
             port: _,
             resident_bytes: _,
             connections: _,
             failed_logins: _,
+            logins: _,
             records: _,
             values: _,
             cells: _,
@@ -64,6 +78,51 @@ pub struct Connections {
     pub welcomed: u64,
     /// The open ones that were told their end.
     pub leaving: u64,
+    /// Of which principals the most are welcomed.
+    pub principals: Vec<OpenOf>,
+    /// From which addresses the most are open.
+    pub addresses: Vec<OpenFrom>,
+}
+
+/// The login table of a server.
+#[derive(Drop, Serialize)]
+pub struct LoginsStatus {
+    /// The milliseconds since 1970 when it was read.
+    pub read: u64,
+    /// What it changed, where it took another one's place.
+    pub added: Vec<u32>,
+    pub changed: Vec<u32>,
+    pub removed: Vec<u32>,
+}
+
+impl LoginsStatus {
+    /// A table that was read then, and changed that.
+    pub fn of(read: u64, change: LoginsChange) -> LoginsStatus {
+        let LoginsChange {
+            added,
+            changed,
+            removed,
+        } = change;
+        LoginsStatus {
+            read,
+            added,
+            changed,
+            removed,
+        }
+    }
+
+    /// The same once more.
+    pub fn copy(&self) -> Result<LoginsStatus, NoMemory> {
+        let added: Result<_, _> = self.added.clone();
+        let changed: Result<_, _> = self.changed.clone();
+        let removed: Result<_, _> = self.removed.clone();
+        Ok(LoginsStatus {
+            read: self.read,
+            added: added?,
+            changed: changed?,
+            removed: removed?,
+        })
+    }
 }
 
 /// A cell of a server.
@@ -123,7 +182,13 @@ impl Refusals {
 
 impl Connections {
     /// Those that the workers were given.
-    pub fn of<R>(posts: &[Post], lobby: &Lobby<'_, R>) -> Connections {
+    pub fn of<R: Wait>(
+        alloc: Global,
+        posts: &[Post],
+        lobby: &Lobby<'_, R>,
+    ) -> Result<Connections, NoMemory> {
+        let principals = lobby.open_of(alloc)?;
+        let addresses = lobby.open_from(alloc)?;
         let mut all = Connections {
             accepted: 0,
             turned_away: lobby.turned_away(),
@@ -131,6 +196,8 @@ impl Connections {
             greeting: 0,
             welcomed: 0,
             leaving: 0,
+            principals,
+            addresses,
         };
         for post in posts {
             let States {
@@ -145,7 +212,7 @@ impl Connections {
             all.welcomed = all.welcomed.saturating_add(welcomed);
             all.leaving = all.leaving.saturating_add(leaving);
         }
-        all
+        Ok(all)
     }
 }
 
