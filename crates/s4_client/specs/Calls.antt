@@ -12,9 +12,17 @@ use Rattle.s4_client.specs.declared.fault.CallFault.{CallFault}
 use Rattle.s4_client.specs.declared.fault.CallFault.TheVariants as fault
 use Rattle.s4_stream.specs.Talk.{welcome, fault_frame}
 
+-- the frame of a Hello
+abbrev pub greeting_of : Hello → List ℕ
+greeting_of hello = framed (hellos.hello.spell hello)
+
+-- the frame of a request in a version
+abbrev pub request_frame : WireVersion → Request → List ℕ
+request_frame version request = framed ((requests.request version).spell request)
+
 -- the frame of the Hello, and then that of the request, in the Hello's version
 abbrev pub message_of : Hello → Request → List ℕ
-message_of hello request = framed (hellos.hello.spell hello) ++ framed ((requests.request hello.caller.version).spell request)
+message_of hello request = greeting_of hello ++ request_frame hello.caller.version request
 
 -- A beginning of these bytes is written, and nothing else.
 abbrev pub Begins : Option (List ℕ) → Option (List ℕ) → List ℕ → Type 0

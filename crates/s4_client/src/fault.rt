@@ -1,7 +1,7 @@
 //! Why a call has no reply.
 
 ghost use Rattle.std.specs.Prelude.{◌≡◌, Some};
-ghost use Rattle.s4_client.specs.Texts.{call_fault_text};
+ghost use Rattle.s4_client.specs.Texts.{call_fault_text, fault_name};
 ghost use Rattle.s4_client.specs.declared.fault.CallFault.TheVariants as fault;
 
 use s4_stream::SessionFault;
@@ -14,8 +14,6 @@ use thiserror::Error;
 pub enum CallFault {
     /// The request has no spelling within a frame.
     BadRequest,
-    /// No connection was made.
-    CannotConnect,
     /// The connection failed or ended before the reply, or gave no spelling of one.
     ConnectionLost,
     /// The session told this fault.
@@ -30,14 +28,24 @@ impl fmt::Display for CallFault {
     fn fmt<W: fmt::Write>(&self, f: &mut fmt::Formatter<W>) -> fmt::Result {
         match self {
             CallFault::BadRequest => write!(f, "bad request"),
-            CallFault::CannotConnect => write!(f, "cannot connect"),
             CallFault::ConnectionLost => write!(f, "connection lost"),
             CallFault::Session(fault) => {
                 let number = fault.number();
-                write!(f, "session fault {number}")
+                write!(f, "session fault {number}: {}", name_of(*fault))
             }
             CallFault::NoMemory => write!(f, "no memory"),
         }
+    }
+}
+
+/// The name of a fault of a session (docs/PROTOCOL.md, "Faults").
+fn name_of(fault: SessionFault) -> &'static str
+    ensures { result.now ≡ fault_name fault }
+{
+    match fault {
+        SessionFault::Malformed => "malformed",
+        SessionFault::BadLogin => "bad login",
+        SessionFault::FrameLength => "frame length",
     }
 }
 

@@ -44,8 +44,8 @@ pub fn call<R: Read, W: Write>(
     hear_reply(version, alloc, reader)
 }
 
-/// Writes all of the bytes.
-fn send<W: Write>(writer: &mut W, bytes: &[u8]) -> Result<(), CallFault>
+/// Writes all of the bytes. `ConnectionLost` where the writer fails before.
+pub fn send<W: Write>(writer: &mut W, bytes: &[u8]) -> Result<(), CallFault>
     ensures sent { Begins (W.contents writer.old) (W.contents writer.new) bytes.now }
     ensures all_sent { OnOk result
         (Appends (W.contents writer.old) (W.contents writer.new) bytes.now) }
@@ -81,8 +81,9 @@ fn send_some<W: Write>(writer: &mut W, bytes: &[u8]) -> Result<usize, CallFault>
     }
 }
 
-/// Hears the Welcome of the version.
-fn hear_welcome<R: Read>(
+/// Hears the Welcome of the version. `Session` where a fault is told in its place, and `ConnectionLost` where
+/// the reader fails or ends before, or where something else is told.
+pub fn hear_welcome<R: Read>(
     version: WireVersion,
     alloc: Global,
     reader: &mut R,
@@ -100,8 +101,8 @@ fn hear_welcome<R: Read>(
     }
 }
 
-/// Hears the reply.
-fn hear_reply<R: Read>(
+/// Hears the next reply of that version. It ends otherwise as `hear_welcome` does.
+pub fn hear_reply<R: Read>(
     version: WireVersion,
     alloc: Global,
     reader: &mut R,

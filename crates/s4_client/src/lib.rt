@@ -1,5 +1,5 @@
-//! A call of a served drive: one Hello and one request, and what is answered (docs/PROTOCOL.md,
-//! "Calls").
+//! Calls of a served drive: a Hello and a request, or requests one behind the other, and what is answered
+//! (docs/PROTOCOL.md, "Calls").
 #![tactic(auto)]
 
 mod fault;
@@ -8,6 +8,6 @@ mod peer;
 mod sending;
 
 pub use fault::CallFault;
-pub use hearing::call;
+pub use hearing::{call, hear_reply, hear_welcome, send};
 pub use peer::connect;
-pub use sending::message;
+pub use sending::{asking, greeting, message};

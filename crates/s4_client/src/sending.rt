@@ -6,7 +6,7 @@ ghost use Rattle.s4_codec.specs.Frames.{framed};
 ghost use Rattle.s4_codec.specs.Requests.{IsRequestBody};
 ghost use Rattle.s4_codec.specs.Versions.{frame_limit};
 ghost use Rattle.s4_stream.specs.Hello as format;
-ghost use Rattle.s4_client.specs.Calls.{message_of};
+ghost use Rattle.s4_client.specs.Calls.{greeting_of, message_of, request_frame};
 ghost use Rattle.s4_client.specs.declared.fault.CallFault.TheVariants as fault;
 
 use crate::fault::CallFault;
@@ -14,7 +14,7 @@ use byteorder::{BigEndian, ByteOrder};
 use bytes::BytesMut;
 use s4_codec::{WriteError, write_request};
 use s4_stream::Hello;
-use s4_types::{NoMemory, Request};
+use s4_types::{NoMemory, Request, WireVersion};
 use std::alloc::Global;
 
 /// The code of a Hello.
@@ -34,6 +34,35 @@ pub fn message(alloc: Global, hello: &Hello, request: &Request) -> Result<Vec<u8
         Err(WriteError::NoMemory) => return Err(CallFault::NoMemory),
     };
     Ok(framed(alloc, hello, body.as_slice())?)
+}
+
+/// The frame of a Hello, by which a connection begins.
+#[tactic(auto, using(crate::proofs::Limits::in_four_bytes))]
+pub fn greeting(alloc: Global, hello: &Hello) -> Result<Vec<u8>, NoMemory>
+    ensures { IfOk result (λ greeting. greeting.items ≡ greeting_of hello.now) }
+{
+    let mut greeting = BytesMut::new(alloc);
+    add_frame(&mut greeting, write_hello(alloc, hello)?.as_slice())?;
+    Ok(greeting.into_vec()?)
+}
+
+/// The frame of a request in a version of the wire. `BadRequest` where the request has no spelling within
+/// a frame of that.
+#[tactic(auto, using(crate::proofs::Limits::in_four_bytes))]
+pub fn asking(version: WireVersion, alloc: Global, request: &Request) -> Result<Vec<u8>, CallFault>
+    ensures frame { IfOk result (λ frame. frame.items ≡ request_frame version request.now) }
+    ensures bad { IsErrOf result fault.BadRequest
+        → (body : List ℕ) → IsRequestBody version body request.now → ⊥ }
+    ensures why { IfErr result (λ why. (why ≡ fault.BadRequest) ⊎ (why ≡ fault.NoMemory)) }
+{
+    let body = match write_request(version, alloc, request) {
+        Ok(body) => body,
+        Err(WriteError::TooBig) => return Err(CallFault::BadRequest),
+        Err(WriteError::NoMemory) => return Err(CallFault::NoMemory),
+    };
+    let mut frame = BytesMut::new(alloc);
+    add_frame(&mut frame, body.as_slice())?;
+    Ok(frame.into_vec()?)
 }
 
 /// The frame of a Hello, and then that of a body.
