@@ -4,6 +4,8 @@ use Rattle.clap.specs.Matches.{first_value}
 use Rattle.clap.specs.declared.parser.matches.Found.{Found}
 use Rattle.s4_types.specs.declared.principal.WireVersion.{WireVersion}
 use Rattle.s4_types.specs.declared.principal.WireVersion.TheVariants.{One, Two}
+use Rattle.s4_command.specs.declared.checks.TextKind.{TextKind}
+use Rattle.s4_command.specs.declared.checks.TextKind.TheVariants as kind
 use Rattle.s4_command.specs.declared.command.Command.{Command}
 use Rattle.s4_command.specs.declared.command.Command.TheVariants as command
 use Rattle.s4_stream.specs.LoginText.{principal_in, secret_in}
@@ -27,6 +29,13 @@ abbrev pub version_word : WireVersion → List ℕ
 version_word One = codes "1"
 version_word Two = codes "2"
 
+-- the word of a kind of text
+abbrev pub kind_word : TextKind → List ℕ
+kind_word kind.Script = codes "script"
+kind_word kind.Arrivals = codes "arrivals"
+kind_word kind.Logins = codes "logins"
+kind_word kind.Setup = codes "setup"
+
 -- it is the Hello that the words of the command line spell; of the secret in a file nothing is said
 pub record IsHelloOf (found : Found) (hello : Hello) : Type 0 where
   pub who : principal_in (word_of found (codes "WHO")) ≡ Some hello.caller.who
@@ -36,7 +45,7 @@ pub record IsHelloOf (found : Found) (hello : Hello) : Type 0 where
 
 -- a script is to be struck for a principal other than the administrator
 abbrev pub IsForTenant : Command → Type 0
-IsForTenant (command.Strike who) = who ≢ 0
+IsForTenant (command.Strike who explained) = who ≢ 0
 IsForTenant other = ⊥
 
 -- it is a call at the address and with the Hello that the words spell

@@ -1,6 +1,6 @@
 //! The command that a command line spells, or the fault of one that spells none.
 
-ghost use Rattle.std.specs.Prelude.{◌≡◌, ◌≢◌, ◌≤◌, ◌⊎◌, IfOk, IfSome, Err, codes};
+ghost use Rattle.std.specs.Prelude.{◌≡◌, ◌≢◌, ◌≤◌, ◌⊎◌, IfOk, IfSome, Some, Err, codes};
 ghost use Rattle.clap.specs.Matches.{found_of};
 ghost use Rattle.std.specs.IoError.{error_kind};
 ghost use Rattle.std.specs.declared.io.ErrorKind.TheVariants as io_kind;
@@ -8,19 +8,26 @@ ghost use Rattle.clap.specs.Values.{kind_of};
 ghost use Rattle.s4_stream.specs.LoginText.{principal_in};
 ghost use Rattle.s4_command.specs.Faults.{IsFaultOf};
 ghost use Rattle.s4_command.specs.declared.fault.WordsFault.TheVariants as fault;
+ghost use Rattle.s4_command_line.specs.Durations.{duration_in};
 ghost use Rattle.s4_command_line.specs.Words.{IsCallOf, IsForTenant, IsHelloOf, client_in, version_word, word_of};
 
+use crate::asking::{asking, is_asking};
+use crate::causes::{explained, file_check};
+use crate::duration::duration_in;
 use crate::history::history;
 use crate::meaning::{all_meant, secret_of};
 use crate::parser::{
-    ADDRESS, CELLS, CLIENT, CONNECTIONS, CUT, FIRST, HELLO, IDLE, JOURNAL, LOGINS, OPEN, OPEN_EACH,
-    RECORDS, RELOAD, SECRET, SETUP, STATUS, SYNC, UNTIL, WAIT, WHO, WINDOW, WIRE, WORD, WORKERS,
-    parser,
+    ADDRESS, CELLS, CHECK, CLIENT, CONNECTIONS, CUT, FIRST, HELLO, IDLE, JOURNAL, LOG_TIMES,
+    LOGINS, OPEN, OPEN_EACH, RECORDS, RELOAD, SECRET, SETUP, STATUS, SUMS, SYNC, UNTIL, WAIT, WHO,
+    WINDOW, WIRE, WORD, WORKERS, parser,
 };
+use crate::telling::{proxy, status_text};
 use clap::error::ErrorKind;
 use clap::{ArgMatches, Error};
-use s4_command::{Call, Command, Journal, Patience, Service, Settings, WordsFault};
-use s4_script::{parse_number, parse_principal, parse_request};
+use s4_causes::Cause;
+use s4_command::{Call, Command, Journal, Service, WordsFault};
+use s4_script::{ParseError, parse_number, parse_principal, parse_request};
+use s4_settings::{Patience, Settings};
 use s4_stream::{Hello, principal_in};
 use s4_types::{Caller, Principal, Request, WireVersion};
 use std::alloc::Global;
@@ -29,6 +36,9 @@ use std::{env, io};
 
 /// The greatest moment at the start of a server. Those behind it last more than 292 million years.
 const LAST_FIRST: u64 = 9223372036854775807;
+
+/// The word that stands for the time at the start.
+const NOW: &str = "now";
 
 /// The command that the program's arguments spell. Files that these name are read.
 pub fn given<E: Env + AllocGlobal, R: Files + AllocGlobal>(
@@ -54,29 +64,32 @@ pub fn parse<R: Files + AllocGlobal>(rt: &R, words: &[String]) -> Result<Command
 fn chosen<R: Files + AllocGlobal>(rt: &R, matches: &ArgMatches) -> Result<Command, WordsFault> {
     let alloc = rt.alloc();
     match matches.subcommand() {
-        Some(("run", _)) => Ok(Command::Run),
-        Some(("hall", words)) => hall(alloc, words.get_str(LOGINS)),
-        Some(("strike", words)) => strike(alloc, words.get_str(WHO).unwrap_or_default()),
+        Some(("run", words)) => Ok(Command::Run(explained(words))),
+        Some(("hall", words)) => hall(alloc, words),
+        Some(("strike", words)) => strike(alloc, words),
+        Some(("check", words)) => file_check(alloc, words),
         Some(("serve", words)) => serve(alloc, words),
+        Some(("call", words)) if is_asking(words) => asking(rt, words),
         Some(("call", words)) => call(rt, words),
         Some(("history", words)) => history(alloc, words),
         _ => Err(WordsFault::wrong(alloc, "error: a command is wanted, as run")),
     }
 }
 
-fn hall(alloc: Global, logins: Option<&str>) -> Result<Command, WordsFault> {
-    match logins {
-        Some(path) => Ok(Command::Hall(String::from_str(alloc, path)?)),
+fn hall(alloc: Global, words: &ArgMatches) -> Result<Command, WordsFault> {
+    match words.get_str(LOGINS) {
+        Some(path) => Ok(Command::Hall(String::from_str(alloc, path)?, explained(words))),
         None => Err(WordsFault::wrong(alloc, "error: a file of logins is wanted")),
     }
 }
 
 /// A script is to be struck for the principal of that number, which isn't the administrator.
-fn strike(alloc: Global, word: &str) -> Result<Command, WordsFault>
+fn strike(alloc: Global, words: &ArgMatches) -> Result<Command, WordsFault>
     ensures { IfOk result (λ command. IsForTenant command) }
 {
+    let word = word(words, WHO);
     match parse_principal(word) {
-        Ok(who) if !who.is_administrator() => Ok(Command::Strike(who)),
+        Ok(who) if !who.is_administrator() => Ok(Command::Strike(who, explained(words))),
         _ => {
             let text = format!(in alloc;
                 "error: invalid value '{word}' for '<WHO>': it isn't a number from 1 to 4294967294\n\n\
@@ -89,17 +102,18 @@ fn strike(alloc: Global, word: &str) -> Result<Command, WordsFault>
 
 fn serve(alloc: Global, words: &ArgMatches) -> Result<Command, WordsFault> {
     let settings = Settings {
-        window: number(alloc, words, WINDOW, 0, u64::MAX)?,
+        window: time(alloc, words, WINDOW)?,
         cells: number(alloc, words, CELLS, 1, 16)? as usize,
         workers: number(alloc, words, WORKERS, 1, 8)?,
         connections: number(alloc, words, CONNECTIONS, 0, u64::from(u32::MAX))? as u32,
         patience: Patience {
-            idle: number(alloc, words, IDLE, 0, u64::MAX)?,
-            hello: number(alloc, words, HELLO, 0, u64::MAX)?,
+            idle: time(alloc, words, IDLE)?,
+            hello: time(alloc, words, HELLO)?,
         },
         open: number(alloc, words, OPEN, 1, u64::from(u32::MAX))? as u32,
         open_each: number(alloc, words, OPEN_EACH, 0, u64::from(u32::MAX))? as u32,
-        first: number(alloc, words, FIRST, 0, LAST_FIRST)?,
+        proxy: proxy(alloc, words)?,
+        first: first(alloc, words)?.unwrap_or_default(),
         cuts: words.get_flag(CUT),
         records: records(alloc, words)?,
     };
@@ -108,18 +122,43 @@ fn serve(alloc: Global, words: &ArgMatches) -> Result<Command, WordsFault> {
     let until = path(alloc, words, UNTIL, "FILE")?;
     let setup = path(alloc, words, SETUP, "FILE")?;
     let status = path(alloc, words, STATUS, "FILE")?;
+    let status_text = status_text(alloc, words)?;
     let journal = journal(alloc, words)?;
-    let reload = number(alloc, words, RELOAD, 0, u64::MAX)?;
-    Ok(Command::Serve(Service {
+    let reload = time(alloc, words, RELOAD)?;
+    let service = Service {
         address,
         logins,
         until,
         reload,
         setup,
         status,
+        status_text,
+        logs_times: words.get_flag(LOG_TIMES),
+        begins_now: word(words, FIRST) == NOW,
         journal,
         settings,
-    }))
+    };
+    if words.get_flag(CHECK) {
+        return Ok(Command::Check(service));
+    }
+    Ok(Command::Serve(service))
+}
+
+/// The moment at the start, where it is a number; none where it is the time then.
+fn first(alloc: Global, words: &ArgMatches) -> Result<Option<u64>, WordsFault>
+    ensures few { IfOk result (λ first. IfSome first (λ moment. moment ≤ 9223372036854775807)) }
+{
+    match parse_number(word(words, FIRST)) {
+        Ok(moment) if moment <= LAST_FIRST => Ok(Some(moment)),
+        _ if word(words, FIRST) == NOW => Ok(None),
+        _ => {
+            let text = format!(in alloc;
+                "error: invalid value for '--{FIRST} <N>': it isn't {NOW}, or a number from 0 to {LAST_FIRST}\n\n\
+                 For more information, try '--help'."
+            )?;
+            Err(WordsFault::Wrong(text))
+        }
+    }
 }
 
 /// How many bytes of records the requests of a principal may leave, where that is given.
@@ -134,25 +173,45 @@ fn records(alloc: Global, words: &ArgMatches) -> Result<Option<u64>, WordsFault>
 
 /// Where a server keeps its history.
 fn journal(alloc: Global, words: &ArgMatches) -> Result<Option<Journal>, WordsFault> {
-    let syncs = match word(words, SYNC) {
-        "second" => true,
-        "never" => false,
-        word => {
-            let text = format!(in alloc;
-                "error: invalid value '{word}' for '--{SYNC} <WHEN>': it isn't second or never\n\n\
-                 For more information, try '--help'."
-            )?;
-            return Err(WordsFault::Wrong(text));
-        }
-    };
+    let syncs = syncs(alloc, words)?;
+    let sums = path(alloc, words, SUMS, "FILE")?;
     match path(alloc, words, JOURNAL, "FOLDER")? {
-        Some(folder) => Ok(Some(Journal { folder, syncs })),
+        Some(folder) => Ok(Some(Journal {
+            folder,
+            syncs,
+            sums,
+        })),
+        None if sums.is_some() => Err(alone(alloc, SUMS, "no '--journal'")),
+        None if words.get_str(SYNC).is_some() => Err(alone(alloc, SYNC, "no '--journal'")),
         None => Ok(None),
     }
 }
 
+/// The fault of a flag that is given where it means nothing.
+fn alone(alloc: Global, flag: &str, why: &str) -> WordsFault {
+    let text = format!(in alloc;
+        "error: '--{flag}' is given, and {why}\n\nFor more information, try '--help'."
+    );
+    text.map_or_else(WordsFault::from, WordsFault::Wrong)
+}
+
+/// Whether the journal is synced each second, as it is where that isn't said.
+fn syncs(alloc: Global, words: &ArgMatches) -> Result<bool, WordsFault> {
+    match words.get_str(SYNC) {
+        None | Some("second") => Ok(true),
+        Some("never") => Ok(false),
+        Some(word) => {
+            let text = format!(in alloc;
+                "error: invalid value '{word}' for '--{SYNC} <WHEN>': it isn't second or never\n\n\
+                 For more information, try '--help'."
+            )?;
+            Err(WordsFault::Wrong(text))
+        }
+    }
+}
+
 /// The path of a file or a folder behind a flag, where that is given.
-fn path(
+pub fn path(
     alloc: Global,
     words: &ArgMatches,
     flag: &str,
@@ -168,6 +227,24 @@ fn path(
         }
         Some(path) => Ok(Some(String::from_str(alloc, path)?)),
         None => Ok(None),
+    }
+}
+
+/// The milliseconds behind a flag, which may have a unit.
+pub fn time(alloc: Global, words: &ArgMatches, flag: &str) -> Result<u64, WordsFault>
+    ensures { IfOk result
+        (λ time. duration_in (word_of (found_of words.now) flag.now) ≡ Some time) }
+{
+    match duration_in(word(words, flag).as_bytes()) {
+        Some(time) => Ok(time),
+        None => {
+            let text = format!(in alloc;
+                "error: invalid value for '--{flag} <TIME>': it isn't a number of milliseconds up to {}, or one with \
+                 ms, s, m, h or d behind it\n\nFor more information, try '--help'.",
+                u64::MAX
+            )?;
+            Err(WordsFault::Wrong(text))
+        }
     }
 }
 
@@ -198,7 +275,7 @@ fn call<R: Files + AllocGlobal>(rt: &R, words: &ArgMatches) -> Result<Command, W
     ensures { IfOk result (IsCallOf (found_of words.now)) }
 {
     let alloc = rt.alloc();
-    let wait = number(alloc, words, WAIT, 0, u64::MAX)?;
+    let wait = time(alloc, words, WAIT)?;
     let hello = hello(rt, words)?;
     let request = request(rt, words.get_strs(WORD).unwrap_or_default())?;
     let call = Call::new(alloc, word(words, ADDRESS), hello, request)?;
@@ -216,14 +293,22 @@ fn request<R: Files + AllocGlobal>(rt: &R, words: &[&str]) -> Result<Request, Wo
 }
 
 fn request_of(alloc: Global, words: &[&str]) -> Result<Request, WordsFault> {
-    match words {
-        [verb, words @ ..] => Ok(parse_request(alloc, verb, words)?),
-        [] => Err(WordsFault::BadRequest),
+    let (verb, behind) = match words {
+        [verb, behind @ ..] => (*verb, behind),
+        [] => ("", words),
+    };
+    match parse_request(alloc, verb, behind) {
+        Ok(request) => Ok(request),
+        Err(ParseError::Bad) => {
+            let cause = Cause::of_words(alloc, words)?;
+            Err(WordsFault::BadRequest(cause.to_string(alloc)?))
+        }
+        Err(ParseError::NoMemory) => Err(WordsFault::NoMemory),
     }
 }
 
 /// The Hello of a call.
-fn hello<R: Files + AllocGlobal>(rt: &R, words: &ArgMatches) -> Result<Hello, WordsFault>
+pub fn hello<R: Files + AllocGlobal>(rt: &R, words: &ArgMatches) -> Result<Hello, WordsFault>
     ensures { IfOk result (IsHelloOf (found_of words.now)) }
 {
     let alloc = rt.alloc();
@@ -246,7 +331,7 @@ fn hello<R: Files + AllocGlobal>(rt: &R, words: &ArgMatches) -> Result<Hello, Wo
 }
 
 /// The version of the wire that a call speaks.
-fn version(alloc: Global, words: &ArgMatches) -> Result<WireVersion, WordsFault>
+pub fn version(alloc: Global, words: &ArgMatches) -> Result<WireVersion, WordsFault>
     ensures { IfOk result
         (λ version. word_of (found_of words.now) (codes "wire") ≡ version_word version) }
 {
@@ -264,7 +349,7 @@ fn version(alloc: Global, words: &ArgMatches) -> Result<WireVersion, WordsFault>
 }
 
 /// The word of that name, or an empty one where there is none.
-fn word<'a>(words: &ArgMatches<'a>, name: &str) -> &'a str
+pub fn word<'a>(words: &ArgMatches<'a>, name: &str) -> &'a str
     ensures { result.now ≡ word_of (found_of words.now) name.now }
 {
     match words.get_str(name) {
@@ -281,7 +366,7 @@ fn who_in(word: &str) -> Option<Principal>
 }
 
 /// The client that a word spells, up to 4294967295, which is no principal.
-fn client_in(word: &str) -> Option<u32>
+pub fn client_in(word: &str) -> Option<u32>
     ensures { result ≡ client_in word.now }
 {
     if word == "4294967295" {
@@ -292,7 +377,7 @@ fn client_in(word: &str) -> Option<u32>
 
 /// The fault of an argument that isn't what it has to be. It doesn't tell the word, which may be a
 /// secret.
-fn misfit(alloc: Global, name: &str, wanted: &str) -> WordsFault {
+pub fn misfit(alloc: Global, name: &str, wanted: &str) -> WordsFault {
     let text = format!(in alloc;
         "error: invalid value for '<{name}>': it isn't {wanted}\n\nFor more information, try '--help'."
     );

@@ -1,29 +1,71 @@
 //! The words of a history.
 
-use crate::parser::{FOLDER, FROM, JSON, START, SUM, TELLING, TO};
+use crate::parser::{CSV, FOLDER, FROM, JSON, SUM, SUMS, TELLING, TO};
+use crate::selecting::{records, starts, time, unwanted};
+use crate::times::time_in;
 use clap::ArgMatches;
-use s4_command::{Command, History, Telling, WordsFault};
+use s4_command::{Command, Form, History, Starts, Telling, WordsFault};
 use s4_script::parse_number;
-use s4_types::Moment;
 use std::alloc::Global;
 
 /// The history that the words spell.
 pub fn history(alloc: Global, words: &ArgMatches) -> Result<Command, WordsFault> {
     let telling = telling(alloc, words)?;
-    let folder = String::from_str(alloc, words.get_str(FOLDER).unwrap_or_default())?;
-    let start = match words.get_str(START) {
-        Some(word) => Some(number(alloc, START, word)?),
-        None => None,
-    };
-    let from = Moment::new(number(alloc, FROM, words.get_str(FROM).unwrap_or_default())?);
-    let to = Moment::new(number(alloc, TO, words.get_str(TO).unwrap_or_default())?);
+    let starts = starts(alloc, words)?;
+    if telling == Telling::Script && starts == Some(Starts::All) {
+        return Err(WordsFault::wrong(
+            alloc,
+            "error: a script is of one start, and '--start all' names all\n\n\
+             For more information, try '--help'.",
+        ));
+    }
+    let (from, to) = (time(alloc, words, FROM)?, time(alloc, words, TO)?);
+    if is_behind(words) {
+        return Err(WordsFault::wrong(
+            alloc,
+            "error: '--from <TIME>' is greater than '--to <TIME>'\n\n\
+             For more information, try '--help'.",
+        ));
+    }
     Ok(Command::History(History {
         telling,
-        folder,
-        start,
+        folder: String::from_str(alloc, words.get_str(FOLDER).unwrap_or_default())?,
+        starts,
         from,
         to,
+        records: records(alloc, words)?,
+        sums: sums(alloc, words)?,
     }))
+}
+
+/// The paths of files of sums.
+fn sums(alloc: Global, words: &ArgMatches) -> Result<Vec<String>, WordsFault> {
+    let mut paths = Vec::new(alloc);
+    for path in words.get_strs(SUMS).unwrap_or_default() {
+        if path.is_empty() {
+            return Err(WordsFault::wrong(
+                alloc,
+                "error: invalid value for '--sums <FILE>': it is no path\n\n\
+                 For more information, try '--help'.",
+            ));
+        }
+        paths.push(String::from_str(alloc, path)?)?;
+    }
+    Ok(paths)
+}
+
+/// Whether the first time lies behind the last one, as far as that can be told without a journal.
+fn is_behind(words: &ArgMatches) -> bool {
+    let (Some(from), Some(to)) = (words.get_str(FROM), words.get_str(TO)) else {
+        return false;
+    };
+    if let (Ok(from), Ok(to)) = (parse_number::<u64>(from), parse_number::<u64>(to)) {
+        return from > to;
+    }
+    match (time_in(from), time_in(to)) {
+        (Some(from), Some(to)) => from > to,
+        _ => false,
+    }
 }
 
 /// What is told.
@@ -32,24 +74,59 @@ fn telling(alloc: Global, words: &ArgMatches) -> Result<Telling, WordsFault> {
         Some(word) => Some(sum_in(alloc, word)?),
         None => None,
     };
-    let is_json = words.get_flag(JSON);
-    match words.get_str(TELLING).unwrap_or_default() {
-        "list" if is_json => Ok(Telling::Json),
-        "list" => Ok(Telling::List),
-        _ if is_json => Err(WordsFault::wrong(
-            alloc,
-            "error: the argument '--json' cannot be used but with 'list'\n\n\
-             For more information, try '--help'.",
-        )),
-        "script" => Ok(Telling::Script),
-        "check" => Ok(Telling::Check(sum)),
+    let word = words.get_str(TELLING).unwrap_or_default();
+    if word != "check" {
+        want_no_sums(alloc, words)?;
+    }
+    let telling = match word {
+        "list" => return Ok(Telling::List(form(alloc, words)?)),
+        "script" => Telling::Script,
+        "check" => Telling::Check(sum),
         word => {
             let text = format!(in alloc;
                 "error: invalid value '{word}' for '<TELLING>': it isn't list, script or check\n\n\
                  For more information, try '--help'."
             )?;
+            return Err(WordsFault::Wrong(text));
+        }
+    };
+    match unwanted(words, telling) {
+        None => Ok(telling),
+        Some((flag, wanted)) => {
+            let text = format!(in alloc;
+                "error: the argument '--{flag}' cannot be used but with {wanted}\n\n\
+                 For more information, try '--help'."
+            )?;
             Err(WordsFault::Wrong(text))
         }
+    }
+}
+
+/// That no flag is given that is for a check.
+fn want_no_sums(alloc: Global, words: &ArgMatches) -> Result<(), WordsFault> {
+    for flag in [SUM, SUMS] {
+        if words.get_strs(flag).is_some() {
+            let text = format!(in alloc;
+                "error: the argument '--{flag}' cannot be used but with 'check'\n\n\
+                 For more information, try '--help'."
+            )?;
+            return Err(WordsFault::Wrong(text));
+        }
+    }
+    Ok(())
+}
+
+/// What a list is made of.
+fn form(alloc: Global, words: &ArgMatches) -> Result<Form, WordsFault> {
+    match (words.get_flag(JSON), words.get_flag(CSV)) {
+        (false, false) => Ok(Form::Lines),
+        (true, false) => Ok(Form::Json),
+        (false, true) => Ok(Form::Csv),
+        (true, true) => Err(WordsFault::wrong(
+            alloc,
+            "error: the argument '--csv' cannot be used with '--json'\n\n\
+             For more information, try '--help'.",
+        )),
     }
 }
 
@@ -62,21 +139,6 @@ fn sum_in(alloc: Global, word: &str) -> Result<[u8; 32], WordsFault> {
             let text = format!(in alloc;
                 "error: invalid value for '--{SUM} <HEX>': it isn't 64 hexadecimal digits\n\n\
                  For more information, try '--help'."
-            )?;
-            Err(WordsFault::Wrong(text))
-        }
-    }
-}
-
-/// The number that the word behind a flag spells.
-fn number(alloc: Global, flag: &str, word: &str) -> Result<u64, WordsFault> {
-    match parse_number(word) {
-        Ok(number) => Ok(number),
-        Err(_) => {
-            let text = format!(in alloc;
-                "error: invalid value for '--{flag} <N>': it isn't a number from 0 to {}\n\n\
-                 For more information, try '--help'.",
-                u64::MAX
             )?;
             Err(WordsFault::Wrong(text))
         }

@@ -2,9 +2,15 @@
 //! none.
 #![tactic(auto)]
 
+mod asking;
+mod causes;
 mod command_line;
+mod duration;
 mod history;
 mod meaning;
 mod parser;
+mod selecting;
+mod telling;
+mod times;
 
 pub use command_line::{given, parse};

@@ -4,14 +4,15 @@ ghost use Rattle.std.specs.Prelude.{◌≡◌, false, IfOk, string_bytes};
 ghost use Rattle.s4_stream.specs.LoginText.{secret_in};
 ghost use Rattle.s4_command_line.specs.Words.{names_file};
 
+use s4_causes::cause_of_unread;
 use s4_command::WordsFault;
 use s4_script::{TextFault, read_file};
 use s4_stream::secret_in;
 use std::rt::Files;
 use std::str;
 
-/// The most bytes of a file that a word names.
-const FILE_LIMIT: u32 = 65536;
+/// The most bytes of a file that a word names: the digits of a frame's data, and blanks around them.
+const FILE_LIMIT: u32 = 262144;
 
 /// What a word means. Where it is `@` and a path that is what the file there has, without blanks
 /// and line ends around it; else the word itself.
@@ -51,7 +52,9 @@ fn text_at<R: Files + AllocGlobal>(rt: &R, path: &str) -> Result<String, WordsFa
     match text_of(rt, path) {
         Ok(text) => Ok(text),
         Err(TextFault::CannotRead) => {
-            Err(WordsFault::CannotReadFile(String::from_str(rt.alloc(), path)?))
+            let cause = cause_of_unread(rt, path, FILE_LIMIT)?;
+            let told = format!(in rt.alloc(); "{path}: {cause}")?;
+            Err(WordsFault::CannotReadFile(told))
         }
         Err(TextFault::NoMemory) => Err(WordsFault::NoMemory),
     }

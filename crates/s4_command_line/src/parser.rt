@@ -1,10 +1,8 @@
 //! What a command line may have: commands, arguments, flags, and the texts of the help.
 
 use clap::{Arg, ArgAction, Command as Parser};
+use s4_settings::VERSION;
 use std::alloc::{AllocError, Global};
-
-/// The version of the program. A build is told no commit, so it names none.
-const VERSION: &str = "0.1.0";
 
 /// What the help ends with.
 const PAGES: &str = "\
@@ -12,7 +10,7 @@ Example: s4d run < examples/intrusion.script
 docs/TUTORIAL.md tells that example step by step; docs/SCRIPTS.md says what each line asks and is answered.";
 
 /// How `run` is called.
-const RUN_USAGE: &str = "s4d run < SCRIPT (the script goes to standard input)";
+const RUN_USAGE: &str = "s4d run [OPTIONS] < SCRIPT (the script goes to standard input)";
 
 /// What the help of `run` ends with.
 const RUN_PAGES: &str = "\
@@ -22,7 +20,8 @@ Example: s4d run < examples/first.script
 docs/SCRIPTS.md says what each line asks and is answered.";
 
 /// How `hall` is called.
-const HALL_USAGE: &str = "s4d hall <LOGINS> < ARRIVALS (the arrivals go to standard input)";
+const HALL_USAGE: &str =
+    "s4d hall [OPTIONS] <LOGINS> < ARRIVALS (the arrivals go to standard input)";
 
 /// What the help of `hall` ends with.
 const HALL_PAGES: &str = "\
@@ -30,7 +29,8 @@ Example: s4d hall examples/first.logins < examples/first.arrivals
 docs/SCRIPTS.md has the lines of both files under \"Arrivals\"; docs/PROTOCOL.md has the bytes.";
 
 /// How `strike` is called.
-const STRIKE_USAGE: &str = "s4d strike <WHO> < SCRIPT (the script goes to standard input)";
+const STRIKE_USAGE: &str =
+    "s4d strike [OPTIONS] <WHO> < SCRIPT (the script goes to standard input)";
 
 /// What the help of `strike` ends with.
 const STRIKE_PAGES: &str = "\
@@ -39,25 +39,42 @@ The principal is replied the same by the whole script and by what is written.
 Example: s4d strike 8 < examples/intrusion.script | s4d run
 docs/TUTORIAL.md tells that example; docs/SCRIPTS.md says which lines stay.";
 
+/// What the help of `check` ends with.
+const CHECK_PAGES: &str = "\
+Example: s4d check examples/first.script examples/first.logins
+docs/SCRIPTS.md says what each line may be, and what is told of one that isn't.";
+
 /// What the help of `serve` ends with.
 const SERVE_PAGES: &str = "\
+A TIME is a number of milliseconds, or one with a unit behind it: ms, s, m, h or d, as 7d.
+
 Example: s4d serve 127.0.0.1:4710 examples/first.logins
 docs/OPERATIONS.md says what it writes, what it holds in memory, and what ends it.";
 
 /// What the help of `call` ends with.
 const CALL_PAGES: &str = "\
+A TIME is a number of milliseconds, or one with a unit behind it: ms, s, m, h or d, as 90s.
+
+With - in place of WORD.. the lines of standard input are requests, and each reply is a line:
+s4d call <ADDRESS> <WHO> <CLIENT> <SECRET> - asks all as WHO
+s4d call <ADDRESS> <CLIENT> --logins <LOGINS> - asks each as its principal: WHO WORD.. => REPLY
+
 Example: s4d call 127.0.0.1:4710 7 1 000102030405060708090a0b0c0d0e0f read 7.0.1 0 100 at 9
 docs/SCRIPTS.md has the words and the replies; \"Calls\" there says what else is told.";
 
 /// What the help of `history` ends with.
 const HISTORY_PAGES: &str = "\
-Example: s4d history list journal --from 60000
+Example: s4d history list journal --peer 127.0.0.1 --object 7.0.1
 docs/JOURNAL.md says what each tells, and what the sums find.";
 
 /// What the bound of records is, and which it is where it isn't given.
 const RECORDS_HELP: &str =
     "How many bytes of records the requests of a principal may leave that aren't dropped yet; else half of the memory \
      that is there, by the principals of LOGINS, as far as the system tells";
+
+/// What a proxy's address is for.
+const PROXY_HELP: &str =
+    "A connection from this IP address begins with a line of the PROXY protocol, version 1, that names its peer";
 
 /// The argument that is the path of a file of logins.
 pub const LOGINS: &str = "LOGINS";
@@ -80,12 +97,25 @@ pub const WAIT: &str = "wait";
 
 pub const WIRE: &str = "wire";
 
+/// The argument of a check: the files.
+pub const FILE: &str = "FILE";
+
+/// Its flag: what they are.
+pub const AS: &str = "as";
+
+/// The flag of runs that has a fault's cause told.
+pub const WHY: &str = "why";
+
+pub const DEPTH: &str = "depth";
+
+pub const SECRETS: &str = "logins";
+
 /// The arguments of a history: what is told, and of which folder.
 pub const TELLING: &str = "TELLING";
 
 pub const FOLDER: &str = "FOLDER";
 
-/// The flags of a history.
+/// The flags of a history; it has `SUMS` too.
 pub const START: &str = "start";
 
 pub const FROM: &str = "from";
@@ -95,6 +125,27 @@ pub const TO: &str = "to";
 pub const SUM: &str = "sum";
 
 pub const JSON: &str = "json";
+
+pub const CSV: &str = "csv";
+
+/// The flags that choose the records of a list.
+pub const WHO_ASKED: &str = "who";
+
+pub const CLIENT_ASKED: &str = "client";
+
+pub const CONNECTION: &str = "connection";
+
+pub const PEER: &str = "peer";
+
+pub const OBJECT: &str = "object";
+
+pub const VERB: &str = "verb";
+
+pub const REFUSED: &str = "refused";
+
+pub const CHANGES: &str = "changes";
+
+pub const READS: &str = "reads";
 
 /// The flags of a server.
 pub const WINDOW: &str = "window";
@@ -131,6 +182,16 @@ pub const JOURNAL: &str = "journal";
 
 pub const SYNC: &str = "sync";
 
+pub const PROXY: &str = "proxy-from";
+
+pub const STATUS_TEXT: &str = "status-text";
+
+pub const LOG_TIMES: &str = "log-times";
+
+pub const CHECK: &str = "check";
+
+pub const SUMS: &str = "sums";
+
 /// What parses a command line.
 pub fn parser<'a>(alloc: Global) -> Result<Parser<'a>, AllocError> {
     let parser = Parser::new(alloc, "s4d")
@@ -138,9 +199,10 @@ pub fn parser<'a>(alloc: Global) -> Result<Parser<'a>, AllocError> {
         .version(VERSION)
         .after_help(PAGES)
         .subcommand_required(true);
-    let parser = with(parser, Ok(run_parser(alloc)))?;
+    let parser = with(parser, run_parser(alloc))?;
     let parser = with(parser, hall_parser(alloc))?;
     let parser = with(parser, strike_parser(alloc))?;
+    let parser = with(parser, check_parser(alloc))?;
     let parser = with(parser, serve_parser(alloc))?;
     let parser = with(parser, call_parser(alloc))?;
     with(parser, history_parser(alloc))
@@ -154,11 +216,12 @@ fn with<'a>(
     parser.subcommand(command?)
 }
 
-fn run_parser<'a>(alloc: Global) -> Parser<'a> {
+fn run_parser<'a>(alloc: Global) -> Result<Parser<'a>, AllocError> {
     Parser::new(alloc, "run")
         .about("Runs a script from standard input, and writes the replies")
         .override_usage(RUN_USAGE)
         .after_help(RUN_PAGES)
+        .arg(why(alloc))
 }
 
 fn hall_parser<'a>(alloc: Global) -> Result<Parser<'a>, AllocError> {
@@ -169,7 +232,8 @@ fn hall_parser<'a>(alloc: Global) -> Result<Parser<'a>, AllocError> {
         .about("Runs arrivals from standard input, and writes what each connection is sent")
         .override_usage(HALL_USAGE)
         .after_help(HALL_PAGES)
-        .arg(logins)
+        .arg(logins)?
+        .arg(why(alloc))
 }
 
 fn strike_parser<'a>(alloc: Global) -> Result<Parser<'a>, AllocError> {
@@ -180,7 +244,36 @@ fn strike_parser<'a>(alloc: Global) -> Result<Parser<'a>, AllocError> {
         .about("Writes a script from standard input without what a principal's strangers ask")
         .override_usage(STRIKE_USAGE)
         .after_help(STRIKE_PAGES)
-        .arg(who)
+        .arg(who)?
+        .arg(why(alloc))
+}
+
+/// The flag that has a fault's cause told.
+fn why<'a>(alloc: Global) -> Arg<'a> {
+    set(
+        alloc,
+        WHY,
+        "Tells the cause of a fault too, in a second line",
+    )
+}
+
+fn check_parser<'a>(alloc: Global) -> Result<Parser<'a>, AllocError> {
+    let files = wanted(
+        alloc,
+        FILE,
+        "A script, arrivals, logins or a setup; its lines tell which",
+    );
+    let kind = chosen(
+        alloc,
+        AS,
+        "KIND",
+        "What the files are: script, arrivals, logins or setup",
+    );
+    Parser::new(alloc, "check")
+        .about("Tells which lines of files aren't taken, and why")
+        .after_help(CHECK_PAGES)
+        .arg(files.num_args(1..))?
+        .arg(kind)
 }
 
 fn serve_parser<'a>(alloc: Global) -> Result<Parser<'a>, AllocError> {
@@ -196,15 +289,16 @@ fn serve_parser<'a>(alloc: Global) -> Result<Parser<'a>, AllocError> {
     let parser = with_flags_of_drives(alloc, parser)?;
     let parser = with_flags_of_peers(alloc, parser)?;
     let parser = with_flags_of_times(alloc, parser)?;
-    with_flags_of_files(alloc, parser)
+    let parser = with_flags_of_files(alloc, parser)?;
+    with_flags_of_telling(alloc, parser)
 }
 
 /// Adds the flags that say how a drive is set up.
 fn with_flags_of_drives<'a>(alloc: Global, parser: Parser<'a>) -> Result<Parser<'a>, AllocError> {
-    let window = flag(
+    let window = time(
         alloc,
         WINDOW,
-        "The detection window at the start, in milliseconds",
+        "The detection window at the start",
         "86400000",
     );
     let cells = flag(alloc, CELLS, "How many cells there are, from 1 to 16", "4");
@@ -225,16 +319,16 @@ fn with_flags_of_peers<'a>(alloc: Global, parser: Parser<'a>) -> Result<Parser<'
         "After how many connections it ends, or 0 for never",
         "0",
     );
-    let idle = flag(
+    let idle = time(
         alloc,
         IDLE,
-        "How many milliseconds a peer may be silent, or 0 for ever",
+        "How long a peer may be silent, or 0 for ever",
         "60000",
     );
-    let hello = flag(
+    let hello = time(
         alloc,
         HELLO,
-        "How many milliseconds a peer may take up to its welcome, or 0 for ever",
+        "How long a peer may take up to its welcome, or 0 for ever",
         "10000",
     );
     let open = flag(alloc, OPEN, "How many connections may be open", "1024");
@@ -254,13 +348,13 @@ fn with_flags_of_times<'a>(alloc: Global, parser: Parser<'a>) -> Result<Parser<'
     let first = flag(
         alloc,
         FIRST,
-        "The moment at the start, in milliseconds",
+        "The moment at the start, in milliseconds, or now for the time then",
         "0",
     );
-    let reload = flag(
+    let reload = time(
         alloc,
         RELOAD,
-        "After how many milliseconds it looks again at LOGINS, or 0 for never",
+        "After how long it looks again at LOGINS, or 0 for never",
         "0",
     );
     let cut = Arg::new(alloc, CUT)
@@ -291,17 +385,43 @@ fn with_flags_of_files<'a>(alloc: Global, parser: Parser<'a>) -> Result<Parser<'
         .long(JOURNAL)
         .value_name("FOLDER")
         .help("It keeps its history in this folder");
-    let sync = Arg::new(alloc, SYNC)
-        .long(SYNC)
-        .value_name("WHEN")
-        .help("When the system writes the journal to where it lasts: second or never")
-        .default_value("second");
+    let sync = Arg::new(alloc, SYNC).long(SYNC).value_name("WHEN").help(
+        "When the system writes the journal to where it lasts: second or never; else second",
+    );
+    let sums = file(
+        alloc,
+        SUMS,
+        "It adds a line to this file each minute that tells how far the journal is",
+    );
     parser
         .arg(until)?
         .arg(setup)?
         .arg(status)?
         .arg(journal)?
-        .arg(sync)
+        .arg(sync)?
+        .arg(sums)
+}
+
+/// Adds the flags that say whose connections a proxy's are, and what else is told.
+fn with_flags_of_telling<'a>(alloc: Global, parser: Parser<'a>) -> Result<Parser<'a>, AllocError> {
+    let proxy = Arg::new(alloc, PROXY)
+        .long(PROXY)
+        .value_name("ADDRESS")
+        .help(PROXY_HELP);
+    let text = file(
+        alloc,
+        STATUS_TEXT,
+        "It tells of itself in this file too, as text for Prometheus",
+    );
+    let times = Arg::new(alloc, LOG_TIMES)
+        .long(LOG_TIMES)
+        .action(ArgAction::SetTrue)
+        .help("Its lines on standard error begin with the time");
+    let check = Arg::new(alloc, CHECK)
+        .long(CHECK)
+        .action(ArgAction::SetTrue)
+        .help("It looks at its files, its setup and the journal's lock, and serves nothing");
+    parser.arg(proxy)?.arg(text)?.arg(times)?.arg(check)
 }
 
 /// A flag with a file.
@@ -310,6 +430,15 @@ fn file<'a>(alloc: Global, name: &'a str, help: &'a str) -> Arg<'a> {
         .long(name)
         .value_name("FILE")
         .help(help)
+}
+
+/// A flag with a time, which is this one where it isn't given.
+fn time<'a>(alloc: Global, name: &'a str, help: &'a str, standard: &'a str) -> Arg<'a> {
+    Arg::new(alloc, name)
+        .long(name)
+        .value_name("TIME")
+        .help(help)
+        .default_value(standard)
 }
 
 /// A flag with a number, which is this one where it isn't given.
@@ -332,15 +461,15 @@ fn call_parser<'a>(alloc: Global) -> Result<Parser<'a>, AllocError> {
         .after_help(CALL_PAGES)
         .arg(address)?;
     let parser = with_caller(alloc, parser)?;
-    let word = wanted(
-        alloc,
-        WORD,
-        "The request, as in a line of a script from its verb on; @ and a file for what it has",
-    );
-    let wait = flag(
+    let word = Arg::new(alloc, WORD)
+        .help(
+            "The request, as in a line of a script from its verb on; @ and a file for what it has; or -",
+        )
+        .required_unless_present(SECRETS)?;
+    let wait = time(
         alloc,
         WAIT,
-        "How many milliseconds it is tried to connect again",
+        "For how long it is tried to connect again",
         "0",
     );
     let wire = Arg::new(alloc, WIRE)
@@ -348,7 +477,20 @@ fn call_parser<'a>(alloc: Global) -> Result<Parser<'a>, AllocError> {
         .value_name("VERSION")
         .help("The version of the wire that it speaks, 1 or 2")
         .default_value("1");
-    parser.arg(word.num_args(1..))?.arg(wire)?.arg(wait)
+    let parser = parser.arg(word.num_args(1..))?.arg(wire)?.arg(wait)?;
+    with_flags_of_lines(alloc, parser)
+}
+
+/// Adds the flags for requests in lines.
+fn with_flags_of_lines<'a>(alloc: Global, parser: Parser<'a>) -> Result<Parser<'a>, AllocError> {
+    let depth = Arg::new(alloc, DEPTH).long(DEPTH).value_name("N").help(
+        "How many requests of lines may be ahead of their replies, from 1 to 1024; else 1",
+    );
+    let secrets = Arg::new(alloc, SECRETS)
+        .long(SECRETS)
+        .value_name("LOGINS")
+        .help("Lines name their principals, whose secrets are in this file");
+    parser.arg(depth)?.arg(secrets)
 }
 
 /// Adds the arguments that say who calls.
@@ -363,11 +505,9 @@ fn with_caller<'a>(alloc: Global, parser: Parser<'a>) -> Result<Parser<'a>, Allo
         CLIENT,
         "The client that is recorded, a number from 0 to 4294967295",
     );
-    let secret = wanted(
-        alloc,
-        SECRET,
-        "The principal's secret, 32 hexadecimal digits, or @ and a file that has them",
-    );
+    let secret = Arg::new(alloc, SECRET)
+        .help("The principal's secret, 32 hexadecimal digits, or @ and a file that has them")
+        .required_unless_present(SECRETS)?;
     parser.arg(who)?.arg(client)?.arg(secret)
 }
 
@@ -377,25 +517,116 @@ fn history_parser<'a>(alloc: Global) -> Result<Parser<'a>, AllocError> {
         .after_help(HISTORY_PAGES)
         .arg(wanted(alloc, TELLING, "What is told: list, script or check"))?
         .arg(wanted(alloc, FOLDER, "The folder of the journals"))?;
+    let parser = with_flags_of_starts(alloc, parser)?;
+    let parser = with_flags_of_callers(alloc, parser)?;
+    with_flags_of_requests(alloc, parser)
+}
+
+/// Adds the flags that say of which starts and which times is told, and how.
+fn with_flags_of_starts<'a>(alloc: Global, parser: Parser<'a>) -> Result<Parser<'a>, AllocError> {
     let start = Arg::new(alloc, START).long(START).value_name("N").help(
-        "The number of the start; else the newest, or all for check",
+        "The number of the start, or all; else the newest, or all for check",
     );
-    let from = flag(alloc, FROM, "The first moment of which is told", "0");
-    let to = flag(
+    let from = chosen(
+        alloc,
+        FROM,
+        "TIME",
+        "The first moment of which is told, or a time in UTC as 2026-11-29T10:03",
+    );
+    let to = chosen(
         alloc,
         TO,
-        "The last moment of which is told",
-        "18446744073709551615",
+        "TIME",
+        "The last moment of which is told, or a time in UTC",
     );
-    let sum = Arg::new(alloc, SUM)
-        .long(SUM)
-        .value_name("HEX")
-        .help("A last sum that check has to find, as was told before");
-    let json = Arg::new(alloc, JSON)
-        .long(JSON)
+    let sum = chosen(
+        alloc,
+        SUM,
+        "HEX",
+        "A last sum that check has to find, as was told before",
+    );
+    let sums = chosen(
+        alloc,
+        SUMS,
+        "FILE",
+        "Sums that check has to find, lines START BYTES HEX as serve adds them; may be given again",
+    );
+    let sums = sums.action(ArgAction::Append);
+    let json = set(
+        alloc,
+        JSON,
+        "The list has lines of JSON, with connections and peers",
+    );
+    let csv = set(alloc, CSV, "The list has lines of CSV, with the same");
+    let parser = parser.arg(start)?.arg(from)?.arg(to)?;
+    parser.arg(sum)?.arg(sums)?.arg(json)?.arg(csv)
+}
+
+/// Adds the flags that choose records by whom they came from.
+fn with_flags_of_callers<'a>(alloc: Global, parser: Parser<'a>) -> Result<Parser<'a>, AllocError> {
+    let who = chosen(
+        alloc,
+        WHO_ASKED,
+        "WHO",
+        "The list has what this principal asked",
+    );
+    let client = chosen(
+        alloc,
+        CLIENT_ASKED,
+        "N",
+        "The list has what was asked as this client",
+    );
+    let connection = chosen(
+        alloc,
+        CONNECTION,
+        "N",
+        "The list has what came by the connection of this number",
+    );
+    let peer = chosen(
+        alloc,
+        PEER,
+        "ADDRESS",
+        "The list has what came from this address, or from its port as 127.0.0.1:4710",
+    );
+    let parser = parser.arg(who)?.arg(client)?;
+    parser.arg(connection)?.arg(peer)
+}
+
+/// Adds the flags that choose records by what was asked.
+fn with_flags_of_requests<'a>(alloc: Global, parser: Parser<'a>) -> Result<Parser<'a>, AllocError> {
+    let object = chosen(
+        alloc,
+        OBJECT,
+        "OBJECT",
+        "The list has what is about this object as 7.0.1, purse as 7.0, or principal's range as 7",
+    );
+    let verb = chosen(
+        alloc,
+        VERB,
+        "VERB",
+        "The list has requests of this verb, as read",
+    );
+    let refused = set(alloc, REFUSED, "The list has what was refused");
+    let changes = set(alloc, CHANGES, "The list has what changed something");
+    let reads = set(alloc, READS, "The list has what only asked, refused or not");
+    let parser = parser.arg(object)?.arg(verb)?.arg(refused)?;
+    parser.arg(changes)?.arg(reads)
+}
+
+/// A flag with a value of that name.
+fn chosen<'a>(alloc: Global, name: &'a str, value: &'a str, help: &'a str) -> Arg<'a> {
+    Arg::new(alloc, name)
+        .long(name)
+        .value_name(value)
+        .help(help)
+}
+
+/// A flag without a value.
+fn set<'a>(alloc: Global, name: &'a str, help: &'a str) -> Arg<'a> {
+    Arg::new(alloc, name)
+        .long(name)
         .action(ArgAction::SetTrue)
-        .help("The list has lines of JSON, with connections and peers");
-    parser.arg(start)?.arg(from)?.arg(to)?.arg(sum)?.arg(json)
+        .help(help)
 }
 
 /// An argument that has to be given.

@@ -11,7 +11,8 @@ ghost use Rattle.s4_commands.specs.Calling.{TellsReply, TellsSomeReply};
 ghost use Rattle.s4_commands.specs.declared.fault.Fault.TheVariants as fault;
 
 use crate::fault::Fault;
-use s4_client::{CallFault, connect};
+use s4_causes::system_word;
+use s4_client::connect;
 use s4_command::Call;
 use s4_run::RunFault;
 use s4_script::ReplyText;
@@ -20,8 +21,8 @@ use std::alloc::Global;
 use std::io::{Read, Write};
 use std::net::{Net, TcpStream};
 use std::sync::Wait;
-use std::thread;
 use std::time::{Clock, Duration, Instant};
+use std::{io, thread};
 
 /// How long it waits before it tries to connect again, in milliseconds.
 const PAUSE: u64 = 10;
@@ -35,17 +36,20 @@ pub fn call_at<N: Net<Stream = TcpStream> + Wait + Clock, W: Write>(
 ) -> Result<(), Fault>
     ensures told { OnOk result (TellsSomeReply (W.contents output.old) (W.contents output.new)) }
 {
-    let stream = reach(net, call.address.as_str(), call.wait)?;
+    let stream = match reach(net, call.address.as_str(), call.wait) {
+        Ok(stream) => stream,
+        Err(error) => return Err(Fault::CannotConnect(system_word(alloc, &error)?)),
+    };
     call_over(alloc, call, &mut &stream, &mut &stream, output)
 }
 
 /// Connects, and tries again for so many milliseconds while that fails. Where the clock can't be
 /// read it tries once.
-fn reach<N: Net<Stream = TcpStream> + Wait + Clock>(
+pub fn reach<N: Net<Stream = TcpStream> + Wait + Clock>(
     net: &N,
     address: &str,
     wait: u64,
-) -> Result<TcpStream, CallFault> {
+) -> io::Result<TcpStream> {
     let start = Instant::now(net).ok();
     for _ in net.forever() {
         let reached = connect(net, address);

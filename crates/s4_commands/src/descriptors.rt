@@ -2,7 +2,7 @@
 
 ghost use Rattle.std.specs.Prelude.{◌≡◌, ◌≤◌};
 
-use s4_command::Settings;
+use s4_settings::Settings;
 use std::fs;
 
 /// How many descriptors a server has beside its connections and its workers: its streams, its

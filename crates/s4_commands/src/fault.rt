@@ -6,6 +6,7 @@ ghost use Rattle.s4_commands.specs.declared.fault.Fault.TheVariants as fault;
 ghost use Rattle.s4_run.specs.Faults.{fault_of_logins};
 ghost use Rattle.s4_run.specs.declared.fault.RunFault.TheVariants as run_fault;
 
+use s4_asking::AskFault;
 use s4_client::CallFault;
 use s4_command::WordsFault;
 use s4_logins::LoginsFault;
@@ -23,26 +24,37 @@ pub enum Fault {
     CommandLine(WordsFault),
     /// The run ended so.
     Run(RunFault),
-    /// The file with the setup of a server, which has this path, can't be read, or is no text.
+    /// It ended so, and the text says why.
+    RunCaused(RunFault, String),
+    /// The same, where why is told in a second line.
+    Explained(RunFault, String),
+    /// So many of so many files have lines that aren't taken, or can't be read.
+    BadFiles(usize, usize),
+    /// The file with the setup of a server can't be read, or is no text. The text is its path, and why.
     CannotReadFile(String),
     /// The call has no reply.
     Call(CallFault),
+    /// No connection was made; the text says why.
+    CannotConnect(String),
+    /// Not all lines of requests were asked, or not all was granted.
+    Ask(AskFault),
     /// The file that ends a server is there before it begins.
     EndIsThere,
-    /// It can't be told whether the file that ends a server is there.
-    CannotLook,
-    /// The line of this number in the setup of a server is none.
-    SetupLine(usize),
-    /// The line of this number in the setup of a server is refused; the text is that of the reply.
-    SetupRefused(usize, String),
-    /// The file in which a server tells of itself can't be written.
+    /// It can't be told whether the file that ends a server is there; the text says why.
+    CannotLook(String),
+    /// The line of this number in the setup of a server is none, and the text says why; or it is refused,
+    /// and that is the text of the reply.
+    SetupLine(usize, String),
+    /// A file in which a server tells of itself can't be written. The text is its path, and why.
     CannotWriteFile(String),
-    /// The address of a server can't be had.
-    CannotListen,
+    /// The address of a server can't be had; the text says why.
+    CannotListen(String),
     /// The server ended so.
     Serve(ServerFault),
     /// The journal can't be told of, or isn't sound.
     History(StartFault),
+    /// It can't be told of, and the text says why.
+    HistoryCaused(StartFault, String),
 }
 
 impl Fault {
@@ -52,6 +64,8 @@ impl Fault {
     {
         match self {
             Fault::CommandLine(fault) => fault.status(),
+            Fault::History(fault) => fault.status(),
+            Fault::Ask(fault) => fault.status(),
             _ => 1,
         }
     }
@@ -64,16 +78,21 @@ impl fmt::Display for Fault {
         match self {
             Fault::CommandLine(fault) => write!(f, "{fault}"),
             Fault::Run(fault) => write!(f, "{fault}"),
+            Fault::RunCaused(fault, cause) => write!(f, "{fault}: {cause}"),
+            Fault::Explained(fault, cause) => write!(f, "{fault}\ns4d: why: {cause}"),
+            Fault::BadFiles(bad, all) => write!(f, "bad files: {bad} of {all}"),
             Fault::CannotReadFile(path) => write!(f, "cannot read {path}"),
             Fault::Call(fault) => write!(f, "{fault}"),
+            Fault::CannotConnect(cause) => write!(f, "cannot connect: {cause}"),
+            Fault::Ask(fault) => write!(f, "{fault}"),
             Fault::EndIsThere => write!(f, "the file of --until is there already"),
-            Fault::CannotLook => write!(f, "cannot look for the file of --until"),
-            Fault::SetupLine(number) => write!(f, "setup line {number}"),
-            Fault::SetupRefused(number, told) => write!(f, "setup line {number}: {told}"),
+            Fault::CannotLook(cause) => write!(f, "cannot look for the file of --until: {cause}"),
+            Fault::SetupLine(number, cause) => write!(f, "setup line {number}: {cause}"),
             Fault::CannotWriteFile(path) => write!(f, "cannot write {path}"),
-            Fault::CannotListen => write!(f, "cannot listen"),
+            Fault::CannotListen(cause) => write!(f, "cannot listen: {cause}"),
             Fault::Serve(fault) => write!(f, "{fault}"),
             Fault::History(fault) => write!(f, "{fault}"),
+            Fault::HistoryCaused(fault, cause) => write!(f, "{fault}: {cause}"),
         }
     }
 }
@@ -107,6 +126,14 @@ impl From<CallFault> for Fault {
 
     fn from(fault: CallFault) -> Fault {
         Fault::Call(fault)
+    }
+}
+
+impl From<AskFault> for Fault {
+    ghost from_gives = { λ ask why. why ≡ fault.Ask ask };
+
+    fn from(fault: AskFault) -> Fault {
+        Fault::Ask(fault)
     }
 }
 

@@ -2,8 +2,8 @@
 
 ghost use Rattle.std.specs.Prelude.{◌≡◌, ◌/◌, max, IfSome};
 
-use s4_command::Settings;
 use s4_script::{NumberedLines, read_file};
+use s4_settings::Settings;
 use std::fs;
 
 /// The most bytes of the file of logins.

@@ -3,6 +3,8 @@
 ghost use Rattle.std.specs.Prelude.{◌≡◌};
 
 use crate::fault::Fault;
+use crate::reasons::named;
+use s4_causes::{Cause, Form, cause_of_unread};
 use s4_counts::Names;
 use s4_script::{NumberedLines, ReplyText, parse_principal, parse_request, read_file};
 use s4_server::Server;
@@ -51,7 +53,10 @@ pub fn set_up<R: Wait, C: Ticks, N: Names + Send + Sync>(
 fn read(files: &HostRuntime, path: &str) -> Result<String, Fault> {
     match text_of(files, path) {
         Some(text) => Ok(text),
-        None => Err(Fault::CannotReadFile(String::from_str(files.alloc(), path)?)),
+        None => {
+            let cause = cause_of_unread(files, path, FILE_LIMIT)?;
+            Err(Fault::CannotReadFile(named(files.alloc(), path, cause.as_str())?))
+        }
     }
 }
 
@@ -72,17 +77,25 @@ fn carry_out<R: Wait, C: Ticks, N: Names + Send + Sync>(
 ) -> Result<(), Fault>
     ensures { server.new.settings ≡ server.old.settings }
 {
-    for (number, line) in NumberedLines::of(text.as_bytes()) {
-        let Some(line) = line_in(alloc, line)? else {
-            return Err(Fault::SetupLine(number));
+    for (number, words) in NumberedLines::of(text.as_bytes()) {
+        let Some(line) = line_in(alloc, words)? else {
+            return Err(Fault::SetupLine(number, cause_of(alloc, words)?));
         };
         if let Reply::Refused(refusal) = server.ask(rt, clock, line.caller, &line.request) {
             let reply = Reply::Refused(refusal);
             let told = ReplyText(&reply).to_string(alloc)?;
-            return Err(Fault::SetupRefused(number, told));
+            return Err(Fault::SetupLine(number, told));
         }
     }
     Ok(())
+}
+
+/// Why a line isn't taken that spells no request.
+fn cause_of(alloc: Global, line: &[u8]) -> Result<String, Fault> {
+    match Cause::of(Form::Setup, alloc, line)? {
+        Some(cause) => Ok(cause.to_string(alloc)?),
+        None => Ok(String::from_str(alloc, "it spells no request")?),
+    }
 }
 
 /// The request that a line spells: a principal, and the words of a request.

@@ -1,7 +1,8 @@
 //! Command lines of servers, of which only the parsed command tells all, and one of a history.
 
-use s4_command::{Command, Patience, Service, Settings, Telling};
+use s4_command::{Command, Service, Telling};
 use s4_command_line::given;
+use s4_settings::{Patience, Settings};
 use std::env::FillError;
 use std::process::Abort;
 use std::rt::Env;
@@ -58,6 +59,7 @@ const STANDARD: Settings = Settings {
     },
     open: 1024,
     open_each: 0,
+    proxy: None,
     first: 0,
     cuts: false,
     records: None,
@@ -75,6 +77,7 @@ const GREATEST: Settings = Settings {
     },
     open: 1,
     open_each: u32::MAX,
+    proxy: None,
     first: 9223372036854775807,
     cuts: true,
     records: Some(u64::MAX),
@@ -118,7 +121,8 @@ const ROWS: [Row; 5] = [
         Some(true),
     ),
     Row(
-        b"s4d|serve|127.0.0.1:4710|first.logins|--journal|a folder/kept|--sync|never",
+        b"s4d|serve|127.0.0.1:4710|first.logins|--journal|a folder/kept|--sync|never\
+            |--sums|a folder/sums",
         STANDARD,
         false,
         0,
@@ -147,6 +151,12 @@ fn is_spelled(service: &Service, row: &Row) -> bool {
         && path(&service.status) == files[2]
         && journal.map(|it| it.syncs) == syncs
         && journal.is_none_or(|it| it.folder.as_str() == "a folder/kept")
+        && journal.is_none_or(|it| path(&it.sums)
+            == if it.syncs {
+                None
+            } else {
+                Some("a folder/sums")
+            })
         && service.address.as_str() == "127.0.0.1:4710"
         && service.logins.as_str() == "first.logins"
 }
@@ -183,10 +193,7 @@ fn a_sum_is_what_its_words_spell(rt: HostRuntime) -> Result<(), Fail> {
         Command::History(history) => {
             assert!(rt; history.telling == Telling::Check(Some(sum)));
             assert_eq!(rt; history.folder.as_str(), "a folder/kept");
-            assert_eq!(rt;
-                (history.start, history.from.tick(), history.to.tick()),
-                (None, 0, u64::MAX)
-            );
+            assert!(rt; history.starts.is_none() && history.from.is_none() && history.to.is_none());
             Ok(())
         }
         _ => Err(Fail::from("a history")),

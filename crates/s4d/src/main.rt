@@ -5,7 +5,8 @@ ghost use Rattle.std.specs.Prelude.{◌≡◌, IsOk, IfErr};
 ghost use Rattle.std.specs.Process.{exit_status as code_of};
 ghost use Rattle.s4_commands.specs.Faults.{exit_status};
 
-use s4_commands::{Fault, FaultText, obey};
+use s4_command::Command;
+use s4_commands::{Fault, FaultText, Stamped, obey};
 use s4_run::RunFault;
 use std::io;
 use std::io::BufWriter;
@@ -16,8 +17,13 @@ use std::thread::Threads;
 use std::time::Clock;
 
 fn main(rt: HostRuntime) -> ExitCode {
-    let outcome = answer(&rt, &rt);
-    ended(&rt, &outcome)
+    match s4_command_line::given(&rt, &rt) {
+        Ok(command) => {
+            let told = Stamped::new(&rt, command.logs_times());
+            ended(&told, &answer(&rt, &rt, &command))
+        }
+        Err(fault) => ended(&rt, &Err(Fault::from(fault))),
+    }
 }
 
 /// What the program exits with; a fault is told on standard error.
@@ -34,7 +40,7 @@ fn ended<R: Eprint>(rt: &R, outcome: &Result<(), Fault>) -> ExitCode
     }
 }
 
-/// Does what the command line asks for, from standard input to standard output.
+/// Does what the command asks for, from standard input to standard output.
 fn answer<
     R: Net<Listener = TcpListener, Stream = TcpStream>
         + Threads
@@ -45,10 +51,9 @@ fn answer<
         + Input
         + Print
         + AllocGlobal,
->(rt: &R, files: &HostRuntime) -> Result<(), Fault> {
-    let command = s4_command_line::given(files, files)?;
+>(rt: &R, files: &HostRuntime, command: &Command) -> Result<(), Fault> {
     match BufWriter::new(rt.alloc(), io::writer(rt)) {
-        Ok(mut output) => obey(rt, files, &command, rt.reader(), &mut output),
+        Ok(mut output) => obey(rt, files, command, rt.reader(), &mut output),
         Err(error) => Err(Fault::Run(RunFault::writing(error))),
     }
 }
