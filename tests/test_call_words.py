@@ -6,6 +6,7 @@ import time
 import unittest
 from pathlib import Path
 
+from tests.causes import BYTES, cause
 from tests.command_lines import NO_SECRET
 from tests.journals import object_of
 from tests.peers import frame, hello
@@ -47,12 +48,12 @@ FILES = {
 BY_FILES = {"nowhere|7|1|@secret|create|0": (7, 1, 1, FIRST), "nowhere|7|1|@secret|write|7.0.1|0|@hello": (7, 1, 1, WRITE)}
 # Of these files none has what is wanted: one isn't there, one is a folder, one is no text, and others spell something else.
 NO_FILES = {
-    "nowhere|7|1|@missing|create|0": "cannot read missing",
-    "nowhere|7|1|@secret|write|7.0.1|0|@missing/hello": "cannot read missing/hello",
-    "nowhere|7|1|@.|create|0": "cannot read .",
-    "nowhere|7|1|@no_text|create|0": "cannot read no_text",
-    "nowhere|7|1|@secret|write|7.0.1|0|@two_words": "bad request",
-    "nowhere|7|1|@secret|write|7.0.1|0|@nothing": "bad request",
+    "nowhere|7|1|@missing|create|0": "cannot read missing: No such file or directory",
+    "nowhere|7|1|@secret|write|7.0.1|0|@missing/hello": "cannot read missing/hello: No such file or directory",
+    "nowhere|7|1|@.|create|0": "cannot read .: Is a directory",
+    "nowhere|7|1|@no_text|create|0": "cannot read no_text: it isn't UTF-8",
+    "nowhere|7|1|@secret|write|7.0.1|0|@two_words": "bad request: word 4 '68656c6c6f?68': each word stands by itself, and this one has a space",
+    "nowhere|7|1|@secret|write|7.0.1|0|@nothing": f"bad request: {cause(4, '', BYTES)}",
 }
 
 
@@ -134,7 +135,17 @@ class Calls(unittest.TestCase):
         appended = frame(b"\x05" + object_of(7, 0, 1) + len(data).to_bytes(2, "big") + data)
         self.check(f"nowhere|7|1|{SECRET}|append|7.0.1|{data.hex()}", (7, 1, 1, appended))
         ran = run(["call", "nowhere", 7, 1, SECRET, "append", "7.0.1", data.hex() + "66"])
-        self.assertEqual((ran.err, ran.status), (b"s4d: bad request\n", 1))
+        self.assertEqual((ran.err, ran.status), (b"s4d: bad request: it is longer than a frame takes\n", 1))
+
+    def test_a_file_has_room_for_a_whole_object_of_version_2(self):
+        data = bytes(range(256)) * 256
+        written = frame(b"\x04" + object_of(7, 0, 1) + b"\0\0\0\0" + len(data).to_bytes(4, "big") + data)
+        with tempfile.TemporaryDirectory() as folder:
+            Path(folder, "whole").write_text(f"{data.hex()}\n")
+            self.check(f"--wire|2|nowhere|7|1|{SECRET}|write|7.0.1|0|@whole", (7, 1, 2, written), folder)
+            Path(folder, "longer").write_text("0" * 262145)
+            ran = run(["call", "nowhere", 7, 1, SECRET, "write", "7.0.1", 0, "@longer"], folder=folder)
+            self.assertEqual((ran.err, ran.status), (b"s4d: cannot read longer: it is longer than 262144 bytes\n", 1))
 
 
 if __name__ == "__main__":

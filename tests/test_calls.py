@@ -15,8 +15,11 @@ OTHER_SECRET = SECRET[:-1] + "e"
 MADE_FIRST = Ended(0, b"made 7.0.1\n", b"")
 READ_DENIED = Ended(0, b"denied read\n", b"")
 LOST = Ended(1, b"", b"s4d: connection lost\n")
-FAULT_MALFORMED, FAULT_BAD_LOGIN, FAULT_BAD_LENGTH = (Ended(1, b"", b"s4d: session fault %d\n" % number) for number in (1, 2, 3))
-NOBODY = Ended(1, b"", b"s4d: cannot connect\n")
+SESSION_FAULTS = (b"1: malformed", b"2: bad login", b"3: frame length")
+FAULT_MALFORMED, FAULT_BAD_LOGIN, FAULT_BAD_LENGTH = (Ended(1, b"", b"s4d: session fault %s\n" % fault) for fault in SESSION_FAULTS)
+NOBODY = Ended(1, b"", b"s4d: cannot connect: Connection refused\n")
+# Places that are no address, and why nobody is reached there.
+NO_PLACES = {"nowhere": "invalid socket address", "127.0.0.1:65536": "invalid port value", "127.0.0.1:http": "invalid port value"}
 # Frames that the peer says, and what comes of the call: faults in the place of the Welcome, and in that of the reply; an end in both; another
 # kind or version in the place of the Welcome; lengths that no frame has; bodies that are no reply.
 ANSWERS = (
@@ -99,7 +102,7 @@ class Messages(unittest.TestCase):
     def test_a_request_that_fits_no_frame_is_a_bad_one(self):
         for count in (8178, 65535):
             with self.subTest(count):
-                self.assertEqual(run(self.write("nowhere", count)), Ended(1, b"", b"s4d: bad request\n"))
+                self.assertEqual(run(self.write("nowhere", count)), Ended(1, b"", b"s4d: bad request: it is longer than a frame takes\n"))
 
 
 class Waits(unittest.TestCase):
@@ -113,13 +116,20 @@ class Waits(unittest.TestCase):
         self.assertEqual((end(process), heard), (MADE_FIRST, CALL))
 
     def test_a_call_gives_up_where_nobody_listens(self):
-        for place in ("nowhere", address()):
+        for place, why in ((address(), "Connection refused"), *NO_PLACES.items()):
             begin = time.monotonic()
-            self.assertEqual(run(asking(place, "create", "0", flags=["--wait", "60"])), NOBODY)
+            ran = run(asking(place, "create", "0", flags=["--wait", "60"]))
+            self.assertEqual(ran, Ended(1, b"", f"s4d: cannot connect: {why}\n".encode()))
             self.assertGreaterEqual(time.monotonic() - begin, 0.06)
 
     def test_a_call_tries_once(self):
-        self.assertEqual(run(asking("nowhere", "create", "0")), NOBODY)
+        self.assertEqual(run(asking(address(), "create", "0")), NOBODY)
+
+    def test_a_host_that_nobody_knows_is_told(self):
+        # What the system's resolver says of it depends on whether there is one.
+        ran = run(asking("nobody.invalid:4710", "create", "0"))
+        self.assertEqual((ran.status, ran.out), (1, b""))
+        self.assertRegex(ran.err.decode(), r"^s4d: cannot connect: failed to lookup address information: .+\n$")
 
 
 class Served(unittest.TestCase):

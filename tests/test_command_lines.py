@@ -6,7 +6,7 @@ from pathlib import Path
 
 from tests import helps
 from tests.command_lines import CALLERS, FLAGS, NO_TEXT, PRINCIPALS, REQUESTS, VALUES, WORDS
-from tests.journals import Kept, creation, journal
+from tests.journals import Kept, creation, journal, json_of, row_of
 from tests.program import PROGRAM, SECONDS
 
 # What is told behind most faults.
@@ -19,6 +19,7 @@ TEXTS = {
     "hall|--help": helps.HALL_HELP,
     "strike|--help": helps.STRIKE_HELP,
     "help|strike": helps.STRIKE_HELP,
+    "check|--help": helps.CHECK_HELP,
     "serve|--help": helps.SERVE_HELP,
     "call|--help": helps.CALL_HELP,
     "history|--help": helps.HISTORY_HELP,
@@ -69,8 +70,8 @@ class Told(Words):
         self.check_refused(CALLERS)
 
     def test_calls_of_no_request(self):
-        for words in REQUESTS:
-            self.check(words, "", "s4d: bad request\n", 1)
+        for words, wanted in REQUESTS.items():
+            self.check(words, "", f"s4d: bad request: {wanted}\n", 1)
 
 
 class Spelled(Words):
@@ -102,16 +103,19 @@ class Spelled(Words):
         moments = (4, 5, 9, 10)
         third, _ = journal(1, (0, *(creation(moment, 7, serial=serial) for serial, moment in enumerate(moments, 1))))
         newest, _ = journal(1, (0, creation(6, 8)))
-        lines = [f"0 {place} {moment} 7 0 create 0 -> made 7.0.{place + 1}\n" for place, moment in enumerate(moments)]
+        lines = [f"{place} 0 {place} {moment} 7 0 create 0 -> made 7.0.{place + 1}\n" for place, moment in enumerate(moments)]
         with Kept(third, number=3) as kept:
             (kept.folder / "4").mkdir()
             for name, content in (("records", newest), ("calls", b""), ("connections.jsonl", b"")):
                 (kept.folder / "4" / name).write_bytes(content)
             kept.folder.rename(Path(kept.room.name, "a folder"))
-            self.check("history|list|a folder", "0 0 6 8 0 create 0 -> made 8.0.1\n", "", 0, folder=kept.room.name)
+            last = "0 0 0 6 8 0 create 0 -> made 8.0.1\n"
+            self.check("history|list|a folder", last, "", 0, folder=kept.room.name)
+            both = f"start 3\n{''.join(lines)}start 4\n{last}"
+            self.check("history|list|a folder|--start|all", both, "", 0, folder=kept.room.name)
             self.check("history|list|a folder|--start|3|--from|5|--to|9", "".join(lines[1:3]), "", 0, folder=kept.room.name)
-            json = '{"cell":0,"place":0,"moment":6,"wall":6,"who":8,"client":0,"connection":null,"peer":null,"ask":"create 0","reply":"made 8.0.1"}\n'
-            self.check("history|list|--json|a folder", json, "", 0, folder=kept.room.name)
+            row = row_of(0, (0, 0), 6, 8, "create 0", "made 8.0.1", start=4, object="8.0.1", purse="8.0")
+            self.check("history|list|--json|a folder", json_of(row), "", 0, folder=kept.room.name)
 
 
 if __name__ == "__main__":

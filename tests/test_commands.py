@@ -7,6 +7,7 @@ import unittest
 from pathlib import Path
 
 from tests.calling import Side, asking
+from tests.causes import VERB, cause
 from tests.frames import ANSWER
 from tests.program import SECONDS, Ended, command, run
 from tools.lib.servers import address
@@ -29,17 +30,17 @@ ROWS = (
     (["strike", "9"], SCRIPT, Ended(0, b"window 100\n", b"")),
     (["strike", "7"], SCRIPT, Ended(0, SCRIPT, b"")),
     (["strike", "7"], ARRIVALS, "line 2: bad line"),
-    (asking("nowhere", "create", "0"), b"", "cannot connect"),
+    (asking("nowhere", "create", "0"), b"", "cannot connect: invalid socket address"),
     (["strike", "7"], b"window 100\n" + CREATE * 10 + b"\n", "line 12: bad line"),
     (["strike", "7"], b"window 100\n2 7 create 0\n" + CREATE, "line 3: moment goes back"),
     (["hall", "bad"], b"", "logins line 3"),
     (["run"], Path("/"), "cannot read"),
-    (asking("nowhere", "wirte", "7.0.1", "0", "61"), b"", "bad request"),
-    (asking("nowhere", "write", "7.0.1", "0", "61" * 8178), b"", "bad request"),
+    (asking("nowhere", "wirte", "7.0.1", "0", "61"), b"", f"bad request: {cause(1, 'wirte', VERB)}"),
+    (asking("nowhere", "write", "7.0.1", "0", "61" * 8178), b"", "bad request: it is longer than a frame takes"),
 )
 # Starts a program whose files may have so many bytes; what it writes behind that fails.
 BOUNDED = "import os, resource, sys; size = int(sys.argv[1]); resource.setrlimit(resource.RLIMIT_FSIZE, (size, size)); os.execv(sys.argv[2], sys.argv[2:])"
-CANNOT_WRITE = b"s4d: cannot write\n"
+CANNOT_WRITE = b"s4d: cannot write: File too large\n"
 
 
 def ran(words, given, folder):

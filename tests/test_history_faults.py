@@ -5,7 +5,7 @@ import unittest
 
 from tests.journals import CALLS, LINES, RECORDS, Chain, Kept, call, create, creation, journal, made, record, setting
 from tests.program import PROGRAM, SECONDS
-from tests.test_history_lists import JOURNAL
+from tests.test_history_lists import JOURNAL, ORDERED
 from tests.test_history_lines import BOTH, FIRST, RECORDS as OF_LINES
 
 # Cell 1 of two has three records.
@@ -61,11 +61,11 @@ class Faults(unittest.TestCase):
                 self.assertEqual(kept.check().fault, fault)
 
     def test_an_output_that_fails(self):
-        with Kept(JOURNAL) as kept, open("/dev/full", "wb") as full:
-            for telling in ("list", "check"):
+        for telling, records in (("list", ORDERED), ("check", JOURNAL)):
+            with Kept(records) as kept, open("/dev/full", "wb") as full:
                 words = [PROGRAM, "history", telling, kept.folder]
                 ran = subprocess.run(words, stdout=full, stderr=subprocess.PIPE, stdin=subprocess.DEVNULL, timeout=SECONDS)
-                self.assertEqual((ran.returncode, ran.stderr), (1, b"s4d: cannot write\n"), telling)
+                self.assertEqual((ran.returncode, ran.stderr), (1, b"s4d: cannot write: No space left on device\n"), telling)
 
 
 if __name__ == "__main__":

@@ -35,8 +35,8 @@ def history(told):
 
 def listed(told):
     """The lines of these records."""
-    first = f"0 0 5 2 0 create 0 -> made 2.0.1\n0 1 6 2 0 write 2.0.1 0 {LONG.hex()} -> done\n"
-    return f"{first}0 2 7 2 0 read 2.0.1 0 65 -> {told}\n0 3 8 2 0 read 2.0.1 0 64 -> data {SHORT.hex()} {GRANTED}\n"
+    first = f"0 0 0 5 2 0 create 0 -> made 2.0.1\n1 0 1 6 2 0 write 2.0.1 0 {LONG.hex()} -> done\n"
+    return f"{first}2 0 2 7 2 0 read 2.0.1 0 65 -> {told}\n3 0 3 8 2 0 read 2.0.1 0 64 -> data {SHORT.hex()} {GRANTED}\n"
 
 
 # What is told of the data by each format.
@@ -54,7 +54,7 @@ class Formats(unittest.TestCase):
         return it
 
     def check(self, fault, records, calls=b"", telling="check"):
-        self.assertEqual(self.kept(records, calls).tell(telling).fault, f"start 2: {fault}" if fault else "")
+        self.assertEqual(self.kept(records, calls).tell(telling).fault, f"start 2: {fault}")
 
     def test_both_formats_are_told_alike(self):
         # Of records that give no data all is told by both.
@@ -65,17 +65,19 @@ class Formats(unittest.TestCase):
         self.assertEqual(it.tell("list").text, LISTED)
         self.assertEqual(it.tell("list", "--json").text, JSON)
         self.assertEqual(it.tell("script").text, SCRIPT)
+        # That a start lacks before it, and whether it ended, is told by format 2 alone.
         told = it.check()
-        self.assertEqual(told.lines[0], f"start 2 blocks 4 sum {records[-32:].hex()}")
-        self.assertEqual(told.lines[1], f"start 2 calls blocks 2 sum {calls[-32:].hex()}")
-        self.assertEqual((told.fault, "".join(f"{line}\n" for line in told.lines[3:])), ("", CELLS))
+        self.assertEqual(told.lines[:2], ["start 1 lacks", f"start 2 blocks 4 sum {records[-32:].hex()}"])
+        self.assertEqual(told.lines[2], f"start 2 calls blocks 2 sum {calls[-32:].hex()}")
+        self.assertEqual(told.fault, "start 2: broken off")
+        self.assertEqual(told.lines[4:], [*CELLS.splitlines()[:-1], "start 2 broken off"])
 
     def test_summed_data_are_told(self):
         it = self.kept(journal_of_2(1, *history(summed(GRANT, LONG)))[0])
         self.assertEqual(it.tell("list").text, listed(TOLD))
         self.assertEqual(it.tell("list", "--from", 7, "--to", 7).text, listed(TOLD).splitlines(True)[2])
         self.assertIn(f'"ask":"read 2.0.1 0 65","reply":"{TOLD}"', it.tell("list", "--json").text)
-        self.assertEqual(it.check().lines[-1], "start 2 sound")
+        self.assertEqual(it.check().lines[-1], "start 2 broken off")
         # A script has the requests alone, and is the same by both formats. It gives the data again.
         script = it.tell("script").text
         other = self.kept(journal(1, *history(given(LONG)))[0])
@@ -100,7 +102,7 @@ class Formats(unittest.TestCase):
         front, first = heading(1)
         self.check("byte 172: no block", front + first + Chain(first).batch(0, creation(5, 2)))
         good = front + first + ChainOfSums(first).batch(0, creation(5, 2))
-        self.check("", good, ChainOfSums(first).calls(0, [call(0, 0, 1)]))
+        self.check("broken off", good, ChainOfSums(first).calls(0, [call(0, 0, 1)]))
         self.check("calls: byte 0: no block", good, Chain(first).calls(0, [call(0, 0, 1)]))
 
     def test_a_header_of_the_other_length_is_none(self):
@@ -112,7 +114,7 @@ class Formats(unittest.TestCase):
     def test_a_journal_is_cut_anywhere(self):
         records, first = journal_of_2(1, (0, creation(5, 2)), (0, setting(6)))
         middle = FRONT + len(ChainOfSums(first).batch(0, creation(5, 2)))
-        lines = ["0 0 5 2 0 create 0 -> made 2.0.1", "0 1 6 0 0 setwindow 4 -> done"]
+        lines = ["0 0 0 5 2 0 create 0 -> made 2.0.1", "1 0 1 6 0 0 setwindow 4 -> done"]
         it = self.kept(records)
         for length in range(len(records) + 1):
             it.write(RECORDS, records[:length])

@@ -81,11 +81,11 @@ class Scripts(unittest.TestCase):
         self.assertTrue(script.endswith("61\n7 0/1 plist 2 at 18446744073709551615\n8 2 read 2.0.1 0 65536\n"))
 
     def test_they_are_listed_and_checked(self):
-        self.assertTrue(told(1, SECOND, "list").text.startswith("0 0 5 2 0 create 0 -> made 2.0.1\n0 1 6 2 0 write "))
+        self.assertTrue(told(1, SECOND, "list").text.startswith("0 0 0 5 2 0 create 0 -> made 2.0.1\n1 0 1 6 2 0 write "))
         checked = told(1, SECOND, "check")
         self.assertEqual(checked.fault, "")
         self.assertIn("start 2 cell 0 records 4", checked.lines)
-        self.assertEqual(checked.lines[-1], "start 2 sound")
+        self.assertEqual(checked.lines[-1], "start 2 without an end")
 
     def test_callers_of_both_versions_have_a_script(self):
         self.assertEqual(told(1, BOTH, "script").text, SCRIPT_OF_BOTH)
@@ -94,7 +94,7 @@ class Scripts(unittest.TestCase):
         replied = [line.partition(" -> ")[2] for line in told(1, BOTH, "list").lines]
         self.assertEqual("".join(f"{it}\n" for it in replied), REPLIES_TO_BOTH)
         self.assertEqual(run(["run"], SCRIPT_OF_BOTH.encode()), Ended(0, REPLIES_TO_BOTH.encode(), b""))
-        self.assertEqual(told(1, BOTH, "check").lines[-1], "start 2 sound")
+        self.assertEqual(told(1, BOTH, "check").lines[-1], "start 2 without an end")
 
     def test_its_lines_are_struck_as_they_stand(self):
         # Principal 3 made an object of its own, which can't matter to 2; that they tried to delete one of 2's can.
@@ -116,7 +116,7 @@ class Replays(unittest.TestCase):
 
     def test_what_a_drive_answers_is_replayed(self):
         checked = self.check(2)
-        self.assertEqual((checked.fault, checked.lines[-3:]), ("", ["start 2 cell 0 records 2", "start 2 cell 0 uncalled 2", "start 2 sound"]))
+        self.assertEqual((checked.fault, checked.lines[-3:]), ("", ["start 2 cell 0 records 2", "start 2 cell 0 uncalled 2", "start 2 without an end"]))
 
     def test_another_reply_is_found(self):
         self.assertEqual(self.check(3).fault, "start 2: cell 0 record 1: another reply")

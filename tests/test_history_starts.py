@@ -3,30 +3,33 @@ import tempfile
 import unittest
 from pathlib import Path
 
-from tests.journals import CALLS, LINES, RECORDS, Chain, Kept, call, journal
+from tests.journals import CALLS, LINES, RECORDS, Chain, Kept, call, journal, json_of, row_of
 from tests.program import run
 from tests.test_history_scripts import SCRIPT, TWO_CELLS
 
+# The SetWindow has the place that it would have in the first cell.
 LISTED = """\
-1 0 6 1 0 create 1 -> made 1.1.1
-0 0 5 2 0 create 0 -> made 2.0.1
-1 1 8 3 0 create 2 -> made 3.2.1
-1 2 9 0 0 setwindow 4 -> done
+0 0 0 5 2 0 create 0 -> made 2.0.1
+1 1 0 6 1 0 create 1 -> made 1.1.1
+2 1 1 8 3 0 create 2 -> made 3.2.1
+3 0 1 9 0 0 setwindow 4 -> done
 """
-# The same lines as JSON, where their calls and connections are known.
-JSON = """\
-{"cell":1,"place":0,"moment":6,"wall":6,"who":1,"client":0,"connection":1,"peer":"127.0.0.1:50001","ask":"create 1","reply":"made 1.1.1"}
-{"cell":0,"place":0,"moment":5,"wall":5,"who":2,"client":0,"connection":2,"peer":"127.0.0.1:50002","ask":"create 0","reply":"made 2.0.1"}
-{"cell":1,"place":1,"moment":8,"wall":8,"who":3,"client":0,"connection":null,"peer":null,"ask":"create 2","reply":"made 3.2.1"}
-{"cell":1,"place":2,"moment":9,"wall":9,"who":0,"client":0,"connection":null,"peer":null,"ask":"setwindow 4","reply":"done"}
-"""
+# The same records with what is known of them, where their calls and connections are.
+FIRST, SECOND = ({"connection": number, "peer": f"127.0.0.1:5000{number}"} for number in (1, 2))
+ROWS = [
+    row_of(0, (0, 0), 5, 2, "create 0", "made 2.0.1", object="2.0.1", purse="2.0", **SECOND),
+    row_of(1, (1, 0), 6, 1, "create 1", "made 1.1.1", object="1.1.1", purse="1.1", **FIRST),
+    row_of(2, (1, 1), 8, 3, "create 2", "made 3.2.1", object="3.2.1", purse="3.2"),
+    row_of(3, (0, 1), 9, 0, "setwindow 4", "done", **SECOND),
+]
+JSON = json_of(*ROWS)
 # What is found of its cells: the SetWindow isn't in the blocks of the first, and its call names a place that isn't there.
 CELLS = """\
 start 2 cell 0 records 1
 start 2 cell 0 lacks 1
 start 2 cell 0 beyond 1
 start 2 cell 1 records 3
-start 2 sound
+start 2 without an end
 """
 # The same where no calls are written yet.
 UNCALLED = """\
@@ -35,7 +38,7 @@ start 2 cell 0 lacks 1
 start 2 cell 0 uncalled 1
 start 2 cell 1 records 3
 start 2 cell 1 uncalled 2
-start 2 sound
+start 2 without an end
 """
 # The texts of lines of two connections.
 TEXTS = (
@@ -70,7 +73,7 @@ class Starts(unittest.TestCase):
         with kept() as it:
             self.assertEqual(it.tell("list", "--json").text, JSON)
 
-    def test_sound_starts_are_found(self):
+    def test_starts_of_which_nothing_is_wrong_are_found(self):
         with kept() as it:
             told = it.check()
             self.assertEqual(told.fault, "")
@@ -126,7 +129,7 @@ class Starts(unittest.TestCase):
     def test_folders_without_starts_are_told(self):
         with tempfile.TemporaryDirectory() as room:
             Path(room, "bare").mkdir()
-            for folder, fault in (("bare", b"s4d: no journal in bare\n"), ("bare/nowhere", b"s4d: cannot read bare/nowhere\n")):
+            for folder, fault in (("bare", b"s4d: no journal in bare\n"), ("bare/nowhere", b"s4d: cannot read bare/nowhere: No such file or directory\n")):
                 ran = run(["history", "check", folder], folder=room)
                 self.assertEqual((ran.status, ran.err), (1, fault))
 

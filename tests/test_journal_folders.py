@@ -15,6 +15,7 @@ class Starts(unittest.TestCase):
     def check(self, room, journal, fault):
         """That a server that is to keep this journal doesn't start."""
         Path(room, "logins").write_text(LOGINS)
+        Path(room, "logins").chmod(0o600)
         ran = run(["serve", address(), "logins", "--journal", journal], folder=room)
         self.assertEqual((ran.status, ran.out, ran.err), (1, b"", f"s4d: {fault}\n".encode()))
 
@@ -43,7 +44,7 @@ class Starts(unittest.TestCase):
             Path(room, "mine").mkdir()
             Path(room, "mine", "letter").write_text("hello")
             self.check(room, "mine", "no folder of journals: mine")
-            self.check(room, "mine/letter", "cannot write mine/letter")
+            self.check(room, "mine/letter", "cannot write mine/letter: File exists")
             self.assertEqual([it.name for it in Path(room, "mine").iterdir()], ["letter"])
             self.assertEqual(Path(room, "mine", "letter").read_text(), "hello")
 
@@ -60,10 +61,10 @@ class Starts(unittest.TestCase):
         with tempfile.TemporaryDirectory() as room:
             Path(room, "mine").mkdir(0o700)
             os.mkfifo(Path(room, "mine", "lock"))
-            self.check(room, "mine", "cannot write mine")
+            self.check(room, "mine", "cannot write mine: its lock is no regular file")
             os.remove(Path(room, "mine", "lock"))
             Path(room, "mine", "lock").symlink_to(Path(room, "logins"))
-            self.check(room, "mine", "cannot write mine")
+            self.check(room, "mine", "cannot write mine: its lock is no regular file")
             self.assertEqual(Path(room, "logins").read_text(), LOGINS)
 
 

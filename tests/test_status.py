@@ -1,9 +1,12 @@
 """What a server tells of itself in its status, and by its clock."""
 import functools
 import os
+import re
+import stat
 import tempfile
 import time
 import unittest
+from datetime import datetime
 from pathlib import Path
 
 from tests.frames import BAD_LOGIN, CREATE, FOREIGN_WRITE, HELLO, MADE, WRITE_DENIED, WRONG_HELLO
@@ -21,6 +24,14 @@ WANTED = {
     "connections/greeting": 1,
     "connections/welcomed": 1,
     "connections/leaving": 0,
+    "connections/principals/0/who": 7,
+    "connections/principals/0/count": 1,
+    "connections/principals/1": None,
+    "connections/addresses/0/address": "127.0.0.1",
+    "connections/addresses/0/count": 2,
+    "connections/addresses/1": None,
+    "window": 100,
+    "version": "0.1.0",
     "failed_logins/all": 2,
     "failed_logins/others": 1,
     "failed_logins/principals/0/who": 7,
@@ -32,6 +43,30 @@ WANTED = {
     "refusals/denied": 1,
     "refusals/no_memory": 0,
 }
+# The same as text, but for the times, the memory and the cells, where so many connections were accepted.
+TEXT = """\
+info{version="0.1.0"} 1
+accepted_total 3
+turned_away_total 0
+open_connections 1
+connections{state="greeting"} 0
+connections{state="welcomed"} 1
+connections{state="leaving"} 0
+principal_connections{who="7"} 1
+address_connections{address="127.0.0.1"} 1
+failed_logins_total 2
+foreign_logins_total 1
+failed_logins{who="7"} 1
+replies_total 2
+refusals_total{kind="denied"} 1
+refusals_total{kind="no_object"} 0
+refusals_total{kind="no_memory"} 0
+journal_start 1
+journal_fails 0
+window_seconds 0.100
+"""
+# A line of figures: a name, labels, and a number.
+FIGURE = re.compile(r'visorgal_([a-z_]+)(\{[a-z]+="[^"\\\n]*"\})? (\d+(?:\.\d{3})?)')
 # Who isn't among the logins.
 STRANGER = hello(4294967294, 1, SECRETS[7])
 # How often the status is read at least while the server writes it, and how long it rests in between, in seconds.
@@ -101,3 +136,67 @@ class Status(unittest.TestCase):
                 self.assertIn(moment, server.moments())
                 server.ask_to_end()
                 server.check_end(self, (0, 0))
+
+    def figures(self, path):
+        """The lines of figures in a file of --status-text, each behind what it is."""
+        name, told = None, []
+        for line in path.read_text(encoding="utf-8").splitlines():
+            if line.startswith("# HELP "):
+                name = re.fullmatch(r"# HELP visorgal_([a-z_]+) \S.*\.", line)[1]
+            elif line.startswith("# TYPE "):
+                self.assertEqual(line, f"# TYPE visorgal_{name} {'counter' if name.endswith('_total') else 'gauge'}")
+            else:
+                figure = FIGURE.fullmatch(line)
+                self.assertTrue(figure and figure[1] == name, line)
+                told.append(line.removeprefix("visorgal_"))
+        self.assertEqual(len(told), len({it.rsplit(" ", 1)[0] for it in told}))
+        return told
+
+    def test_the_same_is_told_as_text(self):
+        with Server("--status-text", "figures", connections=0, idle=60000, hello=60000, keeps=True) as server, server.welcomed(HELLO) as seven:
+            seven.sendall(CREATE + FOREIGN_WRITE)
+            self.assertEqual(exactly(seven, 20), MADE + WRITE_DENIED)
+            self.assertEqual([server.tell(it) for it in (WRONG_HELLO, STRANGER)], [BAD_LOGIN] * 2)
+            path = server.folder / "figures"
+            until(lambda: path.exists() and set(TEXT.splitlines()) <= set(self.figures(path)), "the text has what happened")
+            for name in ("start_time_seconds", "logins_time_seconds"):
+                told = next(it for it in self.figures(path) if it.startswith(name))
+                self.assertLess(abs(float(told.split()[1]) - time.time()), 120)
+            behind = next(it for it in self.figures(path) if it.startswith("journal_behind_seconds"))
+            self.assertLess(float(behind.split()[1]), 60)
+            server.ask_to_end()
+            server.check_end(self, (2, 2), errors="(s4d: journal: .*\n)*")
+
+    def test_a_status_is_private_unless_its_file_was_not(self):
+        with tempfile.TemporaryDirectory() as room:
+            public = Path(room, "public")
+            public.touch()
+            public.chmod(0o644)
+            with Server("--status-text", public, connections=0) as server:
+                until(lambda: server.status() is not None and public.stat().st_size > 0, "both are written")
+                self.assertEqual(stat.S_IMODE((server.folder / "status").stat().st_mode), 0o600)
+                self.assertEqual(stat.S_IMODE(public.stat().st_mode), 0o644)
+                server.ask_to_end()
+                server.check_end(self, (0, 0))
+
+    def test_a_link_beside_a_file_is_not_followed_at_the_start(self):
+        with tempfile.TemporaryDirectory() as room:
+            other = Path(room, "other")
+            other.write_text("another's", encoding="utf-8")
+            os.symlink(other, Path(room, "figures.new"))
+            with Server("--status-text", Path(room, "figures"), connections=0) as server:
+                until(lambda: Path(room, "figures").exists(), "the text is written")
+                self.assertEqual(other.read_text(encoding="utf-8"), "another's")
+                server.ask_to_end()
+                server.check_end(self, (0, 0))
+
+    def test_lines_on_standard_error_begin_with_the_time(self):
+        with Server("--log-times", connections=0, keeps=True) as server:
+            until(server.status, "the server looks after its files")
+            server.write("logins", "7 is a good principal\n")
+            until(lambda: server.errors(), "the server tells that its logins are bad")
+            server.ask_to_end()
+            time_of_day = r"\d{4}-\d\d-\d\dT\d\d:\d\d:\d\d\.\d{3}Z"
+            server.check_end(self, (0, 0), errors=f"{time_of_day} s4d: logins line 1: logins: one space stands between principal and secret, and no other\n({time_of_day} s4d: journal: start 1 .*\n){{3}}")
+            told = server.errors()[:23]
+            self.assertLess(abs(datetime.fromisoformat(told + "+00:00").timestamp() - time.time()), 120)
