@@ -9,10 +9,10 @@
                         wants to mount a tmpfs, as root may
       --self-test       programs that tell a journal wrongly, each of which has to be found
 
-A run is right where the journal is sound, and the script that it tells, and that script struck for each principal, give that principal the
-replies that they had: all of them, or where the server was killed, all but those of the last round. A server that ends tells the sum of its
-journal, and as many records as that has. Half of the servers cut their records, which the journal has all the same: of one of these at least
-some have to go.
+A run is right where the journal is sound, or where the server was killed, says that it broke off, and the script that it tells, and that script
+struck for each principal, give that principal the replies that they had: all of them, or where the server was killed, all but those of the last
+round. A server that ends tells the sum of its journal, and as many records as that has. The sums that it kept are found in the journal, and so are
+changed bytes and cuts of that. Half of the servers cut their records, which the journal has all the same: of one of these at least some have to go.
 """
 from tools.lib.commands import Options
 from tools.lib.disks import try_disks

@@ -8,7 +8,7 @@ from pathlib import Path
 
 from tools.lib import client as it
 from tools.lib.findings import Wrong
-from tools.lib.keeping import told
+from tools.lib.keeping import checked_as, told
 from tools.lib.servers import PATIENCE, Server
 
 # The disk has so much at first, and then so much; so many writes of so many bytes are more than the first.
@@ -89,9 +89,7 @@ def fill(drive, made, begin, count):
 def is_kept(program, folder, last, asked):
     """Whether the journal is sound, and has all records that the server tells of: so many."""
     wanted(last, [f"closed {asked}"], "the last line")
-    checked = told(program, "history", "check", folder)
-    if not checked.endswith(" sound\n") or any(word in checked for word in (" torn ", " uncalled ", " beyond ")):
-        raise Wrong(f"the journal isn't sound: {checked!r}")
+    checked_as(program, folder, "sound")
     wanted(len(told(program, "history", "script", folder).splitlines()) - 1, asked, "lines of the script")
 
 
@@ -122,8 +120,7 @@ def full_to_the_end(scene):
         output, errors = server.end()
         wanted(output[-1:], [f"closed {1 + 2 * WRITES}"], "the last line")
         wanted("s4d: journal: cannot write" in errors, True, "it says that it couldn't write")
-        if not told(scene.program, "history", "check", where / "kept").endswith(" sound\n"):
-            raise Wrong("what stands on the full disk isn't sound")
+        checked_as(scene.program, where / "kept", "broken off")
 
 
 def refused(scene, room, kept, why):
@@ -137,7 +134,7 @@ def read_only(scene):
     """A disk on which nothing can be made."""
     with disk(scene.room, LARGE) as where:
         mount("-o", "remount,ro", where)
-        refused(scene, scene.room, where / "kept", f"cannot write {where / 'kept'}")
+        refused(scene, scene.room, where / "kept", f"cannot write {where / 'kept'}: Read-only file system")
 
 
 def gone(scene):

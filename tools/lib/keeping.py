@@ -69,12 +69,24 @@ def break_off(address):
         sock.sendall(bytes(7))
 
 
-def told(program, *words, script=None):
-    """What the program writes; it has to succeed."""
+def told(program, *words, script=None, status=0):
+    """What the program writes; it has to succeed, or to end with that status."""
     ran = run(program, words, (script or "").encode())
-    if ran.status != 0:
+    if ran.status != status:
         raise Wrong(f"{' '.join(map(str, words))}: status {ran.status}: {ran.err.decode().strip()} behind {ran.out.decode()[-200:]!r}")
     return ran.out.decode()
+
+
+# With which status a check ends whose last line says so.
+STATUSES = {"sound": 0, "broken off": 3}
+
+
+def checked_as(program, folder, wanted, *flags):
+    """What is told of the one start in a folder, which has to be that."""
+    checked = told(program, "history", "check", folder, *flags, status=STATUSES[wanted])
+    if not checked.endswith(f"start 1 {wanted}\n"):
+        raise Wrong(f"the journal isn't {wanted}: {checked!r}")
+    return checked
 
 
 def is_own(words):
@@ -106,6 +118,8 @@ def told_of_connections(folder, all_asked, died):
         if not line.endswith("\n"):
             break
         event = json.loads(line)
+        if event["event"] == "ended":
+            continue
         number = event["connection"]
         peers.setdefault(number, event["peer"])
         if event["event"] == "welcome":
@@ -123,9 +137,25 @@ def told_of_connections(folder, all_asked, died):
     return welcomed, peers
 
 
+def compare_ended(folder, checked, died):
+    """Whether the last line tells that the start ended, where it did, and with which counts and sums, which are those that `check` finds."""
+    events = [json.loads(line) for line in (folder / "1" / "connections.jsonl").read_text(encoding="utf-8").splitlines(keepends=True) if line.endswith("\n")]
+    ends = [place for place, event in enumerate(events) if event["event"] == "ended"]
+    if ends != ([] if died else [len(events) - 1]):
+        raise Wrong(f"of {len(events)} lines {ends} tell the end of a server that {'was killed' if died else 'ended'}")
+    if died:
+        return
+    found = [line.rpartition(" ")[2] for line in checked.splitlines() if " sum " in line][:2]
+    cells = [int(line.rpartition(" ")[2]) for line in checked.splitlines() if " records " in line]
+    told, sizes = events[-1], [(folder / "1" / name).stat().st_size for name in ("records", "calls")]
+    wanted = ({"bytes": sizes[0], "sum": found[0], "cells": cells}, {"bytes": sizes[1], "sum": found[1], "count": told["calls"]["count"]}, len(events) - 1)
+    if (told["records"], told["calls"], told["lines"]) != wanted:
+        raise Wrong(f"the last line is {told}, and {wanted} is found")
+
+
 def compare_list(program, folder, all_asked, died, cuts):
-    """Whether the list has each record once, with the connection of its principal, and that one's peer. Tells how many it has, and how many of them
-    the server asked by itself, which have none."""
+    """Whether the list has each record once, by its number, with the connection of its principal, and that one's peer. Tells how many it has, how many
+    of them the server asked by itself, which have none, and how many are of all cells."""
     welcomed, peers = told_of_connections(folder, all_asked, died)
     plain = [line for line in told(program, "history", "list", folder).splitlines() if " -> " in line]
     try:
@@ -134,14 +164,12 @@ def compare_list(program, folder, all_asked, died, cuts):
         raise Wrong(f"the list is no JSON: {why}") from why
     if len(plain) != len(rows):
         raise Wrong(f"the list has {len(plain)} lines, and as JSON {len(rows)}")
-    unknown, own = 0, 0
-    for line, row in zip(plain, rows):
-        spot = f"{row['cell']} {row['place']} {row['moment']} {row['who']} {row['client']} {row['ask']} -> "
-        if not line.startswith(spot):
-            raise Wrong(f"the list has {line!r}, and as JSON {row}")
-        is_wide = row["who"] == 0 and row["ask"].split(" ")[0] in ("flush", "setwindow")
-        if is_wide and row["cell"] > 0:
-            continue
+    unknown, own, wide = 0, 0, 0
+    for n, (line, row) in enumerate(zip(plain, rows)):
+        spot = f"{n} {row['cell']} {row['place']} {row['moment']} {row['who']} {row['client']} {row['ask']} -> {row['reply']}"
+        if line != spot or row["n"] != n or row["verb"] != row["ask"].split(" ")[0]:
+            raise Wrong(f"the list has {line!r} as record {n}, and as JSON {row}")
+        wide += row["who"] == 0 and row["verb"] in ("flush", "setwindow")
         if cuts and row["who"] == 0 and is_own(row["ask"]) and row["connection"] is None and row["reply"] == "future":
             own += 1
             continue
@@ -153,7 +181,9 @@ def compare_list(program, folder, all_asked, died, cuts):
             raise Wrong(f"the list names another connection: {row}")
     if unknown and not died:
         raise Wrong(f"of {unknown} records the list names no connection")
-    return len(rows), own
+    if [row["moment"] for row in rows] != sorted(row["moment"] for row in rows):
+        raise Wrong("the list isn't in the order of the moments")
+    return len(rows), own, wide
 
 
 @dataclass
@@ -171,16 +201,19 @@ class Found:
 
 
 def compare(program, folder, all_asked, died, cuts):
-    """Whether the journal is sound, and tells of each principal what they were replied: all of it, or where the server died, all but the last."""
-    checked = told(program, "history", "check", folder)
-    if not checked.endswith(" sound\n"):
-        raise Wrong("the journal isn't sound")
+    """Whether nothing is wrong with the journal, and it tells of each principal what they were replied: all of it, or where the server died, all but the
+    last."""
+    checked = checked_as(program, folder, "broken off" if died else "sound")
     if not died and (" uncalled " in checked or " beyond " in checked or " torn " in checked):
         raise Wrong(f"of a server that ended it tells {checked!r}")
+    compare_ended(folder, checked, died)
     counted = sum(int(line.rpartition(" ")[2]) for line in checked.splitlines() if " records " in line)
-    listed, own = compare_list(program, folder, all_asked, died, cuts)
-    if listed != counted:
-        raise Wrong(f"the list doesn't have the {counted} records of the cells")
+    listed, own, wide = compare_list(program, folder, all_asked, died, cuts)
+    # Each cell has the records of all cells, but where the server died in between.
+    once = counted - wide * (len([line for line in checked.splitlines() if " records " in line]) - 1)
+    lacking = sum(int(line.rpartition(" ")[2]) for line in checked.splitlines() if " lacks " in line)
+    if listed != once + lacking:
+        raise Wrong(f"the list has {listed} records, and the cells {once + lacking}")
     script = told(program, "history", "script", folder)
     records = 0
     for asked in all_asked:
@@ -212,16 +245,18 @@ def compare_count(output, found, cuts):
 
 
 def change_bytes(program, folder, chance):
-    """Changes bytes of the three files in turn: each is found, or reads as a torn end that is told."""
+    """Changes bytes of the three files in turn, and cuts these: each is found."""
     for name in ("records", "calls", "connections.jsonl"):
         path = folder / "1" / name
         whole = path.read_bytes()
         for _ in range(5):
             place = chance.randrange(len(whole))
-            path.write_bytes(whole[:place] + bytes([whole[place] ^ 1 << chance.randrange(8)]) + whole[place + 1 :])
-            ran = run(program, ["history", "check", folder])
-            if ran.status == 0 and b" torn " not in ran.out:
-                raise Wrong(f"byte {place} of {name} is changed, and the journal is sound: {ran.out.decode()!r}")
+            changed = whole[:place] + bytes([whole[place] ^ 1 << chance.randrange(8)]) + whole[place + 1 :]
+            for what, data in (("changed", changed), ("the first that lacks", whole[:place])):
+                path.write_bytes(data)
+                ran = run(program, ["history", "check", folder])
+                if ran.status == 0:
+                    raise Wrong(f"byte {place} of {name} is {what}, and the journal is sound: {ran.out.decode()!r}")
         path.write_bytes(whole)
 
 
@@ -276,12 +311,22 @@ def wait_for_a_cut(server, all_asked):
         time.sleep(PAUSE)
 
 
-def compare_end(program, kept, found, output, errors, plan):
-    """Whether a server that ends tells the sums of its journal and its records, and whether changed bytes of the journal are found. Tells of one
-    that cuts how many of its records went; else None."""
+def compare_sums(program, kept, sums):
+    """Whether each sum that the server kept is found, the last one at the end of its records."""
+    checked = checked_as(program, kept, "sound", "--sums", sums)
+    found = [line.split(" ")[3] for line in checked.splitlines() if " kept, " in line]
+    wanted = list(dict.fromkeys(line.split(" ")[1] for line in sums.read_text(encoding="ascii").splitlines()))
+    if found != wanted or not wanted or f"start 1 bytes {wanted[-1]} kept, 0 blocks follow\n" not in checked:
+        raise Wrong(f"the sums at the bytes {wanted} were kept, and {checked!r} is found")
+
+
+def compare_end(program, kept, sums, found, output, errors, plan):
+    """Whether a server that ends tells the sums of its journal and its records, whether those that it kept are found, and whether changed bytes and cuts
+    of the journal are. Tells of one that cuts how many of its records went; else None."""
     for line in errors:
         if " sum " in line:
             told(program, "history", "check", kept, "--sum", line.rpartition(" sum ")[2])
+    compare_sums(program, kept, sums)
     gone = compare_count(output, found, plan.cuts)
     change_bytes(program, kept, plan.chance)
     return gone if plan.cuts else None
@@ -291,7 +336,7 @@ def serve_at_random(program, plan):
     """Serves while all principals ask at random, and compares. Tells how many replies were compared, and of a server that cuts and ends how many of its
     records went; else None."""
     logins = logins_of({who: secret_of(who) for who in PRINCIPALS})
-    flags = ["--journal", "kept", "--window", WINDOW, *plan.flags]
+    flags = ["--journal", "kept", "--sums", "sums", "--window", WINDOW, *plan.flags]
     with Server(program, *flags, logins=logins, tells=plan.cuts) as server:
         all_asked, died = ask_all_at_random(program, server, plan)
         if plan.cuts and not plan.kill:
@@ -299,4 +344,4 @@ def serve_at_random(program, plan):
         output, errors = server.end()
         kept = server.folder / "kept"
         found = compare(program, kept, all_asked, died, plan.cuts)
-        return found.compared, None if plan.kill else compare_end(program, kept, found, output, errors, plan)
+        return found.compared, None if plan.kill else compare_end(program, kept, server.folder / "sums", found, output, errors, plan)

@@ -5,7 +5,7 @@ import re
 from tools.lib.findings import Finding
 
 # The most bytes of a page, or of a folder's pages together.
-MOST_BYTES = {"docs/PROVED.md": 20_000, "docs/MODEL.md": 35_000, "docs/OPERATIONS.md": 18_000, "docs/DECISIONS.md": 30_000, "docs/": 305_000}
+MOST_BYTES = {"docs/PROVED.md": 20_000, "docs/MODEL.md": 35_000, "docs/OPERATIONS.md": 20_000, "docs/DECISIONS.md": 31_500, "docs/": 305_000}
 # On the first screens of which pages, or folders of pages, the words of sentences are counted.
 COUNTED = ("README.md", "docs/")
 # The most words of a sentence there; how many rows of how many characters a screen has.

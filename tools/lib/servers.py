@@ -76,6 +76,7 @@ class Server:
         self.room = None if folder else tempfile.TemporaryDirectory(prefix="s4d-")
         self.folder, self.address, self.tells = Path(folder or self.room.name), address(), tells
         (self.folder / "logins").write_text(logins, encoding="utf-8")
+        (self.folder / "logins").chmod(0o600)
         words = ["serve", self.address, "logins", "--until", "end", *["--status", "status"] * tells, *flags]
         if setup is not None:
             (self.folder / "setup").write_text(setup, encoding="utf-8")
@@ -127,6 +128,7 @@ class Server:
     def write(self, name, text):
         """Has a file in its folder hold this text: it is written beside, and takes that file's place."""
         (self.folder / f"{name}.beside").write_text(text, encoding="utf-8")
+        (self.folder / f"{name}.beside").chmod(0o600)
         os.replace(self.folder / f"{name}.beside", self.folder / name)
 
     def status(self):

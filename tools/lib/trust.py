@@ -20,7 +20,7 @@ THEOREMS = [
     ("isolation of the bytes that `s4d hall` sends, the headline", "s4_session", "hall.rt", "Hall::run", ("fresh", "moments", "sent")),
     ("threads that share cells, once closed: one history, counts, and isolation of replies where uncut", "s4_pool", "closes.rt", "Front::close", ()),
     ("a server that has ended: the same", "s4_server", "server.rt", "Server::run", ()),
-    ("what `s4d strike` writes of the lines that it kept", "s4_run", "strike.rt", "Script::write_struck", ("written",)),
+    ("what `s4d strike` writes of a script", "s4_run", "strike.rt", "run_strike", ("written",)),
     ("one turn of a connection of a server", "s4_sockets", "conversation.rt", "Conversation::turn", ()),
     ("one call by `s4d call`", "s4_commands", "calling.rt", "call_over", ()),
     ("a map of chains", "s4_store", "store.rt", "Store", ()),
