@@ -21,7 +21,6 @@ pub mod Answer
 pub mod Contents
 pub mod Limits
 pub mod Play
-pub mod Lists
 pub mod Counts
 pub mod Log
 pub mod Strike

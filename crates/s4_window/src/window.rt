@@ -35,6 +35,22 @@ impl Window {
         }
     }
 
+    /// How many ticks the window has.
+    pub fn ticks(&self) -> u64
+        ensures { result ≡ self.now.window }
+    {
+        let window = *self;
+        window.ticks
+    }
+
+    /// The moment below which the horizon doesn't go any more.
+    pub fn floor(&self) -> Moment
+        ensures { result ≡ self.now.floor }
+    {
+        let window = *self;
+        window.floor
+    }
+
     /// The horizon at the moment: nothing is told of the moments below it. It is as many ticks
     /// before the moment as the window has, and never below the floor.
     pub fn horizon(&self, moment: Moment) -> Moment
