@@ -1,5 +1,5 @@
 -- What is current began by now.
-use Rattle.std.proofs.Common.{◌≡◌, ℕ, ◌≤◌, Bool, true, false, Option, Some, None, List, [], ◌∷◌, refl, sym, ◌∙◌, ap, subst}
+use Rattle.std.proofs.Common.{◌≡◌, ℕ, ◌≤◌, Bool, true, false, Option, Some, None, List, [], ◌∷◌, refl, sym, subst}
 use Rattle.std.specs.Prelude.{IfSome, nat_le, is_some, if◌then◌else◌}
 use Rattle.std.specs.Option.{option_map}
 use Rattle.std.proofs.lemmas.Bool.{leb-true}
@@ -13,7 +13,7 @@ use Rattle.s4_types.specs.declared.version.Item.TheVariants as item
 use Rattle.s4_types.specs.Versions.{Track, Value, versions, value_at, ends_by, in_force_by, lives_at, data_track, attribute_track, acl_track}
 use Rattle.s4_types.specs.Play.{last_of}
 use Rattle.s4_store.specs.Chains.{Chains, newest_of}
-use Rattle.s4_tracks.specs.Chain.{endless, current_of}
+use Rattle.s4_tracks.specs.Chain.{endless}
 use Rattle.s4_objects.specs.declared.kept.Which.{Which}
 use Rattle.s4_objects.specs.declared.kept.Which.TheVariants as which
 use Rattle.s4_objects.specs.declared.objects.Objects.{Objects}

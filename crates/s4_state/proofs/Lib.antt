@@ -28,8 +28,5 @@ pub mod Costs
 pub mod Stepped
 pub mod Once
 pub mod Keeping
-pub mod Listed
-pub mod Cutting
-pub mod Cuts
-pub mod Moments
-pub mod Above
+pub mod Gone
+mod Parting

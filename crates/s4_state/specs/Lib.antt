@@ -7,5 +7,5 @@ pub mod Flushes
 pub mod Shown
 pub mod Told
 pub mod Weights
+pub mod History
 pub mod Stands
-pub mod CutLog

@@ -11,13 +11,12 @@ use Rattle.s4_types.specs.declared.version.Version.{Version}
 use Rattle.s4_types.specs.declared.version.Item.{Item}
 use Rattle.s4_types.specs.Names.{same_object}
 use Rattle.s4_types.specs.Versions.{Value, makes}
-use Rattle.s4_types.specs.Base.{Base}
-use Rattle.s4_types.specs.Lists.{base_of_lists}
+use Rattle.s4_types.specs.Base.{Base, opened}
 use Rattle.s4_types.specs.Bindings.{bindings_after, names_after, names_of}
-use Rattle.s4_types.specs.Horizon.{horizon_at}
+use Rattle.s4_types.specs.Horizon.{horizon_at, guarded_at}
 use Rattle.s4_types.specs.Serials.{drawn, draws}
 use Rattle.s4_types.specs.Play.{last_of}
-use Rattle.s4_base.specs.Changes.{CanFollowAll}
+use Rattle.s4_cuts.specs.Cut.{before}
 use Rattle.s4_names.specs.Drawn.{drawn_in}
 use Rattle.s4_tracks.specs.Chain.{with_put, with_end}
 use Rattle.s4_tracks.specs.Swept.{unexpired, AgreesWith}
@@ -31,8 +30,9 @@ use Rattle.s4_parts.specs.Table as nameless
 use Rattle.s4_parts.specs.Table.{Holds, names_in, bindings_in, chain_at, is_any, NoneIsEmpty}
 use Rattle.s4_parts.specs.Waiting.{waiting_in, Waits}
 use Rattle.s4_state.specs.declared.parts.Parts.{Parts}
+use Rattle.s4_state.specs.declared.start.Start.{Start}
 use Rattle.s4_types.specs.Log.{Log, is_ready_for}
-use Rattle.s4_types.specs.Counts.{held_by_lists, made_by, values_ended_by, bindings_ended_by, counted, made_count, object_ends, binding_ends}
+use Rattle.s4_types.specs.Counts.{made_by, values_ended_by, bindings_ended_by, counted, made_count, object_ends, binding_ends}
 use Rattle.s4_state.specs.Current.{Keeps}
 use Rattle.s4_state.specs.Laid.{versions_on, bindings_on}
 use Rattle.s4_state.specs.Sound.{IsSound}
@@ -104,17 +104,13 @@ pub record StandsFor (base : Base) (size : ℕ) (chains : Chains Version) (kept 
 
 -- what the history starts from
 abbrev pub base_in : {S : Type 0} → Parts S → Base
-base_in parts = base_of_lists parts.start.base
-
--- how many values and bindings that keeps
-abbrev pub begun_by : {S : Type 0} → Parts S → ℕ
-begun_by parts = held_by_lists parts.start.base
+base_in parts = opened parts.start.opened
 
 -- what callers see, where it is made ready for those
 abbrev pub log_where : {S : Type 0} → Readiness → (S → Chains Version) → Parts S → Log
 log_where ready chains parts = record {
   opened = parts.start.opened;
-  base = parts.start.base;
+  cut = parts.start.cut;
   history = parts.history.records;
   held = item_count (chains parts.store);
   ready = ready;
@@ -144,20 +140,18 @@ StandsStill chains old new = Stands chains new (size_in chains old) old.history.
 abbrev pub IsKept : {S : Type 0} → (S → Chains Version) → Parts S → Type 0
 IsKept chains parts = Stands chains parts (size_in chains parts) parts.history.records
 
--- the base goes on from the records that went to those that are left
-pub record GoesOn {S : Type 0} (parts : Parts S) : Type 0 where
-  -- as many records went as the base tells
-  pub places : parts.history.first ≡ parts.start.base.count
-  -- it can follow those that are left, so that these can go too
-  pub follows : CanFollowAll (base_in parts) parts.history.records
-  -- its lists have each object and each name once
-  pub keeps : Keeps (base_in parts) (begun_by parts)
+-- of the records before the cut, and of no others, no byte is kept, and of what they leave these numbers are
+pub record HasGone (start : Start) (first : ℕ) (h : List Record) : Type 0 where
+  pub gone : first ≡ length (before start.cut h)
+  pub window : start.window ≡ guarded_at (opened start.opened) (before start.cut h)
+  -- nothing is told of the moments before the cut
+  pub below : start.cut ≤ horizon_now (opened start.opened) h
 
--- what is kept stands for the history beside it, its base goes on to the history, and where it was made
+-- what is kept stands for the history beside it, of whose first records nothing more is kept, and where it was made
 -- ready for a request there is room for the next record
 pub record StateStands {S : Type 0} (chains : S → Chains Version) (parts : Parts S) (ready : Readiness) : Type 0 where
   pub kept : IsKept chains parts
-  pub goes_on : GoesOn parts
+  pub gone : HasGone parts.start parts.history.first parts.history.records
   pub room : (request : Request) → is_ready_for ready request ≡ true → parts.history.has_room ≡ true
 
 -- the record makes no object, and draws no serial

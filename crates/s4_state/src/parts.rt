@@ -16,9 +16,9 @@ ghost use Rattle.s4_state.specs.Stored.{told_bytes};
 ghost use Rattle.s4_state.specs.Weights.{cost_now};
 ghost use Rattle.s4_types.specs.Contents.{data_of, acl_of};
 
+use crate::history::History;
+use crate::start::Start;
 use crate::values::{Stored, held_of, stored_of};
-use s4_audit::Audit;
-use s4_base::Base;
 use s4_judge::{Held, judge_now, judge_past};
 use s4_names::Names;
 use s4_objects::{Objects, Which};
@@ -27,15 +27,6 @@ use s4_types::{AclEntry, Caller, Grant, Moment, Name, ObjectId, Purse, Refusal, 
 
 /// What a value without bytes or entries costs once it is past.
 const LEAST_COST: u32 = 64;
-
-/// What the history starts from.
-#[derive(Drop)]
-pub struct Start {
-    /// The window at the opening, in ticks.
-    pub opened: u64,
-    /// What the records that went have left.
-    pub base: Base,
-}
 
 /// What the history starts from, the values, the objects and the serials drawn, the partitions, and
 /// the records.
@@ -46,7 +37,7 @@ pub struct Parts<S> {
     pub objects: Objects,
     pub names: Names,
     pub partitions: s4_parts::Parts,
-    pub history: Audit,
+    pub history: History,
 }
 
 impl<S: Store<Version>> Parts<S> {

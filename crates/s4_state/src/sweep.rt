@@ -2,8 +2,7 @@
 
 ghost use Rattle.std.specs.Prelude.{◌≡◌, ◌+◌, ◌-◌, min};
 ghost use Rattle.s4_types.specs.Counts.{made_count, ended_count};
-ghost use Rattle.s4_state.specs.Current.{Keeps};
-ghost use Rattle.s4_state.specs.Stands.{base_in, begun_by, size_in, horizon_now, IsKept, Stands};
+ghost use Rattle.s4_state.specs.Stands.{base_in, size_in, horizon_now, IsKept, Stands};
 
 use crate::parts::Parts;
 use s4_store::Store;
@@ -13,10 +12,10 @@ use s4_types::{Moment, Version};
 /// first, and tells how many. Takes no memory.
 pub fn sweep<S: Store<Version>>(parts: &mut Parts<S>, horizon: Moment, most: u64) -> u64
     requires kept { IsKept S.chains parts.old }
-    requires keeps { Keeps (base_in parts.old) (begun_by parts.old) }
     requires now { horizon ≡ horizon_now (base_in parts.old) parts.old.history.records }
-    ensures freed { result ≡ min most (size_in S.chains parts.old - (begun_by parts.old
-        + made_count parts.old.history.records - ended_count horizon parts.old.history.records)) }
+    ensures freed { result ≡ min most (size_in S.chains parts.old
+        - (made_count parts.old.history.records
+        - ended_count horizon parts.old.history.records)) }
     ensures stands { Stands S.chains parts.new (size_in S.chains parts.old - result)
         parts.old.history.records }
     ensures history { parts.new.history ≡ parts.old.history }
