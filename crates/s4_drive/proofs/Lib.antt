@@ -7,4 +7,3 @@ pub mod Charging
 pub mod Following
 pub mod Carried
 pub mod Isolated
-pub mod CutLimits

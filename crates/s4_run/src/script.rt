@@ -1,10 +1,9 @@
 //! Scripts: a line that opens the drive, and then a line for each request.
 
-ghost use Rattle.std.specs.Prelude.{◌≡◌, ◌<◌, ◌≤◌, ◌↔◌, length, IsNone, IfSome, IfOk, OnOk, OnErr};
+ghost use Rattle.std.specs.Prelude.{◌≡◌, ◌+◌, ◌<◌, ◌≤◌, ◌↔◌, length, IsNone, IfSome, IfOk};
 ghost use Rattle.s4_types.specs.Log.{fresh_log, horizon_in};
 ghost use Rattle.s4_types.specs.Play.{last_of};
-ghost use Rattle.s4_cuts.specs.Cut.{before};
-ghost use Rattle.s4_state.specs.CutLog.{IsCut};
+ghost use Rattle.s4_cuts.specs.CutLog.{cut_log, gone_of};
 ghost use Rattle.s4_drive.specs.Step.{Steps};
 ghost use Rattle.s4_script.specs.Readings.{line_in_text, opening_in_text, Gives};
 ghost use Rattle.s4_run.specs.Opened.{Opens};
@@ -17,7 +16,7 @@ use s4_script::{
     CutText, Line, NumberedLines, Opening, ParseError, ReplyText, UsedText, parse_line,
     parse_opening,
 };
-use s4_types::{Caller, Moment, NoMemory, Refusal, Reply, Request, Step, Version, WireVersion};
+use s4_types::{Caller, Moment, Reply, Request, Step, Version, WireVersion};
 use std::alloc::Global;
 use std::io::{Read, Write};
 
@@ -97,18 +96,9 @@ fn execute_line<W: Write>(
         Line::Used => writeln!(writer, "{}", UsedText(run.drive.used())).map_err(RunFault::writing),
         Line::Cut(moment) => {
             let went = run.cut(*moment).ok_or(RunFault::CutAboveHorizon(number))?;
-            write_cut(writer, went)
+            writeln!(writer, "{}", CutText(went)).map_err(RunFault::writing)
         }
     }
-}
-
-/// Writes how many records went by a cut, or that there wasn't enough memory for it.
-fn write_cut<W: Write>(writer: &mut W, went: Result<u64, NoMemory>) -> Result<(), RunFault> {
-    match went {
-        Ok(count) => writeln!(writer, "{}", CutText(count)),
-        Err(_) => writeln!(writer, "{}", ReplyText(&Reply::Refused(Refusal::NoMemory))),
-    }
-    .map_err(RunFault::writing)
 }
 
 /// A script that is being run. A request that met want of memory leaves no record, so the newest
@@ -159,15 +149,13 @@ impl ScriptRun {
         Some(self.drive.step(moment, caller, request))
     }
 
-    /// How many records went by a cut at the moment, or that memory was refused to it, which leaves
-    /// the drive uncut. None where the moment is above the horizon.
-    fn cut(&mut self, moment: Moment) -> Option<Result<u64, NoMemory>>
+    /// How many records went by a cut at the moment. None where the moment is above the horizon.
+    fn cut(&mut self, moment: Moment) -> Option<u64>
         ensures above { IsNone result ↔ (horizon_in self.old.drive < moment) }
         ensures unchanged { IsNone result → self.new ≡ self.old }
-        ensures cut { IfSome result (λ went. OnOk went (IsCut moment self.old.drive self.new.drive)) }
-        ensures went { IfSome result (λ went. IfOk went
-            (λ count. count ≡ length (before moment self.old.drive.history))) }
-        ensures err { IfSome result (λ went. OnErr went (self.new.drive ≡ self.old.drive)) }
+        ensures cut { IfSome result (λ went. self.new.drive ≡ cut_log moment self.old.drive) }
+        ensures went { IfSome result (λ went. length (gone_of self.old.drive) + went
+            ≡ length (gone_of self.new.drive)) }
         ensures moment { self.new.moment ≡ self.old.moment }
         ensures version { self.new.version ≡ self.old.version }
     {

@@ -36,7 +36,7 @@ stands_fresh hall fresh = record {
   sessions = λ c. ap (session_of c) fresh.no_sessions;
   each = refl;
   bodies = refl;
-  log = λ i. record { opened = hall.log.opened; base = fresh.base_is i; history = fresh.no_records i; held = fresh.nothing_held i; ready = fresh.not_ready i };
+  log = λ i. record { opened = hall.log.opened; cut = fresh.none_went i; history = fresh.no_records i; held = fresh.nothing_held i; ready = fresh.not_ready i };
   told = ap replies_in fresh.no_records;
 }
 

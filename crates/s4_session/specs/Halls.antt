@@ -5,7 +5,6 @@ use Rattle.std.specs.Ordering.{is_eq, nat_cmp}
 use Rattle.s4_types.specs.declared.readiness.Readiness.TheVariants.{ForNone}
 use Rattle.s4_types.specs.declared.reply.Reply.{Reply}
 use Rattle.s4_types.specs.Base.{opened}
-use Rattle.s4_types.specs.Lists.{fresh_lists}
 use Rattle.s4_types.specs.Play.{replies as replies_in, carried_out, without_no_memory, request_count}
 use Rattle.s4_types.specs.Log.{Log, fresh_log, steps_on}
 use Rattle.s4_codec.specs.Fits.{fit}
@@ -52,10 +51,10 @@ pub record Hall : Type 0 where
   pub last : ℕ
   pub failed : Bool
 
--- Nothing came yet, no request was answered, nothing is held, the drive is made ready for no request, and no growth was refused.
+-- Nothing came yet, no request was answered, no record went, nothing is held, the drive is made ready for no request, and no growth was refused.
 pub record IsFresh (hall : Hall) : Type 0 where
-  pub base_is : hall.log.base ≡ fresh_lists hall.log.opened
   pub no_records : hall.log.history ≡ []
+  pub none_went : hall.log.cut ≡ 0
   pub nothing_held : hall.log.held ≡ 0
   pub not_ready : hall.log.ready ≡ ForNone
   pub no_sessions : hall.sessions ≡ []
