@@ -65,7 +65,7 @@ pub fn check(alloc: Global, cells: &mut [Cell], lines: &[Line]) -> Result<(), Fa
                 None => return Err("a cell".into()),
             },
             Line::Wide(moment, what, count) => check_wide(alloc, cells, *moment, what, *count)?,
-            Line::Cut(moment, gone, at) => check_cut(alloc, cells, *moment, *gone, *at)?,
+            Line::Cut(moment, gone, at) => check_cut(cells, *moment, *gone, *at)?,
         }
     }
     Ok(())
@@ -85,8 +85,12 @@ fn check_act(alloc: Global, cell: &mut Cell, act: &Act) -> Result<(), Fail> {
         Act::Left(cut, gone, count, first) => {
             same("how many went", &cell.gone(), gone)?;
             same("the cut", &cell.cut_at(), &Moment::new(*cut))?;
-            same("the window left", &cell.base_window(), &10)?;
-            same("the floor left", &cell.base_floor(), &Moment::new(0))?;
+            same("the window left", &cell.window_left().ticks(), &10)?;
+            same(
+                "the floor left",
+                &cell.window_left().floor(),
+                &Moment::new(0),
+            )?;
             same("how many are left", &cell.history().len(), count)?;
             let oldest = cell.history().front().ok_or("a record")?;
             same("the oldest", &oldest.moment, &Moment::new(*first))
@@ -204,23 +208,13 @@ fn check_counts(cells: &[Cell], count: usize) -> Result<(), Fail> {
 }
 
 // That all cells, which so many records went of, are cut at that moment.
-fn check_cut(
-    alloc: Global,
-    cells: &mut [Cell],
-    moment: u64,
-    gone: u64,
-    at: u64,
-) -> Result<(), Fail> {
-    for _ in 0..2u8 {
-        if cells.is_empty() {
-            return Err("a cell".into());
-        }
-        if let Ok(found) = cut_all(alloc, cells, Moment::new(moment)) {
-            return same("the cut", &found, &Moment::new(at));
-        }
-        for cell in &*cells {
-            same("how many went without memory", &cell.gone(), &gone)?;
-        }
+fn check_cut(cells: &mut [Cell], moment: u64, gone: u64, at: u64) -> Result<(), Fail> {
+    if cells.is_empty() {
+        return Err("a cell".into());
     }
-    Err("no memory".into())
+    for cell in &*cells {
+        same("how many went before", &cell.gone(), &gone)?;
+    }
+    let found = cut_all(cells, Moment::new(moment));
+    same("the cut", &found, &Moment::new(at))
 }

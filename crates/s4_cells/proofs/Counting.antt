@@ -2,7 +2,6 @@
 use Rattle.std.proofs.Common.{◌≡◌, ◌+◌, List, [], ◌∷◌, length, ◌∙◌, ap, get_or, arith}
 use Rattle.std.proofs.lemmas.List.{length-append}
 use Rattle.s4_types.specs.declared.record.Record.{Record}
-use Rattle.s4_types.specs.Lists.{Lists}
 use Rattle.s4_types.specs.Log.{Log, with_record}
 use Rattle.s4_cells.specs.Counts.{count_of}
 use Rattle.s4_cells.specs.Many.{AllAdd, AllStay, EachNow}
@@ -16,7 +15,6 @@ counts_more r old ready new stay all = record {
   count = all.count ∙ stay.count;
   each = λ k none lt.
       let more = ap count_of (all.each k none (omega (arith, lt, stay.count))) ∙ count_more (get_or ready k none) r in
-      let base = ap (λ (base : Lists). base.count) (stay.each k none).base in
       let history = ap (λ (h : List Record). length h) (stay.each k none).history in
-      omega (arith, more, base, history);
+      omega (arith, more, history);
 }

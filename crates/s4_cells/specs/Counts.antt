@@ -1,7 +1,7 @@
 -- How many records a cell ever had.
-use Rattle.std.specs.Prelude.{ℕ, ◌+◌, length}
+use Rattle.std.specs.Prelude.{ℕ, length}
 use Rattle.s4_types.specs.Log.{Log}
 
--- those that went, and those that are left
+-- those that went are among them
 abbrev pub count_of : Log → ℕ
-count_of log = log.base.count + length log.history
+count_of log = length log.history

@@ -4,11 +4,9 @@ use Rattle.s4_types.specs.declared.principal.Caller.{Caller}
 use Rattle.s4_types.specs.declared.record.Record.{Record}
 use Rattle.s4_types.specs.declared.request.Request.{Request}
 use Rattle.s4_types.specs.Base.{opened}
-use Rattle.s4_types.specs.Lists.{Lists, base_of_lists}
 use Rattle.s4_types.specs.Play.{record_of, last_of}
 use Rattle.s4_types.specs.Log.{Log, base_of, horizon_in, is_ready_for, with_record}
-use Rattle.s4_cuts.specs.Cut.{base_at}
-use Rattle.s4_state.specs.CutLog.{IsCut}
+use Rattle.s4_cuts.specs.CutLog.{cut_log}
 use Rattle.s4_drive.specs.Alike.{AnswersAlike}
 use Rattle.s4_cells.specs.Counts.{count_of}
 
@@ -32,7 +30,7 @@ pub record AllAdd (r : Record) (old new : List Log) : Type 0 where
 -- a log as it was, but for what it is made ready for
 pub record Stays (old new : Log) : Type 0 where
   pub opened : new.opened ≡ old.opened
-  pub base : new.base ≡ old.base
+  pub cut : new.cut ≡ old.cut
   pub history : new.history ≡ old.history
   pub held : new.held ≡ old.held
 
@@ -65,7 +63,7 @@ pub record EachNow (P : Log → Log → Type 0) (old new : List Log) : Type 0 wh
 
 -- a cell is cut at the moment, and goes on as it would have
 pub record IsCutAlike (moment : ℕ) (old new : Log) : Type 0 where
-  pub cut : IsCut moment old new
+  pub cut : new ≡ cut_log moment old
   pub replies : AnswersAlike old new
   pub last : last_of new.history ≡ last_of old.history
   pub horizon : horizon_in new ≡ horizon_in old
@@ -76,8 +74,3 @@ pub record CutFrom (moment i : ℕ) (old new : List Log) : Type 0 where
   pub count : length new ≡ length old
   pub others : (k : ℕ) (none : Log) → k < i → slice_index_or new k none ≡ slice_index_or old k none
   pub cut : (k : ℕ) (none : Log) → i ≤ k → k < length old → IsCutAlike moment (slice_index_or old k none) (slice_index_or new k none)
-
--- the bases are what the records before the moment leave in the cells, as far as there are bases
-abbrev pub AreLeft : ℕ → List Log → List Lists → Type 0
-AreLeft moment cells bases = (k : ℕ) (none : Log) (nought : Lists) → k < length bases
-    → base_of_lists (slice_index_or bases k nought) ≡ base_at (base_of (slice_index_or cells k none)) (slice_index_or cells k none).history moment
