@@ -8,6 +8,7 @@ use Rattle.std.proofs.lemmas.List.{append-nil, take_all, take_more, get_or-set_s
 use Rattle.s4_types.specs.Log.{Log}
 use Rattle.s4_types.specs.Audit.{is_wide_record}
 use Rattle.s4_types.specs.Kinds.{range_of}
+use Rattle.s4_cuts.specs.CutLog.{left_of}
 use Rattle.s4_passes.specs.Calls.{Call, CallList, call_of, calls_of}
 use Rattle.s4_passes.specs.declared.call.Asked.{Asked}
 use Rattle.s4_passes.specs.declared.call.Receipt.{Receipt}
@@ -66,9 +67,9 @@ left_by first place p e = omega (arith, e)
 
 -- a call's record is claimed
 pub claim_one : (n : ℕ) (cell : Log) (k : ℕ) (before : List Call) (claimed : List Bool) (c : Call) (q : ℕ) → Claimed n cell k before claimed → home n (record_of c) ≡ k → c.receipt.cell ≡ k → c.receipt.place ≡ gone cell + q
-    → slice_get cell.history q ≡ Some (record_of c) → get_or claimed q false ≡ false → Claimed n cell k (before ++ c ∷ []) (set claimed q true)
+    → slice_get (left_of cell) q ≡ Some (record_of c) → get_or claimed q false ≡ false → Claimed n cell k (before ++ c ∷ []) (set claimed q true)
 claim_one n cell k before claimed c q is at named place found free =
-    let q-lt : q < length cell.history = slice_get_within cell.history q (record_of c) found in
+    let q-lt : q < length (left_of cell) = slice_get_within (left_of cell) q (record_of c) found in
     let q-in : q < length claimed = omega (arith, is.count, q-lt) in
     let more : (p : ℕ) → times n k (gone cell + p) (before ++ c ∷ []) ≡ times n k (gone cell + p) before + names n k (gone cell + p) c = λ p. omega (arith, times-append n k (gone cell + p) before (c ∷ [])) in
     let here : get_or (set claimed q true) q false ≡ true = get_or-set_same claimed q true false q-in in
@@ -76,7 +77,7 @@ claim_one n cell k before claimed c q is at named place found free =
     let apart : (p : ℕ) → p ≢ q → times n k (gone cell + p) (before ++ c ∷ []) ≡ times n k (gone cell + p) before = λ p ne. omega (arith, more p, names_other n k (gone cell + p) c (λ x. ne (omega (arith, x, place)))) in
     record {
       count = length-set claimed q true ∙ is.count;
-      suit = suit-append n cell k before c is.suit (λ _. (named, λ _. ap (λ (p : ℕ). slice_get cell.history p) (left_by (gone cell) c.receipt.place q place) ∙ found));
+      suit = suit-append n cell k before c is.suit (λ _. (named, λ _. ap (λ (p : ℕ). slice_get (left_of cell) p) (left_by (gone cell) c.receipt.place q place) ∙ found));
       yes = λ p l b. ⊎_elim
           (λ (x : (eqb p q ≡ true) × (p ≡ q)). rw x.1 (omega (arith, more q, names_here n k (gone cell + q) c at place, is.no q q-lt free)))
           (λ (x : (eqb p q ≡ false) × (p ≢ q)). apart p x.1 ∙ is.yes p l (sym (there p x.1) ∙ b))
@@ -92,10 +93,10 @@ pub misnamed : (n : ℕ) (cell : Log) (k : ℕ) (before : List Call) (c : Call) 
 misnamed n cell k before c rest at miss m = miss ((suit_in n cell k before c rest m.suit at).0)
 
 -- a call whose record isn't there
-pub unsuited : (n : ℕ) (cell : Log) (k : ℕ) (before : List Call) (c : Call) (q : ℕ) (rest : List Call) → home n (record_of c) ≡ k → c.receipt.place ≡ gone cell + q → slice_get cell.history q ≢ Some (record_of c)
+pub unsuited : (n : ℕ) (cell : Log) (k : ℕ) (before : List Call) (c : Call) (q : ℕ) (rest : List Call) → home n (record_of c) ≡ k → c.receipt.place ≡ gone cell + q → slice_get (left_of cell) q ≢ Some (record_of c)
     → ¬ Matches n cell k (before ++ c ∷ rest)
 unsuited n cell k before c q rest at place miss m =
-    miss (ap (λ (p : ℕ). slice_get cell.history p) (sym (left_by (gone cell) c.receipt.place q place)) ∙ (suit_in n cell k before c rest m.suit at).1 (omega (arith, place)))
+    miss (ap (λ (p : ℕ). slice_get (left_of cell) p) (sym (left_by (gone cell) c.receipt.place q place)) ∙ (suit_in n cell k before c rest m.suit at).1 (omega (arith, place)))
 
 counts_placed : (m k : ℕ) (w : Bool) → cond w 0 m ≡ k → cond w (k == 0) true ≡ true
 counts_placed m k true at = eq-eqb k 0 (sym at)
@@ -103,26 +104,26 @@ counts_placed m k false at = refl
 
 -- a call whose record another call has
 pub twice : (n : ℕ) (cell : Log) (k : ℕ) (before : List Call) (claimed : List Bool) (c : Call) (q : ℕ) (rest : List Call) → Claimed n cell k before claimed → home n (record_of c) ≡ k → c.receipt.place ≡ gone cell + q
-    → slice_get cell.history q ≡ Some (record_of c) → get_or claimed q false ≡ true → ¬ Matches n cell k (before ++ c ∷ rest)
+    → slice_get (left_of cell) q ≡ Some (record_of c) → get_or claimed q false ≡ true → ¬ Matches n cell k (before ++ c ∷ rest)
 twice n cell k before claimed c q rest is at place found taken m =
     let one = m.once q (record_of c) found (counts_placed (range_of c.asked.caller c.asked.request % n) k (is_wide_record (record_of c)) at) in
-    let was = is.yes q (slice_get_within cell.history q (record_of c) found) taken in
+    let was = is.yes q (slice_get_within (left_of cell) q (record_of c) found) taken in
     absurd (omega (arith, one, was, names_here n k (gone cell + q) c at place, times-append n k (gone cell + q) before (c ∷ rest)))
 
 -- at the end
-pub all_match : (n : ℕ) (cell : Log) (k : ℕ) (cs : List Call) (claimed : List Bool) → Claimed n cell k cs claimed → AllClaimed (length cell.history) cell.history k claimed → Matches n cell k cs
+pub all_match : (n : ℕ) (cell : Log) (k : ℕ) (cs : List Call) (claimed : List Bool) → Claimed n cell k cs claimed → AllClaimed (length (left_of cell)) (left_of cell) k claimed → Matches n cell k cs
 all_match n cell k cs claimed is all = record {
   suit = is.suit;
-  once = λ p r e c. let l = slice_get_within cell.history p r e in is.yes p l (all p r l e c);
+  once = λ p r e c. let l = slice_get_within (left_of cell) p r e in is.yes p l (all p r l e c);
 }
 
-pub one_missing : (n : ℕ) (cell : Log) (k : ℕ) (cs : List Call) (claimed : List Bool) → Claimed n cell k cs claimed → OneUnclaimed cell.history k claimed → ¬ Matches n cell k cs
+pub one_missing : (n : ℕ) (cell : Log) (k : ℕ) (cs : List Call) (claimed : List Bool) → Claimed n cell k cs claimed → OneUnclaimed (left_of cell) k claimed → ¬ Matches n cell k cs
 one_missing n cell k cs claimed is one m =
-    let none = is.no one.0 (slice_get_within cell.history one.0 one.1 one.2) one.4 in
+    let none = is.no one.0 (slice_get_within (left_of cell) one.0 one.1 one.2) one.4 in
     let some = m.once one.0 one.1 one.2 one.3 in
     absurd (omega (arith, none, some))
 
-pub none_yet : (n : ℕ) (cell : Log) (k : ℕ) (claimed : List Bool) → length claimed ≡ length cell.history → NoneClaimed claimed → Claimed n cell k [] claimed
+pub none_yet : (n : ℕ) (cell : Log) (k : ℕ) (claimed : List Bool) → length claimed ≡ length (left_of cell) → NoneClaimed claimed → Claimed n cell k [] claimed
 none_yet n cell k claimed count none = record {
   count = count;
   suit = tt;
@@ -165,7 +166,7 @@ pub all_calls-next : (ps : List CallList) (p : ℕ) (x : CallList) → slice_get
 all_calls-next ps p x e = ap all_calls (next_in ps p x e) ∙ all_calls-append (take p ps) x
 
 -- all passes were claimed, and it was looked whether all records were
-pub ends : (n : ℕ) (cell : Log) (k : ℕ) (ps : List CallList) (p : ℕ) (claimed : List Bool) (b : Bool) → Claimed n cell k (all_calls (take p ps)) claimed → length ps ≤ p → MatchBool b (AllClaimed (length cell.history) cell.history k claimed) (OneUnclaimed cell.history k claimed)
+pub ends : (n : ℕ) (cell : Log) (k : ℕ) (ps : List CallList) (p : ℕ) (claimed : List Bool) (b : Bool) → Claimed n cell k (all_calls (take p ps)) claimed → length ps ≤ p → MatchBool b (AllClaimed (length (left_of cell)) (left_of cell) k claimed) (OneUnclaimed (left_of cell) k claimed)
     → MatchBool b (Matches n cell k (all_calls ps)) (¬ Matches n cell k (all_calls ps))
 ends n cell k ps p claimed true is past all = all_match n cell k (all_calls ps) claimed (subst (λ l. Claimed n cell k (all_calls l) claimed) (take_all p ps past) is) all
 ends n cell k ps p claimed false is past one = one_missing n cell k (all_calls ps) claimed (subst (λ l. Claimed n cell k (all_calls l) claimed) (take_all p ps past) is) one

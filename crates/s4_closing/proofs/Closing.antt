@@ -9,6 +9,7 @@ use Rattle.s4_types.specs.Kinds.{range_of}
 use Rattle.s4_types.specs.Play.{InOrder}
 use Rattle.s4_types.proofs.InTime.{order-between}
 use Rattle.s4_types.specs.Log.{Log}
+use Rattle.s4_cuts.specs.CutLog.{left_of}
 use Rattle.s4_passes.specs.Calls.{Call, CallList}
 use Rattle.s4_closing.specs.Merged.{IsMergeOf, AreHome, no_state}
 use Rattle.s4_merge_laws.specs.Cells.{is_in_cell, records_in}
@@ -31,13 +32,13 @@ abbrev Named : ℕ → List Record → ℕ → ℕ → Type 0
 Named n h k p = (c : Call) × (home n (record_of c) ≡ k) × (slice_get h p ≡ Some (record_of c))
 
 -- where a place is named, a call has the record there
-named : (n : ℕ) (cell : Log) (k p : ℕ) (cs : List Call) → AllSuit n cell k cs → 0 < times n k (gone cell + p) cs → Named n cell.history k p
+named : (n : ℕ) (cell : Log) (k p : ℕ) (cs : List Call) → AllSuit n cell k cs → 0 < times n k (gone cell + p) cs → Named n (left_of cell) k p
 named n cell k p [] all some = absurd (omega arith)
 named n cell k p (c ∷ cs) all some =
     let q : ℕ = gone cell + p in ⊎_elim
     (λ (x : (eqb (home n (record_of c)) k ≡ true) × (home n (record_of c) ≡ k)). ⊎_elim
     (λ (y : (eqb c.receipt.place q ≡ true) × (c.receipt.place ≡ q)).
-    (c, x.1, ap (λ (m : ℕ). slice_get cell.history m) (sym (left_by (gone cell) c.receipt.place p y.1)) ∙ (all.0 x.1).1 (omega (arith, y.1))))
+    (c, x.1, ap (λ (m : ℕ). slice_get (left_of cell) m) (sym (left_by (gone cell) c.receipt.place p y.1)) ∙ (all.0 x.1).1 (omega (arith, y.1))))
     (λ (y : (eqb c.receipt.place q ≡ false) × (c.receipt.place ≢ q)). let none = names_other n k q c y.1 in named n cell k p cs all.1 (omega arith))
     (eqb_tells c.receipt.place q))
     (λ (x : (eqb (home n (record_of c)) k ≡ false) × (home n (record_of c) ≢ k)). let none = names_elsewhere n k q c x.1 in named n cell k p cs all.1 (omega arith))
@@ -47,7 +48,7 @@ home_narrow : (m k : ℕ) (w : Bool) → w ≡ false → cond w 0 m ≡ k → m 
 home_narrow m k true e at = cc
 home_narrow m k false e at = at
 
-record_concerns : (n : ℕ) (cell : Log) (k p : ℕ) (cs : List Call) (r : Record) → Matches n cell k cs → slice_get cell.history p ≡ Some r → is_in_cell n k r ≡ true
+record_concerns : (n : ℕ) (cell : Log) (k p : ℕ) (cs : List Call) (r : Record) → Matches n cell k cs → slice_get (left_of cell) p ≡ Some r → is_in_cell n k r ≡ true
 record_concerns n cell k p cs r m e = bool_case (is_in_cell n k r ≡ true) (is_wide_record r)
     (λ w. rw w refl)
     (λ w. let once = m.once p r e (rw w refl) in
@@ -62,7 +63,7 @@ only_all n k [] f = refl
 only_all n k (x ∷ h) f = ap (λ b. cond b (x ∷ records_in n k h) (records_in n k h)) (f 0 x refl) ∙ ap (λ l. x ∷ l) (only_all n k h (λ p r e. f (suc p) r e))
 
 pub are_home : (cells : List Log) (ps : List CallList) → AllMatch cells ps → AreHome cells
-are_home cells ps all k d lt = only_all (length cells) k (get_or cells k d).history (λ p r e. record_concerns (length cells) (get_or cells k d) k p (all_calls ps) r (all k d lt) e)
+are_home cells ps all k d lt = only_all (length cells) k (left_of (get_or cells k d)) (λ p r e. record_concerns (length cells) (get_or cells k d) k p (all_calls ps) r (all k d lt) e)
 
 suit_at : (n : ℕ) (cell : Log) (k i : ℕ) (cs : List Call) (c : Call) → AllSuit n cell k cs → slice_get cs i ≡ Some c → Suits n cell k c
 suit_at n cell k i [] c all e = cc
@@ -93,7 +94,7 @@ home_in n c some = home_lt n (range_of c.asked.caller c.asked.request % n) (is_w
 
 -- the record of a call in its cell
 pub record_in : (cells : List Log) (ps : List CallList) (i : ℕ) (c : Call) → AllMatch cells ps → 0 < length cells → slice_get (all_calls ps) i ≡ Some c → is_left cells c ≡ true
-    → slice_get (get_or cells (home (length cells) (record_of c)) no_state).history (place_left cells c) ≡ Some (record_of c)
+    → slice_get (left_of (get_or cells (home (length cells) (record_of c)) no_state)) (place_left cells c) ≡ Some (record_of c)
 record_in cells ps i c all some e left =
     let n = length cells in
     let k = home n (record_of c) in

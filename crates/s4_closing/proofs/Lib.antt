@@ -1,4 +1,5 @@
 pub mod Steps
+pub mod Left
 pub mod Coming
 pub mod Ascending
 pub mod Claiming

@@ -6,6 +6,7 @@ use Rattle.s4_types.specs.declared.record.Record.{Record}
 use Rattle.s4_types.specs.Audit.{is_wide_record}
 use Rattle.s4_types.specs.Kinds.{range_of}
 use Rattle.s4_types.specs.Log.{Log}
+use Rattle.s4_cuts.specs.CutLog.{left_of}
 use Rattle.s4_passes.specs.Calls.{Call, CallList}
 use Rattle.s4_closing.specs.Merged.{wide_records, IsMergeOf, no_state}
 use Rattle.s4_merge_laws.specs.Cells.{is_in_cell, records_in}
@@ -115,8 +116,8 @@ rank_same cells xs ys c k mx my some lt sx sy t =
     let p = position cells xs c in
     let q = position cells ys c in
     let o = home n (record_of c) in
-    let h = (get_or cells k no_state).history in
-    let g = (get_or cells o no_state).history in
+    let h = left_of (get_or cells k no_state) in
+    let g = left_of (get_or cells o no_state) in
     bool_case (rank n k xs p ≡ rank n k ys q) (is_wide_record (record_of c))
     (λ w. let a = rank_get n k xs p (record_of c) sx.is t in
     let b = rank_get n k ys q (record_of c) sy.is t in

@@ -9,8 +9,9 @@ use Rattle.s4_types.specs.Play.{InOrder}
 use Rattle.s4_types.specs.Log.{Log, horizon_in}
 use Rattle.s4_types.proofs.Booleans.{by_test}
 use Rattle.s4_types.proofs.InTime.{order-at}
+use Rattle.s4_cuts.specs.CutLog.{left_of}
 use Rattle.s4_cells.specs.Many.{least_horizon}
-use Rattle.s4_cells.proofs.Whole.{order_whole}
+use Rattle.s4_closing.proofs.Left.{order_left}
 use Rattle.s4_counts.specs.Books.{BookState}
 use Rattle.s4_counts.specs.Claims.{is_claimed}
 use Rattle.s4_closing.specs.Claims.{gone}
@@ -50,14 +51,14 @@ unclaimed_most m book place (x ∷ h) =
 pub least_most : (m : ℕ) (cells : List Log) (books : List BookState) → least_unclaimed m cells books ≤ m
 least_most m [] books = omega arith
 least_most m (c ∷ cells) [] = omega arith
-least_most m (c ∷ cells) (b ∷ books) = omega (arith, least_most (unclaimed m c b) cells books, unclaimed_most m b (gone c) c.history)
+least_most m (c ∷ cells) (b ∷ books) = omega (arith, least_most (unclaimed m c b) cells books, unclaimed_most m b (gone c) (left_of c))
 
 least_low : (m : ℕ) (cells : List Log) (books : List BookState) (k p : ℕ) (none : Log) (nought : BookState) (r : Record) → length books ≡ length cells → HaveCome cells → k < length cells
-    → slice_get (get_or cells k none).history p ≡ Some r → lacks_claim (get_or books k nought) (gone (get_or cells k none) + p) r ≡ true → least_unclaimed m cells books ≤ r.moment
+    → slice_get (left_of (get_or cells k none)) p ≡ Some r → lacks_claim (get_or books k nought) (gone (get_or cells k none) + p) r ≡ true → least_unclaimed m cells books ≤ r.moment
 least_low m [] books k p none nought r even came lt at lacks = absurd (omega (arith, lt))
 least_low m (c ∷ cells) [] k p none nought r even came lt at lacks = absurd (omega (arith, even))
 least_low m (c ∷ cells) (b ∷ books) zero p none nought r even came lt at lacks =
-    let low = unclaimed_low m b (gone c) 0 c.history p r (order_whole c (came 0 none (omega arith))) at lacks in
+    let low = unclaimed_low m b (gone c) 0 (left_of c) p r (order_left c (came 0 none (omega arith))) at lacks in
     omega (arith, low, least_most (unclaimed m c b) cells books)
 least_low m (c ∷ cells) (b ∷ books) (suc k) p none nought r even came lt at lacks =
     least_low (unclaimed m c b) cells books k p none nought r (omega (arith, even)) (λ j d i. came (suc j) d (omega (arith, i))) (omega (arith, lt)) at lacks

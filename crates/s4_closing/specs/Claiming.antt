@@ -2,6 +2,7 @@
 use Rattle.std.specs.Prelude.{◌≡◌, ℕ, ◌+◌, ◌-◌, ◌<◌, ◌≤◌, ◌==◌, ◌&&◌, ◌||◌, not, nat_lt, min, Bool, false, cond, Option, Some, List, [], ◌∷◌, length, slice_get, slice_index_or}
 use Rattle.s4_types.specs.declared.record.Record.{Record}
 use Rattle.s4_types.specs.Log.{Log}
+use Rattle.s4_cuts.specs.CutLog.{left_of}
 use Rattle.s4_counts.specs.Books.{BookState}
 use Rattle.s4_counts.specs.Claims.{is_claimed}
 use Rattle.s4_passes.specs.Calls.{Call, CallList}
@@ -13,7 +14,7 @@ pub record HasRecord (n : ℕ) (cell : Log) (k : ℕ) (c : Call) : Type 0 where
   pub home_is : home n (record_of c) ≡ k
   pub cell_is : c.receipt.cell ≡ k
   pub left : gone cell ≤ c.receipt.place
-  pub there : slice_get cell.history (c.receipt.place - gone cell) ≡ Some (record_of c)
+  pub there : slice_get (left_of cell) (c.receipt.place - gone cell) ≡ Some (record_of c)
 
 -- the first call of the pass that hasn't claimed its record
 abbrev pub next_call : CallList → Option Call
@@ -52,7 +53,7 @@ unclaimed_from moment book place (r ∷ rs) = cond (lacks_claim book place r) (m
 
 -- the least of the moment and that of the cell's oldest record that lacks its claim
 abbrev pub unclaimed : ℕ → Log → BookState → ℕ
-unclaimed moment cell book = unclaimed_from moment book (gone cell) cell.history
+unclaimed moment cell book = unclaimed_from moment book (gone cell) (left_of cell)
 
 -- the least of the moment and those of the oldest records that lack their claims
 abbrev pub least_unclaimed : ℕ → List Log → List BookState → ℕ
@@ -63,7 +64,7 @@ least_unclaimed moment (cell ∷ cells) (book ∷ books) = least_unclaimed (uncl
 -- each record before the moment that has to be claimed is
 abbrev pub AreClaimed : ℕ → List Log → List BookState → Type 0
 AreClaimed moment cells books = (k p : ℕ) (none : Log) (nought : BookState) (r : Record) → k < length cells
-    → slice_get (slice_index_or cells k none).history p ≡ Some r → r.moment < moment
+    → slice_get (left_of (slice_index_or cells k none)) p ≡ Some r → r.moment < moment
     → lacks_claim (slice_index_or books k nought) (gone (slice_index_or cells k none) + p) r ≡ false
 
 -- the books are as they were, but that it isn't asked for claims of the records that went any more

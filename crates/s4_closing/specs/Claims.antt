@@ -6,6 +6,7 @@ use Rattle.s4_types.specs.declared.request.Request.{Request}
 use Rattle.s4_types.specs.Audit.{is_wide_record}
 use Rattle.s4_types.specs.Kinds.{is_wide, range_of}
 use Rattle.s4_types.specs.Log.{Log}
+use Rattle.s4_cuts.specs.CutLog.{left_of, base_left}
 use Rattle.s4_passes.specs.Calls.{Call, CallList}
 
 -- the record that a call's receipt speaks of
@@ -21,11 +22,11 @@ home n r = home_of n r.caller r.request
 
 -- how many records of the cell went
 abbrev pub gone : Log → ℕ
-gone cell = cell.base.count
+gone cell = (base_left cell).count
 
 -- the record of the place went, or it is this one
 abbrev pub WentOrIs : Log → ℕ → Record → Type 0
-WentOrIs cell place r = gone cell ≤ place → slice_get cell.history (place - gone cell) ≡ Some r
+WentOrIs cell place r = gone cell ≤ place → slice_get (left_of cell) (place - gone cell) ≡ Some r
 
 -- where the k-th of n cells is a call's, its receipt names it, and the record at the place that the receipt names went or is the call's
 abbrev pub Suits : ℕ → Log → ℕ → Call → Type 0
@@ -51,14 +52,14 @@ counts k r = cond (is_wide_record r) (k == 0) true
 -- each call of this cell has its record, unless that went, and each record that is left is in just one receipt
 pub record Matches (n : ℕ) (cell : Log) (k : ℕ) (cs : List Call) : Type 0 where
   pub suit : AllSuit n cell k cs
-  pub once : (p : ℕ) (r : Record) → slice_get cell.history p ≡ Some r → counts k r ≡ true → times n k (gone cell + p) cs ≡ 1
+  pub once : (p : ℕ) (r : Record) → slice_get (left_of cell) p ≡ Some r → counts k r ≡ true → times n k (gone cell + p) cs ≡ 1
 
 -- what was claimed, of the calls so far
 pub record Claimed (n : ℕ) (cell : Log) (k : ℕ) (cs : List Call) (claimed : List Bool) : Type 0 where
-  pub count : length claimed ≡ length cell.history
+  pub count : length claimed ≡ length (left_of cell)
   pub suit : AllSuit n cell k cs
-  pub yes : (p : ℕ) → p < length cell.history → slice_index_or claimed p false ≡ true → times n k (gone cell + p) cs ≡ 1
-  pub no : (p : ℕ) → p < length cell.history → slice_index_or claimed p false ≡ false → times n k (gone cell + p) cs ≡ 0
+  pub yes : (p : ℕ) → p < length (left_of cell) → slice_index_or claimed p false ≡ true → times n k (gone cell + p) cs ≡ 1
+  pub no : (p : ℕ) → p < length (left_of cell) → slice_index_or claimed p false ≡ false → times n k (gone cell + p) cs ≡ 0
 
 abbrev pub AllClaimed : ℕ → List Record → ℕ → List Bool → Type 0
 AllClaimed m h k claimed = (p : ℕ) (r : Record) → p < m → slice_get h p ≡ Some r → counts k r ≡ true → slice_index_or claimed p false ≡ true

@@ -1,9 +1,9 @@
 //! A cut of cells whose calls have claimed the records that go.
 
-ghost use Rattle.std.specs.Prelude.{◌≡◌, ◌+◌, ◌<◌, length, IfOk, OnErr};
+ghost use Rattle.std.specs.Prelude.{◌≡◌, ◌<◌, length};
 ghost use Rattle.s4_types.specs.Play.{last_of};
 ghost use Rattle.s4_types.specs.Log.{horizon_in};
-ghost use Rattle.s4_state.specs.CutLog.{IsCut};
+ghost use Rattle.s4_cuts.specs.CutLog.{cut_log};
 ghost use Rattle.s4_drive.specs.Alike.{AnswersAlike};
 ghost use Rattle.s4_cells.specs.Counts.{count_of};
 ghost use Rattle.s4_cells.specs.Many.{EachNow, least_horizon};
@@ -12,38 +12,30 @@ ghost use Rattle.s4_closing.specs.Claiming.{AllForget, AreClaimed, lacks_claim, 
 use crate::merge::all_came;
 use s4_cells::{Cell, cut_all};
 use s4_counts::{Book, Names};
-use s4_types::{Moment, NoMemory, Record};
-use std::alloc::Global;
+use s4_types::{Moment, Record};
 
 /// Cuts all cells, whose books these are, at the least of the moment, of the cells' horizons, and of
 /// the moments of the oldest records that lack their claims, and gives that moment. So each record
 /// that goes was claimed by its call, a wide one in the first cell. Each cell goes on as the uncut one
-/// would. Where a growth was refused it answers `NoMemory`, and nothing has changed.
-pub fn cut_claimed<N: Names>(
-    alloc: Global,
-    cells: &mut [Cell],
-    books: &mut [Book<N>],
-    moment: Moment,
-) -> Result<Moment, NoMemory>
+/// would. It takes no memory.
+pub fn cut_claimed<N: Names>(cells: &mut [Cell], books: &mut [Book<N>], moment: Moment) -> Moment
     requires some { 0 < length cells.old }
     requires even { length books.old ≡ length cells.old }
-    ensures least { IfOk result (λ at.
-        at ≡ least_horizon (least_unclaimed moment cells.old books.old) cells.old) }
-    ensures claimed { IfOk result (λ at. AreClaimed at cells.old books.old) }
-    ensures cut { IfOk result (λ at. EachNow (IsCut at) cells.old cells.new) }
+    ensures least { result ≡ least_horizon (least_unclaimed moment cells.old books.old) cells.old }
+    ensures claimed { AreClaimed result cells.old books.old }
+    ensures cut { EachNow (λ old new. new ≡ cut_log result old) cells.old cells.new }
     ensures replies { EachNow AnswersAlike cells.old cells.new }
     ensures last { EachNow (λ old new. last_of new.history ≡ last_of old.history)
         cells.old cells.new }
     ensures horizon { EachNow (λ old new. horizon_in new ≡ horizon_in old) cells.old cells.new }
     ensures counts { EachNow (λ old new. count_of new ≡ count_of old) cells.old cells.new }
     ensures books { AllForget cells.new books.old books.new }
-    ensures err { OnErr result (cells.new ≡ cells.old) }
 {
     all_came(cells);
     let bound = bound_by_claims(cells, books, moment);
-    let cut = cut_all(alloc, cells, bound);
+    let at = cut_all(cells, bound);
     forget_claims(cells, books);
-    cut
+    at
 }
 
 /// The least of the moment and those of the oldest records that lack their claims.

@@ -1,6 +1,7 @@
 //! Which record each call has.
 
 ghost use Rattle.std.specs.Prelude.{◌≡◌, ◌<◌, ◌++◌, ◌∷◌, [], List, length, IsTrue, ◌↔◌, IfOk, MatchBool, Some, slice_get};
+ghost use Rattle.s4_cuts.specs.CutLog.{left_of};
 ghost use Rattle.s4_passes.specs.Calls.{Call, call_of};
 ghost use Rattle.s4_closing.specs.Claims.{Matches, Claimed, record_of, all_calls, AllMatch, AllClaimed, OneUnclaimed, NoneClaimed};
 
@@ -8,9 +9,9 @@ use crate::home::{home_of, left_at};
 use s4_cells::Cell;
 use s4_counts::Names;
 use s4_passes::{Asked, Pass, Receipt};
+use s4_queue::Queue;
 use s4_types::{NoMemory, Record};
 use std::alloc::Global;
-use std::collections::VecDeque;
 
 /// Whether the record is that of the call.
 fn is_record_of(found: &Record, asked: &Asked, receipt: &Receipt) -> bool
@@ -23,12 +24,7 @@ fn is_record_of(found: &Record, asked: &Asked, receipt: &Receipt) -> bool
 }
 
 /// Whether the record at a place is that of the call.
-pub(crate) fn is_at(
-    history: &VecDeque<Record>,
-    place: usize,
-    asked: &Asked,
-    receipt: &Receipt,
-) -> bool
+pub(crate) fn is_at(history: &Queue<Record>, place: usize, asked: &Asked, receipt: &Receipt) -> bool
     ensures { IsTrue result ↔
         (slice_get history.now.items place ≡ Some (record_of (call_of asked.now receipt.now))) }
 {
@@ -48,7 +44,7 @@ fn claim(
     receipt: &Receipt,
     claimed: &mut [bool],
 ) -> bool
-    requires { (0 < n) × (length claimed.old ≡ length held.now.history) }
+    requires { (0 < n) × (length claimed.old ≡ length (left_of held.now)) }
     ensures { (before : List Call) → Claimed n held.now cell before claimed.old → MatchBool result
         (Claimed n held.now cell (before ++ call_of asked.now receipt.now ∷ []) claimed.new)
         ((rest : List Call)
@@ -82,7 +78,7 @@ fn claim_pass<N: Names>(
     pass: &Pass<N>,
     claimed: &mut [bool],
 ) -> bool
-    requires { (0 < n) × (length claimed.old ≡ length held.now.history) }
+    requires { (0 < n) × (length claimed.old ≡ length (left_of held.now)) }
     ensures { (before : List Call) → Claimed n held.now cell before claimed.old → MatchBool result
         (Claimed n held.now cell (before ++ pass.now.calls) claimed.new)
         ((rest : List Call) → ¬ Matches n held.now cell (before ++ (pass.now.calls ++ rest))) }
@@ -97,7 +93,7 @@ fn claim_pass<N: Names>(
 }
 
 /// Whether each record that counts is claimed.
-fn are_claimed(history: &VecDeque<Record>, cell: usize, claimed: &[bool]) -> bool
+fn are_claimed(history: &Queue<Record>, cell: usize, claimed: &[bool]) -> bool
     requires { length claimed.now ≡ length history.now.items }
     ensures { MatchBool result
         (AllClaimed (length history.now.items) history.now.items cell claimed.now)
@@ -121,7 +117,7 @@ fn matches<N: Names>(
     claimed: &mut [bool],
 ) -> bool
     requires cells { 0 < n }
-    requires count { length claimed.old ≡ length held.now.history }
+    requires count { length claimed.old ≡ length (left_of held.now) }
     requires none { NoneClaimed claimed.old }
     ensures { MatchBool result (Matches n held.now cell (all_calls passes.now))
         (¬ Matches n held.now cell (all_calls passes.now)) }

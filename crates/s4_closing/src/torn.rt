@@ -5,11 +5,11 @@ ghost use Rattle.s4_closing.specs.Merged.{wide_records, HaveSameWides, AreWhole,
 ghost use Rattle.s4_closing.specs.Order.{NoneWent};
 
 use s4_cells::Cell;
+use s4_queue::Queue;
 use s4_types::Record;
-use std::collections::VecDeque;
 
 /// The place of the next wide record from `from` on.
-fn next_wide(history: &VecDeque<Record>, from: usize) -> Option<usize>
+fn next_wide(history: &Queue<Record>, from: usize) -> Option<usize>
     requires { from ≤ length history.now.items }
     ensures { MatchOption result (wide_records (drop from history.now.items) ≡ [])
         (λ j. IsNextWide history.now.items from j) }
@@ -23,11 +23,12 @@ fn next_wide(history: &VecDeque<Record>, from: usize) -> Option<usize>
 }
 
 /// The place behind the next wide record, if that is this one.
-fn go_past(found: &Record, history: &VecDeque<Record>, from: usize) -> Option<usize>
+fn go_past(found: &Record, history: &Queue<Record>, from: usize) -> Option<usize>
     requires { from ≤ length history.now.items }
     ensures { MatchOption result (IsNotNext history.now.items from found.now)
         (λ y. IsPassed history.now.items from found.now y) }
 {
+    let _length = history.len();
     let j = next_wide(history, from)?;
     if !history[j].is_same(found) {
         return None;
@@ -36,7 +37,7 @@ fn go_past(found: &Record, history: &VecDeque<Record>, from: usize) -> Option<us
 }
 
 /// Whether two histories have the same wide records.
-fn have_same(a: &VecDeque<Record>, b: &VecDeque<Record>) -> bool
+fn have_same(a: &Queue<Record>, b: &Queue<Record>) -> bool
     ensures { MatchBool result (wide_records a.now.items ≡ wide_records b.now.items)
         (¬ (wide_records a.now.items ≡ wide_records b.now.items)) }
 {
@@ -84,9 +85,8 @@ fn have_window(window: u64, cells: &[Cell]) -> bool
 fn start_alike(a: &Cell, b: &Cell) -> bool
     ensures { MatchBool result (StartAlike a.now b.now) (¬ StartAlike a.now b.now) }
 {
-    a.cut_at() == b.cut_at()
-        && a.base_window() == b.base_window()
-        && a.base_floor() == b.base_floor()
+    let (first, second) = (a.window_left(), b.window_left());
+    a.cut_at() == b.cut_at() && first.ticks() == second.ticks() && first.floor() == second.floor()
 }
 
 /// Whether all cells start as the first.

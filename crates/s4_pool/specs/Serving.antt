@@ -1,5 +1,5 @@
 -- What one call leaves.
-use Rattle.std.specs.Prelude.{◌≡◌, ℕ, ◌+◌, ◌≤◌, List, length, slice_index_or, MatchBool}
+use Rattle.std.specs.Prelude.{◌≡◌, ℕ, ◌≤◌, List, length, slice_index_or, MatchBool}
 use Rattle.s4_types.specs.declared.principal.Caller.{Caller}
 use Rattle.s4_types.specs.declared.request.Request.{Request}
 use Rattle.s4_types.specs.declared.reply.Reply.{Reply}
@@ -11,7 +11,6 @@ use Rattle.s4_passes.specs.declared.call.Asked.{Asked}
 use Rattle.s4_passes.specs.declared.call.Receipt.{Receipt}
 use Rattle.s4_passes.specs.Calls.{Call, CallList, call_of, last_moment}
 use Rattle.s4_passes.specs.Counts.{AddsCall, KeepsCalls}
-use Rattle.s4_closing.specs.Claims.{gone}
 
 -- what a caller asked, by its clock
 abbrev pub asked : Caller → ℕ → Request → Asked
@@ -45,7 +44,7 @@ pub record Adds (cell : ℕ) (before after : Log) (old new : CallList) : Type 0 
   pub call : Call
   pub adds : AddsCall call old new
   pub log : after ≡ with_record before (record_of_call call)
-  pub place : call.receipt.place ≡ gone before + length before.history
+  pub place : call.receipt.place ≡ length before.history
   pub cell_is : call.receipt.cell ≡ cell
 
 -- and of the values that are expired then at most so many are freed
@@ -59,5 +58,5 @@ pub record AddsToAll (before after : List Log) (old new : CallList) : Type 0 whe
   pub call : Call
   pub adds : AddsCall call old new
   pub records : AllAdd (record_of_call call) before after
-  pub place : (none : Log) → call.receipt.place ≡ gone (slice_index_or before 0 none) + length (slice_index_or before 0 none).history
+  pub place : (none : Log) → call.receipt.place ≡ length (slice_index_or before 0 none).history
   pub cell_is : call.receipt.cell ≡ 0

@@ -2,7 +2,7 @@
 
 ghost use Rattle.std.specs.Prelude.{◌≡◌, ◌+◌, ◌<◌, ◌≤◌, true, false, length, min, IfOk, OnErr, MatchBool, MatchOption};
 ghost use Rattle.s4_types.specs.Log.{expired_in, horizon_in, swept};
-ghost use Rattle.s4_state.specs.CutLog.{IsCut};
+ghost use Rattle.s4_cuts.specs.CutLog.{cut_log};
 ghost use Rattle.s4_drive.specs.Alike.{AnswersAlike};
 ghost use Rattle.s4_cells.specs.Counts.{count_of};
 ghost use Rattle.s4_closing.specs.Claiming.{CantClaim, Claims, unclaimed};
@@ -13,7 +13,6 @@ use s4_closing::{claim_next, cut_claimed};
 use s4_counts::{Book, Names};
 use s4_passes::Pass;
 use s4_types::{Moment, NoMemory};
-use std::alloc::Global;
 use std::slice;
 
 /// A cell with its book, which has as many records as the cell ever had.
@@ -77,18 +76,17 @@ impl<N: Names> Locked<N> {
 
     /// Cuts the cell at the least of the moment, of its horizon, and of the moment of its oldest record
     /// that lacks its claim, and gives that moment. It goes on as the uncut one would, and isn't asked
-    /// for claims of the records that went any more. Where a growth was refused no record went.
-    pub fn cut(&mut self, alloc: Global, moment: Moment) -> Result<Moment, NoMemory>
-        ensures least { IfOk result (λ at.
-            at ≡ min (unclaimed moment self.old.cell self.old.book) (horizon_in self.old.cell)) }
-        ensures bound { IfOk result (λ at. at ≤ moment) }
-        ensures cut { IfOk result (λ at. IsCut at self.old.cell self.new.cell) }
+    /// for claims of the records that went any more. It takes no memory.
+    pub fn cut(&mut self, moment: Moment) -> Moment
+        ensures least { result
+            ≡ min (unclaimed moment self.old.cell self.old.book) (horizon_in self.old.cell) }
+        ensures bound { result ≤ moment }
+        ensures cut { self.new.cell ≡ cut_log result self.old.cell }
         ensures replies { AnswersAlike self.old.cell self.new.cell }
         ensures claims { ForgetsClaims self.new.cell self.old.book self.new.book }
-        ensures err { OnErr result (self.new.cell ≡ self.old.cell) }
     {
         let Locked { cell, book } = self;
-        cut_claimed(alloc, slice::from_mut(cell), slice::from_mut(book), moment)
+        cut_claimed(slice::from_mut(cell), slice::from_mut(book), moment)
     }
 
     /// Frees at most so many values of the cell that are expired and still held, and tells how many.

@@ -85,22 +85,17 @@ impl<N: Names> Room<N> {
     }
 
     /// Cuts all cells, out of their locks, where the records that go are claimed, and puts them back.
-    pub fn cut(
-        &mut self,
-        alloc: Global,
-        locks: &mut Vec<Mutex<Locked<N>>>,
-        moment: Moment,
-    ) -> Result<Moment, NoMemory>
+    pub fn cut(&mut self, locks: &mut Vec<Mutex<Locked<N>>>, moment: Moment) -> Moment
         requires some { 0 < vec_len locks.old }
         requires few { vec_len locks.old ≤ 16 }
         ensures locks { vec_len locks.new ≡ vec_len locks.old }
-        ensures bound { IfOk result (λ at. at ≤ moment) }
+        ensures bound { result ≤ moment }
     {
         let Room { cells, books, .. } = self;
         take_out(locks, cells, books);
-        let cut = cut_claimed(alloc, cells.as_mut_slice(), books.as_mut_slice(), moment);
+        let at = cut_claimed(cells.as_mut_slice(), books.as_mut_slice(), moment);
         put_back(cells, books, locks);
-        cut
+        at
     }
 }
 

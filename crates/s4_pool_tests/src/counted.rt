@@ -38,7 +38,7 @@ fn cut<N: Names, R: Wait>(
 ) -> Result<(), NoMemory> {
     let most = pass.receipts().len();
     front.claim(rt, pass, Moment::new(tick.saturating_add(1)), most)?;
-    let at = front.cut(rt, Moment::new(tick))?;
+    let at = front.cut(rt, Moment::new(tick));
     let gone = pass.claimed_before(at, most);
     pass.forget(gone);
     Ok(())

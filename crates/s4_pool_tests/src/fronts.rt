@@ -89,11 +89,11 @@ fn carry_out<N: Names + Send + Sync, R: Threads + Wait + Sync>(
             check_pass(rt, &*front, pass, act)
         }
         Line::Cut(moment, at) => {
-            let found = front.cut(rt, Moment::new(*moment))?;
+            let found = front.cut(rt, Moment::new(*moment));
             same("the cut", &found.tick(), at)
         }
         Line::CutOne(cell, moment, at) if *cell < cells => {
-            let found = front.cut_one(rt, *cell, Moment::new(*moment))?;
+            let found = front.cut_one(rt, *cell, Moment::new(*moment));
             same("the cut of a cell", &found.tick(), at)
         }
         Line::Sweep(cell, most, freed) if *cell < cells => {

@@ -115,8 +115,7 @@ impl Cutter {
             .saturating_sub(since(context.rt, start))
     }
 
-    /// Cuts each cell one piece further, and tells how long that took; none where there is no more. A cut
-    /// that memory was refused for is made up for by the next round.
+    /// Cuts each cell one piece further, and tells how long that took; none where there is no more.
     fn cut_piece<R: Wait + Clock, C, N: Names>(
         &mut self,
         context: &Context<'_, R, C, N>,
@@ -143,8 +142,8 @@ impl Cutter {
     }
 }
 
-/// Cuts a cell at this moment; none where memory was refused for that, or a record that no call claimed
-/// in time, and so has none, is in the way.
+/// Cuts a cell at this moment; none where a record that no call claimed in time, and so has none, is in
+/// the way.
 fn cut_cell<R: Wait, C, N: Names>(
     context: &Context<'_, R, C, N>,
     cell: usize,
@@ -152,10 +151,7 @@ fn cut_cell<R: Wait, C, N: Names>(
 ) -> Option<()>
     requires { cell < context.now.front.now.cells }
 {
-    let cut = context
-        .front
-        .cut_one(context.rt, cell, Moment::new(end))
-        .ok()?;
+    let cut = context.front.cut_one(context.rt, cell, Moment::new(end));
     if cut.tick() < end {
         context.board.stray.store(true, Ordering::SeqCst);
         return None;

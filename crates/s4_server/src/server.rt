@@ -176,7 +176,7 @@ impl<N: Names + Send + Sync> Server<N> {
         };
         let reloading = upkeep.reloading(alloc, table, now);
         let passes = places.serve(&context, &settings, listener, passes, reloading, keeper)?;
-        align(rt, &front, &board)?;
+        align(rt, &front, &board);
         let closed = match front.close(alloc, passes) {
             Ok(closed) => closed,
             Err(fault) => return Err(why_open(&board, fault.why)),
@@ -208,16 +208,11 @@ fn begun<'a, R: Wait + Clock, N: Names>(
 }
 
 /// Has all cells be cut at one moment: the greatest to which one of them was.
-fn align<R: Wait, N: Names>(
-    rt: &R,
-    front: &Front<OpenGate, N>,
-    board: &Board,
-) -> Result<(), NoMemory> {
+fn align<R: Wait, N: Names>(rt: &R, front: &Front<OpenGate, N>, board: &Board) {
     let ahead = board.ahead.load(Ordering::SeqCst);
     if ahead > 0 {
-        front.cut(rt, Moment::new(ahead))?;
+        front.cut(rt, Moment::new(ahead));
     }
-    Ok(())
 }
 
 /// Why the front isn't closed: where calls and records were found not to match before, that is told.

@@ -61,7 +61,7 @@ impl<N: Names, R: Wait> Desk<'_, N, R> {
         let end = Moment::new(u64::MAX);
         let count = self.pass.receipts().len();
         self.front.claim(self.rt, &mut self.pass, end, count)?;
-        let cut = self.front.cut(self.rt, end)?;
+        let cut = self.front.cut(self.rt, end);
         let gone = self.pass.claimed_before(cut, count);
         self.pass.forget(gone);
         Ok(())

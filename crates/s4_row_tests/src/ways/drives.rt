@@ -64,7 +64,7 @@ fn cut(drive: &mut PlainDrive, moment: Moment, told: &mut String) -> io::Result<
     if moment > drive.horizon() {
         return Err(invalid());
     }
-    let went = drive.cut(moment)?;
+    let went = drive.cut(moment);
     Ok(writeln!(told, "{}", CutText(went))?)
 }
 
@@ -78,7 +78,7 @@ pub fn tell_cut<S: Store<Version>>(
     for line in lines {
         tell_line(drive, line, told)?;
         let horizon = drive.horizon();
-        drive.cut(horizon)?;
+        drive.cut(horizon);
         drive.sweep(swept);
     }
     Ok(())

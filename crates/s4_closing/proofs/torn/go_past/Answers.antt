@@ -1,9 +1,15 @@
-use Rattle.std.proofs.Common.{◌≡◌, length, refl, sym, Some, true≢false}
+use Rattle.std.proofs.Common.{arith, ◌≡◌, length, refl, sym, Some, true≢false}
 use Rattle.std.specs.Prelude.{slice_get}
 use Rattle.std.proofs.lemmas.Option.{slice_get_read, slice_get_within}
 use Rattle.s4_closing.specs.Merged.{IsNextWide}
 use Rattle.s4_closing.proofs.Wides.{other_next, passed}
 use Rattle.s4_closing.proofs.torn.go_past.Goals as goal
+
+pub overflow_add-result : goal.overflow_add-result
+overflow_add-result c =
+    let h = c.args.history.now.items in
+    let is : IsNextWide h c.args.from c.in_ok-j.j = c.in_ok-j.ensures in
+    omega (arith, slice_get_within h c.in_ok-j.j is.found is.is, c.len-length.ensures.len)
 
 pub returns-then-not-is_same : goal.returns-then-not-is_same
 returns-then-not-is_same c =
