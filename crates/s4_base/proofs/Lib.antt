@@ -7,6 +7,5 @@ pub mod OneName
 pub mod OneObject
 pub mod Parting
 pub mod SameBase
-pub mod SharedMaps
 pub mod Shelves
 pub mod Turning

@@ -5,7 +5,7 @@ use Rattle.std.specs.BTreeMap.{is_at}
 use Rattle.s4_types.specs.Base.{Standing}
 use Rattle.s4_types.specs.Name.{name_cmp}
 use Rattle.s4_types.proofs.SameNames.{name_self, at_name}
-use Rattle.s4_types.specs.Lists.{Lists, base_of_lists, bounds_among}
+use Rattle.s4_base.specs.Lists.{Lists, base_of_lists, bounds_among}
 use Rattle.s4_base.specs.Tables.{bound_among}
 use Rattle.s4_base.proofs.OneName.{AllPass, AllBound}
 

@@ -13,7 +13,7 @@ use Rattle.s4_types.specs.Name.{same_name, name_cmp}
 use Rattle.s4_types.specs.Names.{same_purse, purse_cmp}
 use Rattle.s4_types.proofs.Booleans.{by_test}
 use Rattle.s4_types.proofs.SameNames.{purse_is, at_purse, at_name}
-use Rattle.s4_types.specs.Lists.{bounds_among, binding_among}
+use Rattle.s4_base.specs.Lists.{bounds_among, binding_among}
 use Rattle.s4_base.specs.Tables.{bound_among}
 
 -- ANOTHER PURSE

@@ -4,7 +4,7 @@ use Rattle.std.specs.Map.{lookup}
 use Rattle.std.specs.BTreeMap.{is_at}
 use Rattle.s4_types.specs.Base.{Base, Standing}
 use Rattle.s4_types.specs.Horizon.{Guarded}
-use Rattle.s4_types.specs.Lists.{Lists, base_of_lists}
+use Rattle.s4_base.specs.Lists.{Lists, base_of_lists}
 use Rattle.s4_types.specs.Name.{name_cmp}
 use Rattle.s4_base.specs.declared.tables.Tables.{Tables}
 

@@ -1,5 +1,5 @@
 -- How far a base has followed records.
-use Rattle.std.specs.Prelude.{◌≡◌, ℕ, ◌+◌, ◌≤◌, List, length, drop}
+use Rattle.std.specs.Prelude.{◌≡◌, ℕ, ◌+◌, List, drop}
 use Rattle.s4_types.specs.declared.record.Record.{Record}
 use Rattle.s4_types.specs.Base.{Base}
 use Rattle.s4_types.specs.Play.{InOrder, UpTo}
@@ -15,9 +15,3 @@ pub record GoesOn (old new : Base) (cut : ℕ) (records : List Record) (followed
   pub last : UpTo cut (drop followed records)
   pub fits : CanFollowAll new (drop followed records)
   pub same : left new cut (drop followed records) ≡ left old cut records
-
--- some of the records were followed
-pub record HasBegun (old new : Base) (cut : ℕ) (records : List Record) : Type 0 where
-  pub followed : ℕ
-  pub within : followed ≤ length records
-  pub goes_on : GoesOn old new cut records followed

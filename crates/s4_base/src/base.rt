@@ -1,29 +1,25 @@
 //! What the records before a moment leave.
 
 ghost use Rattle.std.specs.Prelude.{◌≡◌, ◌+◌, ◌<◌, ◌^◌, length, [], ◌∷◌, IfOk, OnOk, OnErr};
-ghost use Rattle.std.specs.List.Sorted.{IsStrictlySortedBy};
-ghost use Rattle.std.specs.Map.{keys_of};
 ghost use Rattle.std.specs.Option.{option_copied};
 ghost use Rattle.s4_types.specs.Base.{opened};
-ghost use Rattle.s4_types.specs.Names.{object_cmp, purse_cmp};
 ghost use Rattle.s4_types.specs.Play.{InOrder, UpTo};
 ghost use Rattle.s4_laws.specs.Bases.{IsBase};
 ghost use Rattle.s4_cuts.specs.Cut.{left, base_at};
 ghost use Rattle.s4_base.specs.Changes.{CanFollow, CanFollowAll};
-ghost use Rattle.s4_base.specs.Through.{HasBegun};
 
 use crate::kept::{Bound, Kept};
 use crate::moments::count_before;
 use crate::tables::Tables;
 use crate::{names, numbers};
+use s4_queue::Queue;
 use s4_types::{Moment, Name, NoMemory, ObjectId, Purse, Record};
 use std::alloc::Global;
-use std::collections::VecDeque;
 use std::marker::Model;
 
 /// What the records before a moment leave (docs/MODEL.md, "Histories that are cut"): the objects
 /// that live, the names that are bound, the serials that were drawn, the budgets, the window and
-/// the floor of the horizon. Callers see it by lists (crates/s4_types/specs/Lists.antt), and
+/// the floor of the horizon. Callers see it by lists (crates/s4_base/specs/Lists.antt), and
 /// `base_of_lists` tells the base of the definitions.
 pub struct Base {
     tables: Tables,
@@ -37,7 +33,7 @@ impl Drop for Base {
 }
 
 impl Model for Base {
-    ghost use Rattle.s4_types.specs.Lists.{Lists};
+    ghost use Rattle.s4_base.specs.Lists.{Lists};
     ghost use Rattle.s4_base.specs.Tables.{lists_of};
 
     ghost Value = { Lists };
@@ -46,7 +42,7 @@ impl Model for Base {
 }
 
 impl Base {
-    ghost use Rattle.s4_types.specs.Lists.{fresh_lists, base_of_lists};
+    ghost use Rattle.s4_base.specs.Lists.{fresh_lists, base_of_lists};
 
     /// That of a fresh drive with the window. Takes no memory.
     pub fn fresh(alloc: Global, window: u64) -> Base
@@ -58,22 +54,12 @@ impl Base {
         }
     }
 
-    /// An equal base, or `NoMemory` where a growth was refused. The two share what has settled, so
-    /// this takes the time of what was followed since.
-    pub fn copy(&self) -> Result<Base, NoMemory>
-        ensures { IfOk result (λ base. base ≡ self.now) }
-    {
-        Ok(Base {
-            tables: self.tables.copy()?,
-        })
-    }
-
     /// What the base and the records before the moment leave, at any moment. The base itself stays
     /// as it is, also where memory is refused. This takes the time of a copy and of these records.
     pub fn after(
         &self,
         alloc: Global,
-        records: &VecDeque<Record>,
+        records: &Queue<Record>,
         cut: Moment,
     ) -> Result<Base, NoMemory>
         requires is_base { IsBase (base_of_lists self.now) }
@@ -87,25 +73,6 @@ impl Base {
         let mut base = self.copy()?;
         base.tables.follow_first(alloc, records, early, cut)?;
         Ok(base)
-    }
-
-    /// Settles what was followed, which copies then share, unless a copy shares what had settled
-    /// before. Where memory is refused a part of it has settled; what the base tells stays equal.
-    /// This takes the time of what was followed. Where each base is settled before a later one is
-    /// made of it by `after`, and then gives way to that one, each record is so settled once.
-    pub fn settle(&mut self) -> Result<(), NoMemory>
-        ensures { self.new ≡ self.old }
-    {
-        self.tables.settle()
-    }
-
-    /// Its lists have each object once, and each purse once: in their order. It does nothing.
-    pub fn lists_each_once(&self)
-        ensures objects { IsStrictlySortedBy object_cmp (keys_of self.now.objects) }
-        ensures purses { IsStrictlySortedBy purse_cmp (keys_of self.now.names) }
-    {
-        self.tables.objects.is_sorted();
-        self.tables.names.is_sorted();
     }
 
     /// The detection window in force, in ticks.
@@ -164,16 +131,15 @@ impl Base {
         numbers::budget(&self.tables.budgets, purse)
     }
 
-    /// Brings the base to what it and the record leave. Where memory is refused it tells what it
-    /// told before.
+    /// Brings the base to what it and the record leave. Where memory is refused nothing has changed.
+    /// This takes the time of a copy.
     pub fn follow(&mut self, alloc: Global, added: &Record) -> Result<(), NoMemory>
         requires counts { self.old.count + 1 < 2 ^ 64 }
         requires fits { CanFollow (base_of_lists self.old) added.now }
         ensures ok { OnOk result (base_of_lists self.new
             ≡ left (base_of_lists self.old) added.now.moment (added.now ∷ [])) }
-        ensures err { OnErr result (base_of_lists self.new ≡ base_of_lists self.old) }
+        ensures err { OnErr result (self.new ≡ self.old) }
     {
-        self.settle()?;
         let mut next = self.copy()?;
         next.tables.follow(alloc, added)?;
         *self = next;
@@ -181,12 +147,11 @@ impl Base {
     }
 
     /// Brings the base to what it and the records leave, all of which are up to the moment. Where
-    /// memory is refused the first of the records are followed: as many as the count grew by. The
-    /// call may be made again with the others.
+    /// memory is refused nothing has changed. This takes the time of a copy and of these records.
     pub fn follow_all(
         &mut self,
         alloc: Global,
-        records: &VecDeque<Record>,
+        records: &Queue<Record>,
         cut: Moment,
     ) -> Result<(), NoMemory>
         requires is_base { IsBase (base_of_lists self.old) }
@@ -196,14 +161,21 @@ impl Base {
         requires fits { CanFollowAll (base_of_lists self.old) records.now.items }
         ensures ok { OnOk result (base_of_lists self.new
             ≡ left (base_of_lists self.old) cut records.now.items) }
-        ensures err { OnErr result
-            (HasBegun (base_of_lists self.old) (base_of_lists self.new) cut records.now.items) }
+        ensures err { OnErr result (self.new ≡ self.old) }
     {
-        self.settle()?;
         let mut next = self.copy()?;
         next.tables
             .follow_first(alloc, records, records.len(), cut)?;
         *self = next;
         Ok(())
+    }
+
+    // An equal base, or `NoMemory` where a growth was refused.
+    fn copy(&self) -> Result<Base, NoMemory>
+        ensures { IfOk result (λ base. base ≡ self.now) }
+    {
+        Ok(Base {
+            tables: self.tables.copy()?,
+        })
     }
 }

@@ -8,7 +8,7 @@ ghost use Rattle.s4_base.specs.Changes.{without_name};
 ghost use Rattle.s4_base.specs.Tables.{bound_among};
 
 use crate::kept::Bound;
-use crate::shared_map::Exact;
+use crate::table::Exact;
 use s4_types::{Name, NoMemory};
 use std::alloc::Global;
 use std::collections::BTreeMap;

@@ -32,12 +32,11 @@ impl Tables {
         numbers::set_drawn(&mut self.drawn, &object.purse, object.serial.number())
     }
 
-    /// An object lives no longer.
-    pub fn delete(&mut self, object: &ObjectId) -> Result<(), NoMemory>
-        ensures { OnOk result (base_in self.new
-            ≡ with_object object.now None (base_in self.old)) }
+    /// An object lives no longer. Takes no memory.
+    pub fn delete(&mut self, object: &ObjectId)
+        ensures { base_in self.new ≡ with_object object.now None (base_in self.old) }
     {
-        objects::forget(&mut self.objects, object)
+        objects::forget(&mut self.objects, object);
     }
 
     /// Bytes over an object's data, if it lives.

@@ -54,7 +54,10 @@ impl Tables {
         let moment = added.moment;
         match &added.request {
             Request::Create { .. } => self.created(alloc, moment, &added.reply),
-            Request::Delete { object } => self.delete(object),
+            Request::Delete { object } => {
+                self.delete(object);
+                Ok(())
+            }
             Request::PCreate { name, object } => self.bind(alloc, moment, name, object),
             Request::PDelete { purse, name } => self.unbind(alloc, purse, name),
             Request::SetWindow { ticks } => {

@@ -7,9 +7,9 @@ ghost use Rattle.s4_cuts.specs.Cut.{left};
 ghost use Rattle.s4_base.specs.Changes.{CanFollowAll};
 
 use crate::tables::Tables;
+use s4_queue::Queue;
 use s4_types::{Moment, NoMemory, Record};
 use std::alloc::Global;
-use std::collections::VecDeque;
 
 impl Tables {
     ghost use Rattle.s4_base.specs.Tables.{base_in};
@@ -19,7 +19,7 @@ impl Tables {
     pub fn follow_first(
         &mut self,
         alloc: Global,
-        records: &VecDeque<Record>,
+        records: &Queue<Record>,
         count: usize,
         cut: Moment,
     ) -> Result<(), NoMemory>

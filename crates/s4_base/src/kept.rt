@@ -2,7 +2,7 @@
 
 ghost use Rattle.std.specs.Prelude.{◌≡◌};
 
-use crate::shared_map::Exact;
+use crate::table::Exact;
 use s4_types::{Acl, Bytes, Moment, NoMemory, Serial};
 use std::marker::Model;
 

@@ -1,24 +1,14 @@
-//! What keys and values of the tables are.
+//! What keys and numbers of the tables are.
 
-ghost use Rattle.s4_base.specs.Keys.{same_objects, same_purses};
-
-use crate::shared_map::{Exact, Key};
+use crate::table::Exact;
 use s4_types::{ObjectId, Purse};
 
 impl Exact for ObjectId {
     ghost exact = { λ object copy same. same };
 }
 
-impl Key for ObjectId {
-    ghost alike = { same_objects };
-}
-
 impl Exact for Purse {
     ghost exact = { λ purse copy same. same };
-}
-
-impl Key for Purse {
-    ghost alike = { same_purses };
 }
 
 impl Exact for u16 {

@@ -14,7 +14,7 @@ mod moments;
 mod names;
 mod numbers;
 mod objects;
-mod shared_map;
+mod table;
 mod tables;
 
 pub use base::Base;

@@ -3,17 +3,17 @@
 ghost use Rattle.std.specs.Prelude.{◌≡◌, ℕ, List, Some, None, IfOk, OnOk};
 ghost use Rattle.s4_types.specs.declared.object.Purse.{Purse};
 ghost use Rattle.s4_types.specs.Bindings.{with_name};
-ghost use Rattle.s4_types.specs.Lists.{bounds_among, names_among, binding_among};
+ghost use Rattle.s4_base.specs.Lists.{bounds_among, names_among, binding_among};
 ghost use Rattle.s4_base.specs.Changes.{purse_changed, name_put, without_name};
 
 use crate::bounds::Bounds;
 use crate::kept::Bound;
-use crate::shared_map::SharedMap;
+use crate::table::Table;
 use s4_types::{Name, NoMemory, Purse};
 use std::alloc::Global;
 
 /// What a name in the purse is bound to, if it is bound.
-pub(crate) fn bound(names: &SharedMap<Purse, Bounds>, purse: &Purse, name: &Name) -> Option<Bound>
+pub(crate) fn bound(names: &Table<Purse, Bounds>, purse: &Purse, name: &Name) -> Option<Bound>
     ensures { result ≡ binding_among names.now purse.now name.now }
 {
     names.get(purse)?.get(name)
@@ -22,7 +22,7 @@ pub(crate) fn bound(names: &SharedMap<Purse, Bounds>, purse: &Purse, name: &Name
 /// Binds a name in the purse, in the place of what it was bound to.
 pub(crate) fn bind(
     alloc: Global,
-    names: &mut SharedMap<Purse, Bounds>,
+    names: &mut Table<Purse, Bounds>,
     purse: &Purse,
     name: &Name,
     bound: Bound,
@@ -40,7 +40,7 @@ pub(crate) fn bind(
 /// Binds a name in the purse no longer.
 pub(crate) fn unbind(
     alloc: Global,
-    names: &mut SharedMap<Purse, Bounds>,
+    names: &mut Table<Purse, Bounds>,
     purse: &Purse,
     name: &Name,
 ) -> Result<(), NoMemory>
@@ -55,11 +55,7 @@ pub(crate) fn unbind(
 }
 
 // A copy of the purse's names.
-fn bounds_of(
-    alloc: Global,
-    names: &SharedMap<Purse, Bounds>,
-    purse: &Purse,
-) -> Result<Bounds, NoMemory>
+fn bounds_of(alloc: Global, names: &Table<Purse, Bounds>, purse: &Purse) -> Result<Bounds, NoMemory>
     ensures { IfOk result (λ bounds. bounds ≡ bounds_among names.now purse.now) }
 {
     match names.get(purse) {

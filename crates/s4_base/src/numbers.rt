@@ -2,14 +2,14 @@
 
 ghost use Rattle.std.specs.Prelude.{◌≡◌, OnOk};
 ghost use Rattle.s4_types.specs.declared.object.Purse.{Purse};
-ghost use Rattle.s4_types.specs.Lists.{drawn_among, budget_among};
+ghost use Rattle.s4_base.specs.Lists.{drawn_among, budget_among};
 ghost use Rattle.s4_base.specs.Changes.{purse_changed};
 
-use crate::shared_map::SharedMap;
+use crate::table::Table;
 use s4_types::{NoMemory, Purse};
 
 /// How many serials the purse drew.
-pub(crate) fn drawn(numbers: &SharedMap<Purse, u16>, purse: &Purse) -> u16
+pub(crate) fn drawn(numbers: &Table<Purse, u16>, purse: &Purse) -> u16
     ensures { result ≡ drawn_among numbers.now purse.now }
 {
     numbers.get(purse).copied().unwrap_or(0)
@@ -17,7 +17,7 @@ pub(crate) fn drawn(numbers: &SharedMap<Purse, u16>, purse: &Purse) -> u16
 
 /// The purse drew so many serials.
 pub(crate) fn set_drawn(
-    numbers: &mut SharedMap<Purse, u16>,
+    numbers: &mut Table<Purse, u16>,
     purse: &Purse,
     count: u16,
 ) -> Result<(), NoMemory>
@@ -28,7 +28,7 @@ pub(crate) fn set_drawn(
 }
 
 /// What the purse may spend.
-pub(crate) fn budget(budgets: &SharedMap<Purse, u32>, purse: &Purse) -> u32
+pub(crate) fn budget(budgets: &Table<Purse, u32>, purse: &Purse) -> u32
     ensures { result ≡ budget_among budgets.now purse.now }
 {
     budgets.get(purse).copied().unwrap_or(Purse::DEFAULT_BUDGET)
@@ -36,7 +36,7 @@ pub(crate) fn budget(budgets: &SharedMap<Purse, u32>, purse: &Purse) -> u32
 
 /// The purse may spend so much.
 pub(crate) fn set_budget(
-    budgets: &mut SharedMap<Purse, u32>,
+    budgets: &mut Table<Purse, u32>,
     purse: &Purse,
     budget: u32,
 ) -> Result<(), NoMemory>

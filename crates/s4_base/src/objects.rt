@@ -2,11 +2,11 @@
 
 ghost use Rattle.std.specs.Prelude.{◌≡◌, Some, None, IfOk, OnOk};
 ghost use Rattle.s4_types.specs.declared.object.ObjectId.{ObjectId};
-ghost use Rattle.s4_types.specs.Lists.{object_among};
+ghost use Rattle.s4_base.specs.Lists.{object_among};
 ghost use Rattle.s4_base.specs.Changes.{made, object_put, object_changed, with_bytes, with_attributes, with_acl};
 
 use crate::kept::Kept;
-use crate::shared_map::SharedMap;
+use crate::table::Table;
 use s4_types::{Acl, Bytes, Moment, NoMemory, ObjectId};
 use std::alloc::Global;
 
@@ -27,7 +27,7 @@ pub(crate) fn fresh(alloc: Global, moment: Moment, object: &ObjectId) -> Result<
 
 /// Keeps an object, in the place of what was kept of it.
 pub(crate) fn keep(
-    objects: &mut SharedMap<ObjectId, Kept>,
+    objects: &mut Table<ObjectId, Kept>,
     object: &ObjectId,
     kept: Kept,
 ) -> Result<(), NoMemory>
@@ -37,20 +37,17 @@ pub(crate) fn keep(
     objects.put(*object, kept)
 }
 
-/// Keeps an object no longer.
-pub(crate) fn forget(
-    objects: &mut SharedMap<ObjectId, Kept>,
-    object: &ObjectId,
-) -> Result<(), NoMemory>
-    ensures { OnOk result ((o : ObjectId) → object_among objects.new o
-        ≡ object_put object.now None (object_among objects.old) o) }
+/// Keeps an object no longer. Takes no memory.
+pub(crate) fn forget(objects: &mut Table<ObjectId, Kept>, object: &ObjectId)
+    ensures { (o : ObjectId) → object_among objects.new o
+        ≡ object_put object.now None (object_among objects.old) o }
 {
-    objects.take_out(*object)
+    objects.take_out(object);
 }
 
 /// Other data from the moment on, where the object lives.
 pub(crate) fn set_bytes(
-    objects: &mut SharedMap<ObjectId, Kept>,
+    objects: &mut Table<ObjectId, Kept>,
     moment: Moment,
     object: &ObjectId,
     bytes: Bytes,
@@ -70,7 +67,7 @@ pub(crate) fn set_bytes(
 
 /// Other attributes from the moment on, where the object lives.
 pub(crate) fn set_attributes(
-    objects: &mut SharedMap<ObjectId, Kept>,
+    objects: &mut Table<ObjectId, Kept>,
     moment: Moment,
     object: &ObjectId,
     bytes: Bytes,
@@ -90,7 +87,7 @@ pub(crate) fn set_attributes(
 
 /// Another ACL from the moment on, where the object lives.
 pub(crate) fn set_acl(
-    objects: &mut SharedMap<ObjectId, Kept>,
+    objects: &mut Table<ObjectId, Kept>,
     moment: Moment,
     object: &ObjectId,
     acl: Acl,

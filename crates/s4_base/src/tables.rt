@@ -4,7 +4,7 @@ ghost use Rattle.std.specs.Prelude.{◌≡◌, IfOk};
 
 use crate::bounds::Bounds;
 use crate::kept::Kept;
-use crate::shared_map::SharedMap;
+use crate::table::Table;
 use s4_types::{Moment, NoMemory, ObjectId, Purse};
 use std::alloc::Global;
 
@@ -21,17 +21,17 @@ pub(crate) struct Tables {
     /// How many records are gone.
     pub count: u64,
     /// The objects that live.
-    pub objects: SharedMap<ObjectId, Kept>,
+    pub objects: Table<ObjectId, Kept>,
     /// The names that are bound, by their purses.
-    pub names: SharedMap<Purse, Bounds>,
+    pub names: Table<Purse, Bounds>,
     /// How many serials were drawn.
-    pub drawn: SharedMap<Purse, u16>,
+    pub drawn: Table<Purse, u16>,
     /// The budgets that were set.
-    pub budgets: SharedMap<Purse, u32>,
+    pub budgets: Table<Purse, u32>,
 }
 
 impl Tables {
-    ghost use Rattle.s4_types.specs.Lists.{fresh_lists};
+    ghost use Rattle.s4_base.specs.Lists.{fresh_lists};
     ghost use Rattle.s4_base.specs.Tables.{lists_of};
 
     /// Those of a fresh drive. Takes no memory.
@@ -43,14 +43,14 @@ impl Tables {
             floor: Moment::new(0),
             cut: Moment::new(0),
             count: 0,
-            objects: SharedMap::new(alloc),
-            names: SharedMap::new(alloc),
-            drawn: SharedMap::new(alloc),
-            budgets: SharedMap::new(alloc),
+            objects: Table::new(alloc),
+            names: Table::new(alloc),
+            drawn: Table::new(alloc),
+            budgets: Table::new(alloc),
         }
     }
 
-    /// Equal ones, or `NoMemory` where a growth was refused. They share what has settled.
+    /// Equal ones, or `NoMemory` where a growth was refused.
     pub fn copy(&self) -> Result<Tables, NoMemory>
         ensures { IfOk result (λ tables. lists_of tables ≡ lists_of self.now) }
     {
@@ -64,16 +64,5 @@ impl Tables {
             drawn: self.drawn.copy()?,
             budgets: self.budgets.copy()?,
         })
-    }
-
-    /// Settles what was followed, so that a copy takes little. Where memory is refused a part of it
-    /// has settled.
-    pub fn settle(&mut self) -> Result<(), NoMemory>
-        ensures { lists_of self.new ≡ lists_of self.old }
-    {
-        self.objects.settle()?;
-        self.names.settle()?;
-        self.drawn.settle()?;
-        self.budgets.settle()
     }
 }

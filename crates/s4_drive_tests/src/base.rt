@@ -1,17 +1,17 @@
 //! A base that follows a worked history, and what a cut of that history leaves.
 
-ghost use Rattle.std.specs.Prelude.{OnOk};
-ghost use Rattle.s4_types.specs.Lists.{base_of_lists};
+ghost use Rattle.std.specs.Prelude.{◌≡◌, IfOk, OnOk};
+ghost use Rattle.s4_base.specs.Lists.{base_of_lists};
 ghost use Rattle.s4_types.specs.Play.{InOrder};
 ghost use Rattle.s4_laws.specs.Bases.{IsBase};
 
 use crate::asked::{Asked, Row, Told, record};
 use crate::following::{are_in_order, are_plain, follow};
 use s4_base::{Base, count_before};
+use s4_queue::Queue;
 use s4_types::{Moment, Record, Refusal, Right};
 use s4_values_for_tests::{name, object, purse};
 use std::alloc::Global;
-use std::collections::VecDeque;
 use std::process::Abort;
 use std::test::Fail;
 
@@ -140,6 +140,18 @@ fn records(alloc: Global, rows: &[Row]) -> Result<Vec<Record>, Fail> {
     Ok(records)
 }
 
+/// The records in a queue.
+fn queued(alloc: Global, records: Vec<Record>) -> Result<Queue<Record>, Fail>
+    ensures { IfOk result (λ queue. queue.items ≡ records.items) }
+{
+    let mut queue = Queue::new(alloc);
+    for record in records {
+        queue.reserve(1)?;
+        queue.push(record);
+    }
+    Ok(queue)
+}
+
 /// What is left at 30 is told by a new base, and the old one tells what it told.
 fn check_after(rt: &impl Abort, alloc: Global, base: &Base) -> Result<(), Fail>
     requires { IsBase (base_of_lists base.now) }
@@ -149,7 +161,7 @@ fn check_after(rt: &impl Abort, alloc: Global, base: &Base) -> Result<(), Fail>
     assert!(rt; base.count() < 9);
     assert!(rt; are_in_order(base.cut(), records.as_slice()));
     assert!(rt; are_plain(records.as_slice()));
-    let records = VecDeque::from_vec(records);
+    let records = queued(alloc, records)?;
     ask(
         rt,
         &base.after(alloc, &records, Moment::new(30))?,
@@ -192,7 +204,7 @@ const FOUR: [Row; 4] = [
 /// How many of them are before a tick.
 const BEFORE: [(u64, usize); 6] = [(0, 0), (5, 0), (6, 1), (7, 3), (8, 3), (9, 4)];
 
-fn check_counts(rt: &impl Abort, records: &VecDeque<Record>)
+fn check_counts(rt: &impl Abort, records: &Queue<Record>)
     requires { InOrder 0 records.now.items }
 {
     for (tick, wanted) in BEFORE {
@@ -205,6 +217,6 @@ fn check_counts(rt: &impl Abort, records: &VecDeque<Record>)
 fn records_at_a_moment_are_not_before_it(rt: HostRuntime) -> Result<(), Fail> {
     let records = records(rt.alloc(), &FOUR)?;
     assert!(&rt; are_in_order(Moment::new(0), records.as_slice()));
-    check_counts(&rt, &VecDeque::from_vec(records));
+    check_counts(&rt, &queued(rt.alloc(), records)?);
     Ok(())
 }

@@ -13,7 +13,7 @@ use std::test::Fail;
 
 /// What principal 7 asks of its object 7.0.1 at a moment, what is answered, and what the horizon is
 /// then and purse 7.0 spends.
-struct Row(u64, Asked, Told, u64, u32);
+pub struct Row(pub u64, pub Asked, pub Told, pub u64, pub u32);
 
 /// With a window of 100 ticks an object is made, written and read.
 const READ: [Row; 5] = [
@@ -39,24 +39,8 @@ const SPENT: [Row; 5] = [
     Row(110, Asked::Read(0, 1, None), Told::Data(b"b"), 10, 0),
 ];
 
-/// What is asked of a drive with a window of 10 ticks, and how many records a cut at the horizon
-/// takes behind it.
-const CUT: [(Row, u64); 6] = [
-    (Row(5, Asked::Create, Told::Made, 0, 0), 0),
-    (Row(20, Asked::Write(0, b"a"), Told::Done, 10, 64), 1),
-    (Row(21, Asked::Write(0, b"bc"), Told::Done, 11, 129), 0),
-    (Row(40, Asked::Write(0, b"d"), Told::Done, 30, 66), 2),
-    (
-        Row(41, Asked::Read(0, 2, None), Told::Data(b"dc"), 31, 66),
-        0,
-    ),
-    (
-        Row(60, Asked::Read(0, 2, None), Told::Data(b"dc"), 50, 0),
-        2,
-    ),
-];
-
-fn fresh(alloc: Global, reads: &Cell<usize>, window: u64) -> Drive<Counting<'_>> {
+/// A fresh drive with a window of so many ticks.
+pub fn fresh(alloc: Global, reads: &Cell<usize>, window: u64) -> Drive<Counting<'_>> {
     let store = Counting {
         store: PlainStore::new(alloc),
         reads,
@@ -65,7 +49,7 @@ fn fresh(alloc: Global, reads: &Cell<usize>, window: u64) -> Drive<Counting<'_>>
 }
 
 /// That a drive's horizon and what the purse spends are as the row says, once it was asked.
-fn check_spent(rt: &impl Abort, drive: &Drive<Counting>, row: &Row) -> Result<(), Fail> {
+pub fn check_spent(rt: &impl Abort, drive: &Drive<Counting>, row: &Row) -> Result<(), Fail> {
     let purse = object((7, 0), 1)?.purse;
     let told = (drive.last(), drive.horizon(), drive.spent(&purse));
     let wanted = (Moment::new(row.0), Moment::new(row.3), row.4);
@@ -74,7 +58,7 @@ fn check_spent(rt: &impl Abort, drive: &Drive<Counting>, row: &Row) -> Result<()
 }
 
 /// That a drive answers as the row says, and looks into its store for what it reads.
-fn check_row(
+pub fn check_row(
     rt: &impl Abort,
     alloc: Global,
     drive: &mut Drive<Counting>,
@@ -194,25 +178,5 @@ fn a_flush_finds_the_values_of_its_span(rt: HostRuntime) -> Result<(), Fail> {
     assert_eq!(rt; told, reply(alloc, &object((7, 0), 1)?, &Told::Done)?);
     let looks = reads.get();
     assert!(rt; 0 < looks && looks <= 4 * (8 + 2), "{looks} looks");
-    Ok(())
-}
-
-/// That a cut at the horizon takes so many records, once it was prepared.
-fn check_cut(rt: &impl Abort, drive: &mut Drive<Counting>, wanted: u64) -> Result<(), Fail> {
-    let horizon = drive.horizon();
-    let base = drive.prepare_cut(horizon)?;
-    let went = drive.cut_to(horizon, base);
-    assert_eq!(rt; went, wanted, "at {}", horizon.tick());
-    Ok(())
-}
-
-#[test]
-fn a_cut_that_was_prepared_is_made(rt: HostRuntime) -> Result<(), Fail> {
-    let (alloc, reads) = (rt.alloc(), Cell::new(0));
-    let mut drive = fresh(alloc, &reads, 10);
-    for (row, went) in &CUT {
-        check_row(&rt, alloc, &mut drive, &reads, row)?;
-        check_cut(&rt, &mut drive, *went)?;
-    }
     Ok(())
 }

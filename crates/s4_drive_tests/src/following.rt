@@ -2,7 +2,7 @@
 
 ghost use Rattle.std.specs.Prelude.{◌≡◌, true, OnOk};
 ghost use Rattle.s4_types.specs.Base as bases;
-ghost use Rattle.s4_types.specs.Lists.{base_of_lists};
+ghost use Rattle.s4_base.specs.Lists.{base_of_lists};
 ghost use Rattle.s4_types.specs.Play.{InOrder};
 ghost use Rattle.s4_laws.specs.Bases.{IsBase};
 ghost use Rattle.s4_base.specs.Changes.{next_in, CanFollow, CanFollowAll};

@@ -12,6 +12,8 @@ mod base;
 #[cfg(test)]
 mod counting;
 #[cfg(test)]
+mod cuts;
+#[cfg(test)]
 mod drive;
 #[cfg(test)]
 mod following;

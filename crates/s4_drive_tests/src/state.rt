@@ -1,6 +1,7 @@
 //! A state without records. The calls on one with records are tried through the drive.
 
 ghost use Rattle.std.specs.Prelude.{◌≤◌};
+ghost use Rattle.s4_types.specs.Log.{horizon_in};
 ghost use Rattle.s4_types.specs.Play.{last_of};
 ghost use Rattle.s4_state.specs.Told.{IsTold};
 
@@ -12,7 +13,9 @@ use std::process::Abort;
 use std::test::Fail;
 
 /// Object 7.0.1 was never made, and nothing was asked.
-fn check_object(rt: &impl Abort, state: &State<PlainStore<Version>>) -> Result<(), Fail> {
+fn check_object(rt: &impl Abort, state: &State<PlainStore<Version>>) -> Result<(), Fail>
+    requires { horizon_in state.now ≤ 0 }
+{
     let (caller, object) = (caller(7)?, object((7, 0), 1)?);
     assert_eq!(rt; state.next_object(&object.purse), Some(object));
     assert!(rt; !state.has_name(&object));

@@ -1,4 +1,4 @@
-use Rattle.s4_types.specs.Lists.{base_of_lists}
+use Rattle.s4_base.specs.Lists.{base_of_lists}
 use Rattle.s4_laws.specs.Bases.{IsBase}
 use Rattle.s4_drive_tests.proofs.base.follow_history.Given as goal
 

@@ -1,5 +1,5 @@
 use Rattle.std.proofs.Common.{◌≤◌, rules}
-use Rattle.s4_types.specs.Lists.{base_of_lists}
+use Rattle.s4_base.specs.Lists.{base_of_lists}
 use Rattle.s4_drive_tests.proofs.Follows.{next-base}
 use Rattle.s4_drive_tests.proofs.following.follow.Goals as goal
 

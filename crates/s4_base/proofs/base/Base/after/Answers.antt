@@ -1,7 +1,7 @@
 use Rattle.std.proofs.Common.{take, sym, ◌∙◌, subst, arith}
 use Rattle.s4_types.specs.Play.{InOrder, UpTo}
 use Rattle.s4_base.specs.Changes.{CanFollowAll}
-use Rattle.s4_types.specs.Lists.{base_of_lists}
+use Rattle.s4_base.specs.Lists.{base_of_lists}
 use Rattle.s4_base.proofs.Turning.{order-up}
 use Rattle.s4_base.proofs.Cuts.{before-last, before-order, before-fits}
 use Rattle.s4_base.proofs.base.Base.after.Goals as goal

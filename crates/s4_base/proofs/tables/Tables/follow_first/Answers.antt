@@ -1,5 +1,5 @@
-use Rattle.std.proofs.Common.{◌≡◌, ◌+◌, ◌<◌, ◌≤◌, ℕ, zero, suc, List, [], drop, take, length, ◌∷◌, get_or, refl, sym, ◌∙◌, ap, arith, length-take}
-use Rattle.std.proofs.lemmas.List.{drop_more, drop_all}
+use Rattle.std.proofs.Common.{◌≡◌, ◌+◌, ◌<◌, ◌≤◌, ℕ, zero, suc, List, [], drop, take, length, ◌∷◌, get_or, sym, ◌∙◌, ap, arith, length-take}
+use Rattle.std.proofs.lemmas.List.{drop_all}
 use Rattle.s4_types.specs.declared.record.Record.{Record}
 use Rattle.s4_base.specs.Tables.{base_in, lists_of}
 use Rattle.s4_base.proofs.Going.{goes-first, next-fits, goes-next, goes-done}

@@ -1,0 +1,7 @@
+//! A drive that can tell as a value what the records before a moment leave (docs/MODEL.md, "Histories
+//! that are cut").
+#![tactic(auto)]
+
+mod drive;
+
+pub use drive::Drive;
