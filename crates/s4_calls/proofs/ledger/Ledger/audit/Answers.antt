@@ -1,0 +1,10 @@
+use Rattle.std.proofs.Common.{ap, sym, ◌∙◌}
+use Rattle.s4_calls.specs.Tokens.{Known}
+use Rattle.s4_calls.proofs.Moves.{learns}
+use Rattle.s4_calls.proofs.ledger.Ledger.audit.Goals as goal
+
+pub load-requires : goal.load-requires
+load-requires g c =
+    let ledger = ap (λ (k : Known g.row.T.Denot). k.ledger) c.token.view_is ∙ (c.requires.ledger ∙ sym c.self.view_is) in
+    let hands = ap (λ (k : Known g.row.T.Denot). k.hands) c.token.view_is in
+    (ledger, c.self.invariant.0, learns _ _ _ _ _ _ _)
