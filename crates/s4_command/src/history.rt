@@ -38,6 +38,8 @@ pub struct History {
     pub to: Option<Time>,
     /// Of which records a list tells.
     pub records: Records,
+    /// Whether a list goes on while its start does.
+    pub follows: bool,
     /// The paths of files of sums that were kept, which a check looks for.
     pub sums: Vec<String>,
 }

@@ -1,6 +1,6 @@
 //! The words of a history.
 
-use crate::parser::{CSV, FOLDER, FROM, JSON, SUM, SUMS, TELLING, TO};
+use crate::parser::{CSV, FOLDER, FOLLOW, FROM, JSON, SUM, SUMS, TELLING, TO};
 use crate::selecting::{records, starts, time, unwanted};
 use crate::times::time_in;
 use clap::ArgMatches;
@@ -19,6 +19,7 @@ pub fn history(alloc: Global, words: &ArgMatches) -> Result<Command, WordsFault>
              For more information, try '--help'.",
         ));
     }
+    let follows = follows(alloc, words, starts)?;
     let (from, to) = (time(alloc, words, FROM)?, time(alloc, words, TO)?);
     if is_behind(words) {
         return Err(WordsFault::wrong(
@@ -34,8 +35,22 @@ pub fn history(alloc: Global, words: &ArgMatches) -> Result<Command, WordsFault>
         from,
         to,
         records: records(alloc, words)?,
+        follows,
         sums: sums(alloc, words)?,
     }))
+}
+
+/// Whether the list goes on while its start does, which has to be one, and without a last time.
+fn follows(alloc: Global, words: &ArgMatches, starts: Option<Starts>) -> Result<bool, WordsFault> {
+    let follows = words.get_flag(FOLLOW);
+    if follows && (words.get_str(TO).is_some() || starts == Some(Starts::All)) {
+        return Err(WordsFault::wrong(
+            alloc,
+            "error: the argument '--follow' cannot be used with '--to' or '--start all'\n\n\
+             For more information, try '--help'.",
+        ));
+    }
+    Ok(follows)
 }
 
 /// The paths of files of sums.

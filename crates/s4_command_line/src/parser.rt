@@ -128,6 +128,8 @@ pub const JSON: &str = "json";
 
 pub const CSV: &str = "csv";
 
+pub const FOLLOW: &str = "follow";
+
 /// The flags that choose the records of a list.
 pub const WHO_ASKED: &str = "who";
 
@@ -518,11 +520,12 @@ fn history_parser<'a>(alloc: Global) -> Result<Parser<'a>, AllocError> {
         .arg(wanted(alloc, TELLING, "What is told: list, script or check"))?
         .arg(wanted(alloc, FOLDER, "The folder of the journals"))?;
     let parser = with_flags_of_starts(alloc, parser)?;
+    let parser = with_flags_of_lists(alloc, parser)?;
     let parser = with_flags_of_callers(alloc, parser)?;
     with_flags_of_requests(alloc, parser)
 }
 
-/// Adds the flags that say of which starts and which times is told, and how.
+/// Adds the flags that say of which starts and which times is told, and which sums have to be there.
 fn with_flags_of_starts<'a>(alloc: Global, parser: Parser<'a>) -> Result<Parser<'a>, AllocError> {
     let start = Arg::new(alloc, START).long(START).value_name("N").help(
         "The number of the start, or all; else the newest, or all for check",
@@ -552,14 +555,24 @@ fn with_flags_of_starts<'a>(alloc: Global, parser: Parser<'a>) -> Result<Parser<
         "Sums that check has to find, lines START BYTES HEX as serve adds them; may be given again",
     );
     let sums = sums.action(ArgAction::Append);
+    let parser = parser.arg(start)?.arg(from)?.arg(to)?;
+    parser.arg(sum)?.arg(sums)
+}
+
+/// Adds the flags that say how a list is written.
+fn with_flags_of_lists<'a>(alloc: Global, parser: Parser<'a>) -> Result<Parser<'a>, AllocError> {
     let json = set(
         alloc,
         JSON,
         "The list has lines of JSON, with connections and peers",
     );
     let csv = set(alloc, CSV, "The list has lines of CSV, with the same");
-    let parser = parser.arg(start)?.arg(from)?.arg(to)?;
-    parser.arg(sum)?.arg(sums)?.arg(json)?.arg(csv)
+    let follow = set(
+        alloc,
+        FOLLOW,
+        "The list goes on while the start does, and its records have no numbers",
+    );
+    parser.arg(json)?.arg(csv)?.arg(follow)
 }
 
 /// Adds the flags that choose records by whom they came from.

@@ -1,8 +1,8 @@
 //! The words that say of which records is told.
 
 use crate::parser::{
-    CHANGES, CLIENT_ASKED, CONNECTION, CSV, FROM, JSON, OBJECT, PEER, READS, REFUSED, START, TO,
-    VERB, WHO_ASKED,
+    CHANGES, CLIENT_ASKED, CONNECTION, CSV, FOLLOW, FROM, JSON, OBJECT, PEER, READS, REFUSED,
+    START, TO, VERB, WHO_ASKED,
 };
 use crate::times::time_in;
 use clap::ArgMatches;
@@ -36,10 +36,10 @@ const VERBS: [&str; 20] = [
     "audit",
 ];
 
-/// The flags with a value, and those without, that choose the records of a list.
+/// The flags with a value, and those without, that are for a list alone.
 const VALUES: [&str; 6] = [WHO_ASKED, CLIENT_ASKED, CONNECTION, PEER, OBJECT, VERB];
 
-const FLAGS: [&str; 5] = [REFUSED, CHANGES, READS, JSON, CSV];
+const FLAGS: [&str; 6] = [REFUSED, CHANGES, READS, JSON, CSV, FOLLOW];
 
 /// A flag that isn't for what is told, which is no list, and for what it is.
 pub fn unwanted(words: &ArgMatches, telling: Telling) -> Option<(&'static str, &'static str)> {

@@ -84,7 +84,7 @@ fn carry_out<
         Command::Check(service) => check_at(system, files, service, output)?,
         Command::Call(call) => call_at(system, system.alloc(), call, output)?,
         Command::Ask(asking) => ask_lines(system, files, asking, input, output)?,
-        Command::History(history) => tell_history(files, history, output)?,
+        Command::History(history) => tell_history(system, files, history, output)?,
     }
     Ok(())
 }
