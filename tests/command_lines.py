@@ -17,6 +17,7 @@ ANY_NUMBER = "a number from 0 to 18446744073709551615"
 NO_TIME = f"it isn't {ANY_NUMBER}, or a time as 2026-11-29T10:03"
 NO_PEER = "invalid value for '--peer <ADDRESS>': it isn't an IP address, or one with a port as 127.0.0.1:4710"
 NO_OBJECT = "invalid value for '--object <OBJECT>': it isn't an object as 7.0.1, a purse as 7.0, or a principal as 7"
+NO_FOLLOW = "the argument '--follow' cannot be used with '--to' or '--start all'"
 NO_CHANGES = "the argument '--changes' cannot be used with '--refused' or '--reads'"
 
 
@@ -69,6 +70,10 @@ FLAGS = {
     "history|script|kept|--start|all": "a script is of one start, and '--start all' names all",
     "history|check|kept|--json": "the argument '--json' cannot be used but with 'list'",
     "history|script|kept|--csv": "the argument '--csv' cannot be used but with 'list'",
+    "history|script|kept|--follow": "the argument '--follow' cannot be used but with 'list'",
+    "history|check|kept|--follow": "the argument '--follow' cannot be used but with 'list'",
+    "history|list|kept|--follow|--to|7": NO_FOLLOW,
+    "history|list|kept|--start|all|--follow": NO_FOLLOW,
     "history|list|kept|--csv|--json": "the argument '--csv' cannot be used with '--json'",
     "history|script|kept|--who|7": "the argument '--who' cannot be used but with 'list'",
     "history|check|kept|--client|7": "the argument '--client' cannot be used but with 'list'",

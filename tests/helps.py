@@ -174,6 +174,7 @@ Options:
       --sums <FILE>      Sums that check has to find, lines START BYTES HEX as serve adds them; may be given again
       --json             The list has lines of JSON, with connections and peers
       --csv              The list has lines of CSV, with the same
+      --follow           The list goes on while the start does, and its records have no numbers
       --who <WHO>        The list has what this principal asked
       --client <N>       The list has what was asked as this client
       --connection <N>   The list has what came by the connection of this number
