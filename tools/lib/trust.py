@@ -89,8 +89,8 @@ class Specs:
                 continue
             if code.startswith("infix"):
                 name = code.split()[-1]
-            elif code[0] not in " (":
-                name = HEAD.match(code)[1]
+            elif code[0] not in " (" or re.match(r" +(?:abbrev |pub record |pub data )", code):
+                name = HEAD.match(code.lstrip())[1]
             self.lines[module, name].append(code)
 
     def cited(self, names, text):
