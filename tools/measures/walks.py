@@ -1,7 +1,7 @@
 """Counts what requests walk: the instructions of the processor that one of each kind takes in a drive that holds little and in one that holds much, by callgrind.
 
   ./check measure walks          each kind of request, asked by a script of a drive with a few objects, values, names and records, and of one with many.
-                                 What a line takes that asks for nothing is left out. Fails where the second is more than three times the first
+                                 Only the drive's step is counted, not its line. Fails where the second is more than three times the first
   ./check measure walks WORD..   the kinds whose names have such a word
       --few N            so many objects, names and values of one object, and three times as many records and more; else 16
       --many N           the same of the drive that holds much; else 8000
@@ -20,21 +20,18 @@ from tools.lib.worlds import ASKED, World, kinds
 OPTIONS = Options(numbers={"few": 16, "many": 8000}, texts=("program",), words="WORD")
 MOST = 3.0
 COLLECTED = re.compile(rb"Collected\s*:\s*(\d+)")
+# What is counted: the function by which a drive answers one request.
+STEP = "s4_drive::drive::Drive::step::*"
 
 
 def counted(valgrind, program, lines):
-    """The instructions that the program takes for a script, and what it writes."""
+    """The instructions that a drive takes for the requests of a script, and what the program writes."""
     script = "".join(f"{it}\n" for it in lines).encode()
-    ended = run_program(valgrind, ("--tool=callgrind", "--callgrind-out-file=/dev/null", program, "run"), script)
+    ended = run_program(valgrind, ("--tool=callgrind", "--callgrind-out-file=/dev/null", f"--toggle-collect={STEP}", program, "run"), script)
     found = COLLECTED.search(ended.err)
-    if ended.status or found is None:
-        raise Wrong(f"it ends with the status {ended.status}: {ended.err[-200:].decode(errors='replace')}")
+    if ended.status or found is None or int(found[1]) == 0:
+        raise Wrong(f"nothing is counted of {STEP}; it ends with the status {ended.status}: {ended.err[-200:].decode(errors='replace')}")
     return int(found[1]), ended.out
-
-
-def idle():
-    """Lines that ask for nothing."""
-    return ["sweep 0"] * ASKED
 
 
 class Counts:
@@ -43,7 +40,7 @@ class Counts:
     def __init__(self, valgrind, program, size):
         self.counted = lambda lines: counted(valgrind, program, lines)
         self.world = list(World(size).lines())
-        self.filled, self.said = self.counted([*self.world, *idle()])
+        self.filled, self.said = self.counted(self.world)
         self.kinds = {it.name: it for it in kinds(size)}
 
     def of_one(self, name):
