@@ -8,7 +8,7 @@ use lib.ListN.{get_elem?}
 use Rattle.atomic_table.proofs.Lists.{at_set, at_snoc}
 use Rattle.s4_calls.specs.declared.hand.Hand.{Hand}
 use Rattle.s4_calls.specs.Logs.{IsSublist}
-use Rattle.s4_calls.specs.Hands.{total, flat, parts_of, Each, HaveParts}
+use Rattle.s4_calls.specs.Hands.{total, flat, parts_of, shares_of, calls_of, Each, HaveParts, AreBareWithoutParts}
 
 pub total_set : {A : Type 0} (f : A → ℕ) (xs : List A) (id : ℕ) (v w : A) → get_elem? xs id ≡ some v → total f (set xs id w) + f v ≡ total f xs + f w
 total_set f [] id v w at = absurd (some-ne-none v (sym at))
@@ -93,24 +93,36 @@ module _ {T : Type 0} where
       (λ (new : w ≡ u). subst P new mine)
       (at_snoc views w u j at)
 
-  -- hands without a part are none
-  none_of : (hands : List (Hand T)) → HaveParts hands → parts_of hands ≡ 0 → hands ≡ []
-  none_of [] held none = refl
-  none_of (h ∷ hands) held none = absurd (omega (arith, held.0, none))
+  -- who has parts is not bare
+  pub bare_none : (hands : List (Hand T)) → HaveParts hands → AreBareWithoutParts hands
+  bare_none hands held = each_then _ _ (λ h some_part none. absurd (omega (arith, some_part, none))) hands held
 
-  nothing : {X : Type 0} (f : List (Hand T) → List X) → f [] ≡ [] → (views : List (List (Hand T))) → AreAll HaveParts views → total parts_of views ≡ 0 → flat f views ≡ []
+  -- hands without a part stand for no cell, and have no call
+  pub no_shares : (hands : List (Hand T)) → AreBareWithoutParts hands → parts_of hands ≡ 0 → shares_of hands ≡ 0
+  no_shares [] held none = refl
+  no_shares (h ∷ hands) held none = let e = (held.0 (omega (arith, none))).0 in let i = no_shares hands held.1 (omega (arith, none)) in omega arith
+
+  pub no_calls : (hands : List (Hand T)) → AreBareWithoutParts hands → parts_of hands ≡ 0 → calls_of hands ≡ []
+  no_calls [] held none = refl
+  no_calls (h ∷ hands) held none = ap (λ l. l ++ calls_of hands) (held.0 (omega (arith, none))).1 ∙ no_calls hands held.1 (omega (arith, none))
+
+  -- such that hands without a part have nothing
+  abbrev pub NeedsParts : {B : Type 0} → (List (Hand T) → B) → B → Type 0
+  NeedsParts f nil = (hands : List (Hand T)) → AreBareWithoutParts hands → parts_of hands ≡ 0 → f hands ≡ nil
+
+  nothing : {X : Type 0} (f : List (Hand T) → List X) → NeedsParts f [] → (views : List (List (Hand T))) → AreAll AreBareWithoutParts views → total parts_of views ≡ 0 → flat f views ≡ []
   nothing f nil [] held none = refl
   nothing f nil (hands ∷ views) held none =
-      ap (λ l. f l ++ flat f views) (none_of hands (held 0 hands refl) (omega (arith, none)))
-      ∙ (ap (λ l. l ++ flat f views) nil ∙ nothing f nil views (λ j u at. held (suc j) u at) (omega (arith, none)))
+      ap (λ l. l ++ flat f views) (nil hands (held 0 hands refl) (omega (arith, none)))
+      ∙ nothing f nil views (λ j u at. held (suc j) u at) (omega (arith, none))
 
   pub there : (f : List (Hand T) → ℕ) (views : List (List (Hand T))) (id : ℕ) (v : List (Hand T)) → get_elem? views id ≡ some v → f v ≤ total f views
   there f [] id v at = absurd (some-ne-none v (sym at))
   there f (x ∷ views) zero v at = let p = ap f (some-injective x v at) in omega arith
   there f (x ∷ views) (suc id) v at = let h = there f views id v at in omega arith
 
-  -- where one token has every part, the others know nothing
-  pub alone : {X : Type 0} (f : List (Hand T) → List X) → f [] ≡ [] → (views : List (List (Hand T))) (id : ℕ) (v : List (Hand T)) → get_elem? views id ≡ some v → AreAll HaveParts views → total parts_of views ≤ parts_of v → flat f views ≡ f v
+  -- where one token has every part, the others have nothing that needs parts
+  pub alone : {X : Type 0} (f : List (Hand T) → List X) → NeedsParts f [] → (views : List (List (Hand T))) (id : ℕ) (v : List (Hand T)) → get_elem? views id ≡ some v → AreAll AreBareWithoutParts views → total parts_of views ≤ parts_of v → flat f views ≡ f v
   alone f nil [] id v at held all = absurd (some-ne-none v (sym at))
   alone f nil (x ∷ views) zero v at held all =
       let same = some-injective x v at in
@@ -118,17 +130,17 @@ module _ {T : Type 0} where
       ap (λ l. f x ++ l) (nothing f nil views (λ j u a. held (suc j) u a) (omega (arith, all, p))) ∙ (append-nil (f x) ∙ ap f same)
   alone f nil (x ∷ views) (suc id) v at held all =
       let t = there parts_of views id v at in
-      ap (λ l. f l ++ flat f views) (none_of x (held 0 x refl) (omega (arith, all, t)))
-      ∙ (ap (λ l. l ++ flat f views) nil ∙ alone f nil views id v at (λ j u a. held (suc j) u a) (omega (arith, all)))
+      ap (λ l. l ++ flat f views) (nil x (held 0 x refl) (omega (arith, all, t)))
+      ∙ alone f nil views id v at (λ j u a. held (suc j) u a) (omega (arith, all))
 
-  nothing_total : (f : List (Hand T) → ℕ) → f [] ≡ 0 → (views : List (List (Hand T))) → AreAll HaveParts views → total parts_of views ≡ 0 → total f views ≡ 0
+  nothing_total : (f : List (Hand T) → ℕ) → NeedsParts f 0 → (views : List (List (Hand T))) → AreAll AreBareWithoutParts views → total parts_of views ≡ 0 → total f views ≡ 0
   nothing_total f nil [] held none = refl
   nothing_total f nil (hands ∷ views) held none =
-      let e = ap f (none_of hands (held 0 hands refl) (omega (arith, none))) in
+      let e = nil hands (held 0 hands refl) (omega (arith, none)) in
       let i = nothing_total f nil views (λ j u at. held (suc j) u at) (omega (arith, none)) in
-      omega (arith, nil)
+      omega arith
 
-  pub alone_total : (f : List (Hand T) → ℕ) → f [] ≡ 0 → (views : List (List (Hand T))) (id : ℕ) (v : List (Hand T)) → get_elem? views id ≡ some v → AreAll HaveParts views → total parts_of views ≤ parts_of v → total f views ≡ f v
+  pub alone_total : (f : List (Hand T) → ℕ) → NeedsParts f 0 → (views : List (List (Hand T))) (id : ℕ) (v : List (Hand T)) → get_elem? views id ≡ some v → AreAll AreBareWithoutParts views → total parts_of views ≤ parts_of v → total f views ≡ f v
   alone_total f nil [] id v at held all = absurd (some-ne-none v (sym at))
   alone_total f nil (x ∷ views) zero v at held all =
       let same = some-injective x v at in
@@ -138,9 +150,9 @@ module _ {T : Type 0} where
       omega arith
   alone_total f nil (x ∷ views) (suc id) v at held all =
       let t = there parts_of views id v at in
-      let e = ap f (none_of x (held 0 x refl) (omega (arith, all, t))) in
+      let e = nil x (held 0 x refl) (omega (arith, all, t)) in
       let i = alone_total f nil views id v at (λ j u a. held (suc j) u a) (omega (arith, all)) in
-      omega (arith, nil)
+      omega arith
 
   -- where one token has all of a number, the others have none of it
   pub elsewhere : (f : List (Hand T) → ℕ) (views : List (List (Hand T))) (id : ℕ) (v : List (Hand T)) → get_elem? views id ≡ some v → total f views ≤ f v

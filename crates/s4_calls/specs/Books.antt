@@ -1,4 +1,4 @@
--- The books of cells.
+-- The books of cells, and their readers.
 use Rattle.std.specs.Prelude.{◌≡◌, ℕ, ◌+◌, ◌<◌, List, [], ◌∷◌, ◌++◌, length, slice_index_or}
 use Rattle.s4_calls.specs.declared.hand.Hand.{Hand}
 use Rattle.s4_calls.specs.declared.hand.Noted.{Noted}
@@ -7,6 +7,11 @@ use Rattle.s4_calls.specs.Tokens.{IsRow}
 
 -- the cell's number, and all items that were ever recorded there
 pub record BookState (T : Type 0) : Type 0 where
+  pub cell : ℕ
+  pub items : List T
+
+-- the cell's number, and what the reader knows of it
+pub record ReaderState (T : Type 0) : Type 0 where
   pub cell : ℕ
   pub items : List T
 

@@ -1,5 +1,5 @@
 -- What tokens know of calls, and how that changes.
-use Rattle.std.specs.Prelude.{ℕ, ◌+◌, ◌-◌, ◌<◌, ◌==◌, ◌&&◌, nat_le, nat_lt, List, [], ◌∷◌, ◌++◌, length, cond, ⊤, Option, None, Some}
+use Rattle.std.specs.Prelude.{◌≡◌, ℕ, ◌+◌, ◌-◌, ◌<◌, ◌==◌, ◌&&◌, nat_le, nat_lt, List, [], ◌∷◌, ◌++◌, length, cond, ⊤, Option, None, Some}
 use Rattle.s4_calls.specs.declared.hand.Hand.{Hand}
 use Rattle.s4_calls.specs.declared.hand.Noted.{Noted}
 use Rattle.s4_calls.specs.Logs.{noted}
@@ -26,6 +26,10 @@ module _ {T : Type 0} where
   abbrev pub of_pass : List (Noted T) → Hand T
   of_pass calls = hand 1 0 0 [] calls
 
+  -- of one who reads a cell: it has no part, stands for no cell, and notes no call
+  abbrev pub of_reader : ℕ → List T → Hand T
+  of_reader cell items = hand 0 0 cell items []
+
   abbrev pub parts_of : List (Hand T) → ℕ
   parts_of hands = total (λ (h : Hand T). h.parts) hands
 
@@ -50,6 +54,10 @@ module _ {T : Type 0} where
   -- each hand has a part
   abbrev pub HaveParts : List (Hand T) → Type 0
   HaveParts hands = Each (λ (h : Hand T). 0 < h.parts) hands
+
+  -- a hand without a part, as a reader's, stands for no cell and has no call
+  abbrev pub AreBareWithoutParts : List (Hand T) → Type 0
+  AreBareWithoutParts hands = Each (λ (h : Hand T). h.parts ≡ 0 → (h.shares ≡ 0) × (h.calls ≡ [])) hands
 
   -- the first hand, and the others
   abbrev pub first : List (Hand T) → List (Hand T)
@@ -118,3 +126,23 @@ module _ {T : Type 0} where
   abbrev pub left_by_pass : List (Hand T) → List (Hand T)
   left_by_pass [] = []
   left_by_pass (h ∷ hands) = hand (h.parts - 1) h.shares h.cell h.items h.calls ∷ hands
+
+  -- what a cut gives to a reader of the first hand's cell, and it leaves all as it was
+  abbrev pub reader_cut : List (Hand T) → List (Hand T)
+  reader_cut [] = []
+  reader_cut (h ∷ hands) = of_reader h.cell [] ∷ []
+
+  -- READERS
+
+  -- these items in place of those that a hand knew
+  abbrev pub with_items : List T → Hand T → Hand T
+  with_items items h = hand h.parts h.shares h.cell items h.calls
+
+  -- the second hand knows what the first does
+  abbrev pub followed_by : Hand T → List (Hand T) → List (Hand T)
+  followed_by h [] = h ∷ []
+  followed_by h (reader ∷ hands) = h ∷ with_items h.items reader ∷ hands
+
+  abbrev pub followed : List (Hand T) → List (Hand T)
+  followed [] = []
+  followed (h ∷ hands) = followed_by h hands

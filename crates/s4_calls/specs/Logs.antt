@@ -1,5 +1,5 @@
 -- Logs of calls: of which cells their items are, and at which places they stand there.
-use Rattle.std.specs.Prelude.{◌≡◌, ◌⊎◌, ℕ, ◌+◌, ◌<◌, ◌%◌, ◌==◌, ◌||◌, slice_get, slice_index, Bool, true, List, [], ◌∷◌, ◌++◌, length, map, filter, cond, ⊤, Some}
+use Rattle.std.specs.Prelude.{◌≡◌, ◌⊎◌, ℕ, ◌+◌, ◌<◌, ◌%◌, ◌==◌, ◌||◌, slice_get, slice_index, Bool, true, List, [], ◌∷◌, ◌++◌, length, drop, map, filter, cond, ⊤, Some}
 use Rattle.s4_calls.specs.declared.hand.Noted.{Noted}
 
 -- the second list has all of the first, in its order, and may have others between
@@ -7,6 +7,10 @@ abbrev pub IsSublist : {A : Type 0} → List A → List A → Type 0
 IsSublist [] ys = ⊤
 IsSublist (x ∷ xs) [] = ⊥
 IsSublist (x ∷ xs) (y ∷ ys) = ((x ≡ y) × IsSublist xs ys) ⊎ IsSublist (x ∷ xs) ys
+
+-- the second list begins with the first
+abbrev pub IsPrefix : {A : Type 0} → List A → List A → Type 0
+IsPrefix xs ys = ys ≡ xs ++ drop (length xs) ys
 
 module _ {T : Type 0} where
   abbrev pub noted : ℕ → ℕ → T → Noted T

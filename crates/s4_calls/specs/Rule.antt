@@ -2,8 +2,8 @@
 use Rattle.std.specs.Prelude.{◌≡◌, ℕ, ◌+◌, ◌<◌, ◌≤◌, Bool, List, [], IsPermutation}
 use Rattle.s4_calls.specs.declared.hand.Hand.{Hand}
 use Rattle.s4_calls.specs.declared.hand.Noted.{Noted}
-use Rattle.s4_calls.specs.Logs.{IsSublist, items_of, items_in, ArePlaced}
-use Rattle.s4_calls.specs.Hands.{total, flat, parts_of, shares_of, owners, calls_of, Each, HaveParts}
+use Rattle.s4_calls.specs.Logs.{IsSublist, IsPrefix, items_of, items_in, ArePlaced}
+use Rattle.s4_calls.specs.Hands.{total, flat, parts_of, shares_of, owners, calls_of, Each, AreBareWithoutParts}
 use mathlib.Core.Option.{some}
 use lib.ListN.{get_elem?}
 
@@ -20,6 +20,13 @@ module _ {T : Type 0} where
     abbrev pub HaveItems : List (Noted T) → List (Hand T) → Type 0
     HaveItems log hands = Each (HasItems log) hands
 
+    -- what a hand knows that stands for no cell is a beginning of the log's items of its cell
+    abbrev pub HasPrefix : List (Noted T) → Hand T → Type 0
+    HasPrefix log h = h.shares ≡ 0 → IsPrefix h.items (items_in is_wide range n h.cell (items_of log))
+
+    abbrev pub HavePrefixes : List (Noted T) → List (Hand T) → Type 0
+    HavePrefixes log hands = Each (HasPrefix log) hands
+
     -- There is one log, a linearization of all calls that these hands know. It has their calls and no others, those of each hand in
     -- their order. Each call names its cell and its place there, and the items of each cell are the log's items of that cell
     pub record IsLinearized (hands : List (Hand T)) : Type 0 where
@@ -34,9 +41,10 @@ module _ {T : Type 0} where
       pub parts : total parts_of views ≡ 64
       pub shares : total shares_of views ≡ n
       pub once : (k : ℕ) → total (owners k) views ≤ 1
-      pub held : (id : ℕ) (hands : List (Hand T)) → get_elem? views id ≡ some hands → HaveParts hands
+      pub held : (id : ℕ) (hands : List (Hand T)) → get_elem? views id ≡ some hands → AreBareWithoutParts hands
       pub log : List (Noted T)
       pub placed : ArePlaced is_wide range n [] log
       pub even : IsPermutation log (flat calls_of views)
       pub order : (id : ℕ) (hands : List (Hand T)) → get_elem? views id ≡ some hands → AreSublists log hands
       pub items : (id : ℕ) (hands : List (Hand T)) → get_elem? views id ≡ some hands → HaveItems log hands
+      pub known : (id : ℕ) (hands : List (Hand T)) → get_elem? views id ≡ some hands → HavePrefixes log hands

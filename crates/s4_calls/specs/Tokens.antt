@@ -2,6 +2,7 @@
 use Rattle.std.specs.Prelude.{◌≡◌, ℕ, zero, suc, ◌<◌, ◌%◌, Bool, false, List, [], ◌∷◌, ⊤, Option, None, Some}
 use Rattle.atomic_table.specs.Seated.{TableId}
 use Rattle.s4_calls.specs.declared.hand.Hand.{Hand}
+use Rattle.s4_calls.specs.Logs.{IsPrefix}
 
 -- stands where no front is named
 abbrev pub no_ledger : TableId
@@ -43,3 +44,15 @@ module _ {T : Type 0} where
   abbrev pub ToldIs : (T → Bool) → Bool → Option T → Type 0
   ToldIs is_wide wide None = ⊤
   ToldIs is_wide wide (Some x) = is_wide x ≡ wide
+
+  -- the first hand is a cell's, and the second that of a reader of the cell
+  abbrev pub CanFollow : List (Hand T) → Type 0
+  CanFollow [] = ⊥
+  CanFollow (h ∷ []) = ⊥
+  CanFollow (h ∷ reader ∷ hands) = (h.shares ≡ 1) × (reader.shares ≡ 0) × (reader.parts ≡ 0) × (reader.cell ≡ h.cell)
+
+  -- what the second hand knows is a beginning of what the first does
+  abbrev pub SecondIsPrefix : List (Hand T) → Type 0
+  SecondIsPrefix [] = ⊤
+  SecondIsPrefix (h ∷ []) = ⊤
+  SecondIsPrefix (h ∷ reader ∷ hands) = IsPrefix reader.items h.items

@@ -53,11 +53,12 @@ pub struct Noted<T> {
 }
 
 /// What one who takes part knows: a cell all items that were ever recorded there, a pass all calls that
-/// were ever made with it. No value of it is made.
+/// were ever made with it, and a reader a beginning of what a cell recorded. No value of it is made.
 pub struct Hand<T> {
-    /// How many of the 64 parts of the ledger it has. Who has all of them knows all calls.
+    /// How many of the 64 parts of the ledger it has. Who has all of them knows all calls. A reader has
+    /// none.
     pub parts: u64,
-    /// For how many cells it stands: one is a cell's, none a pass's.
+    /// For how many cells it stands: one is a cell's, none a pass's or a reader's.
     pub shares: u64,
     /// The number of the first of these cells.
     pub cell: u64,
@@ -70,8 +71,9 @@ pub struct Hand<T> {
 /// What a token knows: one hand, or the hands of those that it took in, the last one first.
 pub type Hands<T> = LinkedList<Hand<T>>;
 
-/// There is one log of all calls: it has the calls of each hand in their order and no others, and what
-/// a cell recorded are the log's items of that cell. The key is how many cells there are.
+/// There is one log of all calls: it has the calls of each hand in their order and no others, what a
+/// cell recorded are the log's items of that cell, and what a reader knows is a beginning of these. The
+/// key is how many cells there are.
 pub struct OneLog;
 
 impl<T: Item> TableRule<(), Hands<T>, usize> for OneLog {
@@ -115,6 +117,18 @@ impl<T: Item> Play<(), Hands<T>> for Learns {
 
     ghost then = { λ _ me _ after. (after ≡ me)
         × (64 ≤ parts_of me.0 → IsLinearized T.is_wide T.range (shares_of me.0) me.0) };
+}
+
+/// The second hand, a reader's, knows what the first does, a cell's, and that this begins with what it
+/// knew before.
+pub struct Follows;
+
+impl<T: Item> Play<(), Hands<T>> for Follows {
+    ghost use Rattle.std.specs.Prelude.{◌≡◌};
+    ghost use Rattle.s4_calls.specs.Hands.{followed};
+    ghost use Rattle.s4_calls.specs.Tokens.{SecondIsPrefix};
+
+    ghost then = { λ _ me _ after. (after ≡ (followed me.0, me.1)) × SecondIsPrefix me.0 };
 }
 
 /// Another token's hands are taken in.
@@ -170,4 +184,15 @@ impl<T> Split<Hands<T>> for CutsPass {
     ghost left = { left_by_pass };
 
     ghost right = { pass_cut };
+}
+
+/// A hand for a reader of the first hand's cell is cut off, with no part.
+pub struct CutsReader;
+
+impl<T> Split<Hands<T>> for CutsReader {
+    ghost use Rattle.s4_calls.specs.Hands.{reader_cut};
+
+    ghost left = { λ hands. hands };
+
+    ghost right = { reader_cut };
 }

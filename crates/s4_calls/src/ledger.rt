@@ -1,13 +1,13 @@
 //! Ledgers and their tokens.
 
 ghost use Rattle.std.specs.Prelude.{◌≡◌, ◌<◌, ◌≤◌, true, [], ◌∷◌, ◌++◌, Some, IfOk};
-ghost use Rattle.s4_calls.specs.Hands.{fresh, first, rest, noted_in, told_in, widened, told_to_all, cell_cut, left_by_cell, pass_cut, left_by_pass, parts_of, shares_of};
+ghost use Rattle.s4_calls.specs.Hands.{fresh, first, rest, noted_in, told_in, widened, told_to_all, cell_cut, left_by_cell, pass_cut, left_by_pass, reader_cut, followed, HaveParts, parts_of, shares_of};
 ghost use Rattle.s4_calls.specs.Rule.{IsLinearized};
-ghost use Rattle.s4_calls.specs.Tokens.{CanCutCell, CanCutPass, CanNoteItem, IsRow};
+ghost use Rattle.s4_calls.specs.Tokens.{CanCutCell, CanCutPass, CanFollow, CanNoteItem, IsRow, SecondIsPrefix};
 
 use crate::hand::{
-    CutsCell, CutsPass, GivesAll, GivesFirst, Hands, Item, Joins, Learns, Notes, NotesWide, OneLog,
-    Tells, Told,
+    CutsCell, CutsPass, CutsReader, Follows, GivesAll, GivesFirst, Hands, Item, Joins, Learns,
+    Notes, NotesWide, OneLog, Tells, Told,
 };
 use atomic_table::{Seat, Table};
 use std::alloc::{AllocError, Global};
@@ -39,6 +39,24 @@ pub struct Token<T> {
 }
 
 impl<T> Model for Token<T> {
+    ghost use Rattle.std.specs.Prelude.{◌≡◌, []};
+    ghost use Rattle.s4_calls.specs.Hands.{HaveParts};
+    ghost use Rattle.s4_calls.specs.Tokens.{Known};
+
+    ghost Value = { Known T };
+
+    ghost view = { λ t. record { ledger = t.seat.table_id; hands = t.seat.me.0 } };
+
+    ghost invariant = { λ t. (t.seat.me.1 ≡ []) × HaveParts t.seat.me.0 };
+}
+
+/// A reader's token. It has no part, so it can't stand where a call is noted.
+#[derive(Drop)]
+pub(crate) struct ReaderToken<T> {
+    seat: Seat<(), Hands<T>>,
+}
+
+impl<T> Model for ReaderToken<T> {
     ghost use Rattle.std.specs.Prelude.{◌≡◌, []};
     ghost use Rattle.s4_calls.specs.Tokens.{Known};
 
@@ -94,6 +112,53 @@ impl<T: Item> Ledger<T> {
         ensures ledger_given { result.ledger ≡ self.now }
     {
         let seat = self.table.shared.split_seat::<CutsPass>(&mut token.seat);
+        Token { seat }
+    }
+
+    /// Cuts off a token for a reader of the first hand's cell. It takes no part.
+    pub(crate) fn cut_reader(&self, token: &mut Token<T>) -> ReaderToken<T>
+        requires ledger { token.old.ledger ≡ self.now }
+        ensures same { token.new ≡ token.old }
+        ensures given { result.hands ≡ reader_cut token.old.hands }
+        ensures ledger_given { result.ledger ≡ self.now }
+    {
+        let seat = self.table.shared.split_seat::<CutsReader>(&mut token.seat);
+        ReaderToken { seat }
+    }
+
+    /// A reader's token takes in all that another token knows.
+    pub(crate) fn lend(&self, reader: &mut ReaderToken<T>, token: Token<T>)
+        requires ledger { reader.old.ledger ≡ self.now }
+        requires ledger_lent { token.ledger ≡ self.now }
+        ensures hands { reader.new.hands ≡ token.hands ++ reader.old.hands }
+        ensures ledger { reader.new.ledger ≡ self.now }
+    {
+        self.table
+            .shared
+            .join_seat::<Joins>(&mut reader.seat, token.seat);
+    }
+
+    /// The second hand, a reader's, knows what the first does, which begins with what it knew before.
+    pub(crate) fn follow(&self, reader: &mut ReaderToken<T>)
+        requires ledger { reader.old.ledger ≡ self.now }
+        requires hands { CanFollow reader.old.hands }
+        ensures hands { reader.new.hands ≡ followed reader.old.hands }
+        ensures ledger { reader.new.ledger ≡ self.now }
+        ensures known { SecondIsPrefix reader.old.hands }
+    {
+        self.table.shared.load::<Follows>(&mut reader.seat, 0);
+    }
+
+    /// Gives back the hand that a reader's token took in last.
+    pub(crate) fn give_back(&self, reader: &mut ReaderToken<T>) -> Token<T>
+        requires ledger { reader.old.ledger ≡ self.now }
+        requires part { HaveParts (first reader.old.hands) }
+        ensures hands { reader.new.hands ≡ rest reader.old.hands }
+        ensures ledger { reader.new.ledger ≡ self.now }
+        ensures given { result.hands ≡ first reader.old.hands }
+        ensures ledger_given { result.ledger ≡ self.now }
+    {
+        let seat = self.table.shared.split_seat::<GivesFirst>(&mut reader.seat);
         Token { seat }
     }
 

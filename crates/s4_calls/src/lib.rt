@@ -10,6 +10,7 @@ mod hand;
 mod laws;
 mod ledger;
 mod names;
+mod reader;
 mod records;
 
 pub use blank::Blank;
@@ -21,3 +22,4 @@ pub use laws::{
 };
 pub use ledger::{Ledger, Token};
 pub use names::Names;
+pub use reader::Reader;

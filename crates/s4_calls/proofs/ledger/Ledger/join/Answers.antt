@@ -7,4 +7,4 @@ pub join_seat-requires : goal.join_seat-requires
 join_seat-requires g c =
     let ledger = ap (λ (k : Known g.row.T.Denot). k.ledger) c.token.view_is ∙ (c.requires.ledger ∙ sym c.self.view_is) in
     let hands = ap (λ (k : Known g.row.T.Denot). k.hands) c.token.view_is in
-    (ledger, ap (λ (k : Known g.row.T.Denot). k.ledger) c.other.view_is ∙ (c.requires.ledger_joined ∙ sym c.self.view_is), c.other.invariant, c.self.invariant.0, joins _ _ _ _ _ _ _)
+    (ledger, ap (λ (k : Known g.row.T.Denot). k.ledger) c.other.view_is ∙ (c.requires.ledger_joined ∙ sym c.self.view_is), c.other.invariant.0, c.self.invariant.0, joins _ _ _ _ _ _ _)
