@@ -4,6 +4,7 @@ use Rattle.std.specs.Prelude.{slice_get, Some}
 use Rattle.s4_types.specs.declared.record.Record.{Record}
 use Rattle.s4_types.specs.Base.{opened}
 use Rattle.s4_types.specs.Kinds.{range_of}
+use Rattle.s4_types.specs.Play.{InOrder}
 use Rattle.s4_types.specs.Strike.{records_of}
 use Rattle.s4_cuts.specs.Cut.{before, since}
 use Rattle.s4_merge_laws.specs.Cells.{is_in_cell, records_in, requests_in, IsPlain}
@@ -15,7 +16,8 @@ use Rattle.s4_calls.specs.declared.hand.Noted.{Noted}
 use Rattle.s4_calls.specs.Logs.{ArePlaced, IsSublist, StandInCells, items_of}
 use Rattle.s4_calls.proofs.Ones.{one-to-one, names_home, home_below}
 use Rattle.s4_calls.proofs.Merges.{in_cells}
-use Rattle.s4_call_laws.specs.Left.{AreLeftOf, BelongTogether, HaveRecords, IsOneLog, whole}
+use Rattle.s4_call_laws.specs.Left.{AreLeftOf, BelongTogether, HaveRecords, IsOneLog, by_moment, whole}
+use Rattle.s4_call_laws.proofs.Moments.{by_moment-same, before-order, whole-order}
 
 module _ {A : Type 0} where
   filter_both : (p : A → Bool) (xs ys : List A) → filter p (xs ++ ys) ≡ filter p xs ++ filter p ys
@@ -67,12 +69,15 @@ one-log window n cut log left some_cell parts = record {
   cells = cells;
   plain = plain;
   isolated = λ who other. records-strike window who (requests_in (whole cut log left)) other ∙ ap (records_of who) plain;
+  rises = λ o. whole-order n cut log left some_cell parts.merge o;
 }
   where
     cells : (k : ℕ) → k < n → records_in n k (whole cut log left) ≡ records_in n k log
     cells k lt =
-        filter_both (is_in_cell n k) (before cut log) left
-        ∙ (ap (λ l. l ++ records_in n k left) (filters (is_in_cell n k) _ log)
+        let went : records_in n k (before cut log) ≡ before cut (records_in n k log) = filters (is_in_cell n k) _ log in
+        let ordered : InOrder 0 (records_in n k (before cut log)) = subst (InOrder 0) (sym went) (before-order cut 0 (records_in n k log) (parts.rises k lt)) in
+        filter_both (is_in_cell n k) (by_moment (before cut log)) left
+        ∙ (ap (λ l. l ++ records_in n k left) (by_moment-same (is_in_cell n k) 0 (before cut log) ordered ∙ went)
         ∙ (ap (λ l. before cut (records_in n k log) ++ l) (parts.merge k lt) ∙ sym (split-at cut 0 (records_in n k log) (parts.rises k lt))))
 
     plain : IsPlain (opened window) (whole cut log left)

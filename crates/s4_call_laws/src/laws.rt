@@ -9,10 +9,11 @@ ghost use Rattle.s4_call_laws.specs.Left.{AreLeftOf, BelongTogether, HaveRecords
 use s4_calls::Item;
 use s4_types::Record;
 
-/// Of one log of all that several cells ever had, the records before a cut, and then those that are left
-/// of the cells, merged in any way, are the plain log of their own requests. They have of each cell all
-/// that it ever had. So each principal other than the administrator was replied what it would have been
-/// without its strangers, whatever was cut.
+/// Of one log of all that several cells ever had, the records before a cut, by moment, and then those
+/// that are left of the cells, merged in any way, are the plain log of their own requests. They have of
+/// each cell all that it ever had. So each principal other than the administrator was replied what it
+/// would have been without its strangers, whatever was cut. And if the moments of what is left never go
+/// down, those of all never do.
 pub fn what_went_and_what_is_left_is_one_plain_log()
     ensures { (window n cut : ℕ) (log left : List Record) → 0 < n
         → AreLeftOf window n cut log left → IsOneLog window n cut log left }

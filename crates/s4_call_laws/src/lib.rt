@@ -1,5 +1,5 @@
-//! Laws of several cells that are cut at one moment: what went of all of them, and then what is left, is
-//! one plain log. Each law is the contract of a function that does nothing.
+//! Laws of several cells that are cut at one moment: what went of all of them, by moment, and then what
+//! is left, is one plain log. Each law is the contract of a function that does nothing.
 #![tactic(auto)]
 
 mod laws;
