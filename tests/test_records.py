@@ -11,7 +11,7 @@ from tests.serving import SECRETS, Server, until
 from tools.lib import servers
 
 # What a record takes beside its data (docs/LIMITS.md, "Numbers"), and how many of such records a bound is for.
-RECORD, FEW = 440, 20
+RECORD, FEW = 260, 20
 # The most bytes of a Write by version 2, and by how many connections they are sent, how many on each.
 SIZE, PEERS, EACH = 65536, 4, 8
 # Principal 7 says who it is by version 2, and writes as many bytes to 8.0.1, which it mayn't.

@@ -7,4 +7,4 @@ mod cell_rows;
 #[cfg(test)]
 mod cells;
 #[cfg(test)]
-mod claims;
+mod closings;

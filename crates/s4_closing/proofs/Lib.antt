@@ -1,10 +1,6 @@
 pub mod Steps
 pub mod Left
-pub mod Coming
 pub mod Ascending
-pub mod Claiming
-pub mod Ordering
-pub mod Wides
+pub mod Settling
+pub mod Counting
 pub mod Closing
-pub mod Transfer
-pub mod Unclaimed

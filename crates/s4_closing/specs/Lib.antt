@@ -1,5 +1,4 @@
 pub mod Merged
-pub mod Claims
-pub mod Claiming
-pub mod Order
+pub mod Kept
+pub mod Closing
 pub mod Reconciled

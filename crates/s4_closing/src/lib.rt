@@ -1,18 +1,10 @@
-//! One history of several cells (docs/ARCHITECTURE.md, "Fronts"): which cells belong together, which
-//! record each call has, how the histories are merged, and that the calls of a pass stand in their order.
-//! While a front serves, calls claim their records, and only records that are claimed are cut.
+//! One history of several cells (docs/ARCHITECTURE.md, "Fronts"): what is known of all calls that were ever
+//! made, which cells belong together, and how the histories of what is left of them are merged.
 #![tactic(auto)]
 
-mod claims;
-mod cutting;
-mod home;
-mod matching;
 mod merge;
-mod order;
 mod reconciling;
 mod torn;
 
-pub use claims::claim_next;
-pub use cutting::cut_claimed;
 pub use reconciling::{Verdict, reconcile};
 pub use torn::none_went;

@@ -8,13 +8,14 @@ ghost use Rattle.s4_commands.specs.Serving.{checked_line};
 use crate::fault::Fault;
 use crate::serving::{beginning, look_around, path_in};
 use crate::setting_up;
+use s4_calls::{Blank, Names};
 use s4_command::Service;
-use s4_counts::{Blank, Names};
 use s4_run::RunFault;
 use s4_server::Server;
 use s4_settings::Settings;
 use s4_sockets::{Stopwatch, Ticks};
 use s4_starts::try_start;
+use s4_types::Record;
 use std::io::Write;
 use std::marker::Brand;
 use std::net::Net;
@@ -62,7 +63,7 @@ fn try_named<R: Net + Wait + AllocGlobal, C: Ticks, N: Names + Send + Sync>(
     service: &Service,
     settings: Settings,
     clock: &C,
-    blank: Blank,
+    blank: Blank<Record>,
 ) -> Result<(), Fault>
     requires named { IsNamed N.ledger N.window N.passes blank.ledger settings }
 {

@@ -10,9 +10,9 @@ use crate::fault::Fault;
 use crate::reasons::{fault_of_logins, named};
 use crate::stamped::Stamped;
 use crate::{descriptors, keeping, memory, setting_up};
+use s4_calls::{Blank, Names};
 use s4_causes::system_word;
 use s4_command::Service;
-use s4_counts::{Blank, Names};
 use s4_logins::open_guarded;
 use s4_run::RunFault;
 use s4_server::{Server, Upkeep};
@@ -20,7 +20,7 @@ use s4_settings::Settings;
 use s4_sockets::{Stopwatch, Ticks, wall_clock};
 use s4_status::{may_sum, may_write};
 use s4_stream::Logins;
-use s4_types::NoMemory;
+use s4_types::{NoMemory, Record};
 use std::alloc::Global;
 use std::io::Write;
 use std::marker::Brand;
@@ -181,7 +181,7 @@ fn serve_named<
     clock: &C,
     listener: &TcpListener,
     logins: Logins,
-    blank: Blank,
+    blank: Blank<Record>,
     output: &mut W,
 ) -> Result<(), Fault>
     requires named { IsNamed N.ledger N.window N.passes blank.ledger settings }

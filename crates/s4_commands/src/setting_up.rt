@@ -4,8 +4,8 @@ ghost use Rattle.std.specs.Prelude.{◌≡◌};
 
 use crate::fault::Fault;
 use crate::reasons::named;
+use s4_calls::Names;
 use s4_causes::{Cause, Form, cause_of_unread};
-use s4_counts::Names;
 use s4_script::{NumberedLines, ReplyText, parse_principal, parse_request, read_file};
 use s4_server::Server;
 use s4_sockets::Ticks;

@@ -1,14 +1,8 @@
 -- What was asked and told, side by side.
-use Rattle.std.proofs.Common.{◌≡◌, ℕ, List, [], ◌∷◌, ◌++◌, length, take, drop, zero, suc, refl, ap, arith}
+use Rattle.std.proofs.Common.{◌≡◌, ℕ, List, [], ◌∷◌, ◌++◌, length, drop, zero, suc, refl, ap, arith}
 use Rattle.s4_passes.specs.declared.call.Asked.{Asked}
 use Rattle.s4_passes.specs.declared.call.Receipt.{Receipt}
-use Rattle.s4_passes.specs.Calls.{call_of, calls_of, last_call, last_receipt, receipts_of}
-
-pub last_call-calls_of : (m : ℕ) (xs : List Asked) (rs : List Receipt) → length xs ≡ length rs → last_call m (calls_of xs rs) ≡ last_receipt m rs
-last_call-calls_of m [] [] e = refl
-last_call-calls_of m [] (r ∷ rs) e = cc
-last_call-calls_of m (x ∷ xs) [] e = cc
-last_call-calls_of m (x ∷ xs) (r ∷ rs) e = last_call-calls_of r.moment xs rs (omega arith)
+use Rattle.s4_passes.specs.Calls.{call_of, calls_of, receipts_of}
 
 pub receipts_of-calls_of : (xs : List Asked) (rs : List Receipt) → length xs ≡ length rs → receipts_of (calls_of xs rs) ≡ rs
 receipts_of-calls_of [] [] e = refl
@@ -22,10 +16,6 @@ calls_of-push [] (s ∷ rs) x r e = cc
 calls_of-push (y ∷ xs) [] x r e = cc
 calls_of-push (y ∷ xs) (s ∷ rs) x r e = ap (λ l. call_of y s ∷ l) (calls_of-push xs rs x r (omega arith))
 
-pub last_receipt-push : (m : ℕ) (rs : List Receipt) (r : Receipt) → last_receipt m (rs ++ r ∷ []) ≡ r.moment
-last_receipt-push m [] r = refl
-last_receipt-push m (s ∷ rs) r = last_receipt-push s.moment rs r
-
 pub length-calls_of : (xs : List Asked) (rs : List Receipt) → length xs ≡ length rs → length (calls_of xs rs) ≡ length rs
 length-calls_of [] [] e = refl
 length-calls_of [] (r ∷ rs) e = cc
@@ -38,12 +28,3 @@ drop-calls_of (suc n) [] [] e = refl
 drop-calls_of (suc n) [] (r ∷ rs) e = cc
 drop-calls_of (suc n) (x ∷ xs) [] e = cc
 drop-calls_of (suc n) (x ∷ xs) (r ∷ rs) e = drop-calls_of n xs rs (omega arith)
-
--- the last of the first ones, and then of the others
-pub last_receipt-drop : (m n : ℕ) (xs : List Asked) (rs : List Receipt) → length xs ≡ length rs
-    → last_receipt m rs ≡ last_receipt (last_call m (take n (calls_of xs rs))) (drop n rs)
-last_receipt-drop m zero xs rs e = refl
-last_receipt-drop m (suc n) [] [] e = refl
-last_receipt-drop m (suc n) [] (r ∷ rs) e = cc
-last_receipt-drop m (suc n) (x ∷ xs) [] e = cc
-last_receipt-drop m (suc n) (x ∷ xs) (r ∷ rs) e = last_receipt-drop r.moment n xs rs (omega arith)

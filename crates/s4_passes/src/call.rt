@@ -1,6 +1,7 @@
 //! What is kept of a call.
 
-use s4_types::{Caller, Moment, Reply, Request};
+use s4_calls::Tells;
+use s4_types::{Caller, Moment, Record, Reply, Request};
 
 /// What was asked: by whom, at which moment of the caller's clock, and what.
 #[derive(Drop)]
@@ -20,4 +21,17 @@ pub struct Receipt {
     pub place: u64,
     pub moment: Moment,
     pub reply: Reply,
+}
+
+/// A call: what was asked, and what was told of it. It tells of the record that it left.
+#[derive(Drop)]
+pub struct Call {
+    pub asked: Asked,
+    pub receipt: Receipt,
+}
+
+impl Tells<Record> for Call {
+    ghost use Rattle.s4_passes.specs.Calls.{record_of};
+
+    ghost item = { record_of };
 }

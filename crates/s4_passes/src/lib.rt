@@ -3,11 +3,9 @@
 #![tactic(auto)]
 
 mod call;
-mod dropped;
 mod list;
 mod pass;
 
-pub use call::{Asked, Receipt};
-pub use dropped::Dropped;
+pub use call::{Asked, Call, Receipt};
 pub use list::Calls;
-pub use pass::{Pass, audit};
+pub use pass::{Pass, audit, keep_last};

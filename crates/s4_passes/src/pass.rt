@@ -1,26 +1,29 @@
 //! A pass.
 
-ghost use Rattle.std.specs.Prelude.{◌≡◌, ◌<◌, ◌≤◌, ◌+◌, ◌^◌, ℕ, true, false, [], ◌∷◌, ◌++◌, OnOk, OnErr, MatchBool, length, take};
-ghost use Rattle.s4_types.specs.Kinds.{is_wide};
-ghost use Rattle.s4_counts.specs.Hands.{hand, parts_of, records_of, calls_of};
-ghost use Rattle.s4_counts.specs.Books.{AreInOrder, AllCount, counted_in};
-ghost use Rattle.s4_passes.specs.Calls.{call_of, calls_of as paired, last_moment, none_dropped, receipts_of};
-ghost use Rattle.s4_passes.specs.Counts.{AddsCall, ClaimsNext, Forgets, IsFresh, KeepsCalls, all_hits, first_before};
+ghost use Rattle.std.specs.Prelude.{◌≡◌, ◌+◌, ◌%◌, ◌<◌, ◌≤◌, true, false, [], ◌∷◌, ◌++◌, OnOk, OnErr, length};
+ghost use Rattle.s4_types.specs.declared.record.Record.{Record};
+ghost use Rattle.s4_types.specs.Audit.{is_wide_record};
+ghost use Rattle.s4_types.specs.Kinds.{is_wide, range_of};
+ghost use Rattle.s4_calls.specs.Books.{AreInOrder, all_with, first_count, with_books};
+ghost use Rattle.s4_calls.specs.Hands.{of_pass, parts_of, shares_of};
+ghost use Rattle.s4_calls.specs.Rule.{IsLinearized};
+ghost use Rattle.s4_passes.specs.Calls.{AllKeepLast, KeepsLast, calls_of, last_moment, receipts_of, record_of};
+ghost use Rattle.s4_passes.specs.Changes.{AddsCall, Forgets, KeepsCalls};
+ghost use Rattle.s4_passes.specs.Tokens.{with_passes};
 
-use crate::call::{Asked, Receipt};
-use crate::dropped::Dropped;
+use crate::call::{Asked, Call, Receipt};
 use crate::list::Calls;
-use s4_counts::{Book, Ledger, Names, Token, audit_books, count_all};
-use s4_types::{Moment, NoMemory};
+use s4_calls::{Book, Item, Ledger, Names, Token, audit_books, note_all};
+use s4_types::{Moment, NoMemory, Record};
 use std::alloc::Global;
 use std::collections::VecDeque;
 use std::marker::{Model, PhantomData};
 
-/// What a caller's calls are made with, one after the other: it keeps each of them, and counts it with
-/// a token of the front's ledger. Callers see its number and the list of its calls.
+/// What a caller's calls are made with, one after the other: it keeps the last ones of them, and a token
+/// of the front's ledger, which knows all that there ever were. Callers see its number and both lists.
 pub struct Pass<N: Names> {
     calls: Calls,
-    token: Token,
+    token: Token<Record>,
     of: PhantomData<N>,
 }
 
@@ -38,26 +41,28 @@ impl<N: Names> Drop for Pass<N> {
 impl<N: Names> Model for Pass<N> {
     ghost use Rattle.std.specs.Prelude.{◌≡◌};
     ghost use Rattle.s4_passes.specs.Calls.{CallList};
-    ghost use Rattle.s4_passes.specs.Counts.{IsCounted};
+    ghost use Rattle.s4_passes.specs.Tokens.{IsOfPass, calls_by};
 
     ghost Value = { CallList };
 
-    ghost view = { λ p. p.calls };
+    ghost view = { λ p. record {
+      number = p.calls.number;
+      ever = calls_by p.token.hands;
+      calls = p.calls.calls;
+      room = p.calls.room;
+    } };
 
-    ghost invariant = { λ p. (p.token.ledger ≡ N.ledger)
-        × IsCounted N.ledger.words p.token.hands p.calls };
+    ghost invariant = { λ p. (p.token.ledger ≡ N.ledger) × IsOfPass p.token.hands p.calls };
 }
 
 impl<N: Names> Pass<N> {
     /// A pass of that number without calls, and with a token of its own. Takes no memory.
-    pub fn new(alloc: Global, number: u64, token: Token) -> Pass<N>
+    pub fn new(alloc: Global, number: u64, token: Token<Record>) -> Pass<N>
         requires ledger { token.ledger ≡ N.ledger }
-        requires token { IsFresh token.hands }
-        requires few { N.ledger.words ≤ 16 }
+        requires hands { token.hands ≡ of_pass [] ∷ [] }
         ensures number { result.number ≡ number }
+        ensures ever { result.ever ≡ [] }
         ensures calls { result.calls ≡ [] }
-        ensures claimed { result.claimed ≡ 0 }
-        ensures dropped { result.dropped ≡ none_dropped }
     {
         Pass {
             calls: Calls::new(alloc, number),
@@ -80,44 +85,21 @@ impl<N: Names> Pass<N> {
         self.calls.last()
     }
 
-    /// The receipts of the calls, in their order.
+    /// The receipts of the calls that are kept, in their order.
     pub fn receipts(&self) -> &VecDeque<Receipt>
         ensures { result.now.items ≡ receipts_of self.now.calls }
     {
         self.calls.receipts()
     }
 
-    /// What was asked, and the receipts: of each call at one place.
+    /// What was asked, and the receipts: of each call that is kept at one place. They are the last ones
+    /// of those that there ever were.
     pub fn sides(&self) -> (&VecDeque<Asked>, &VecDeque<Receipt>)
-        ensures calls { paired result.0.now.items result.1.now.items ≡ self.now.calls }
+        ensures calls { calls_of result.0.now.items result.1.now.items ≡ self.now.calls }
         ensures even { length result.0.now.items ≡ length result.1.now.items }
+        ensures last { KeepsLast self.now }
     {
         self.calls.sides()
-    }
-
-    /// How many of the calls, from the first on, have claimed their records.
-    pub fn claimed(&self) -> usize
-        ensures claimed { result ≡ self.now.claimed }
-        ensures within { result ≤ length self.now.calls }
-    {
-        self.calls.claimed()
-    }
-
-    /// How many of the first calls, at most so many, have claimed their records and are of moments
-    /// before this one: they are counted from the first on, until one isn't.
-    pub fn claimed_before(&self, moment: Moment, most: usize) -> usize
-        ensures within { result ≤ self.now.claimed }
-        ensures before { result
-            ≡ first_before moment (take most (take self.now.claimed (receipts_of self.now.calls))) }
-    {
-        self.calls.claimed_before(moment, most)
-    }
-
-    /// What is kept of the calls that were dropped.
-    pub fn dropped(&self) -> &Dropped
-        ensures { result.now ≡ self.now.dropped }
-    {
-        self.calls.dropped()
     }
 
     /// Makes room for one more call, or answers `NoMemory` where there was none and a growth was refused:
@@ -131,79 +113,76 @@ impl<N: Names> Pass<N> {
         self.calls.reserve()
     }
 
-    /// Adds an ordinary call, in the room for it, and counts it with the record of its cell. Takes no
-    /// memory.
-    pub fn add(&mut self, ledger: &Ledger, book: &mut Book<N>, asked: Asked, receipt: Receipt)
+    /// Adds an ordinary call, in the room for it, and records what it left in the book of its cell. Takes
+    /// no memory.
+    pub fn add(&mut self, ledger: &Ledger<Record>, book: &mut Book<N, Record>, call: Call)
         requires room { 0 < self.old.room }
         requires ledger { ledger.now ≡ N.ledger }
-        requires ordinary { is_wide asked.caller asked.request ≡ false }
-        requires cell { receipt.cell ≡ book.old.cell }
-        ensures adds { AddsCall (call_of asked receipt) self.old self.new }
+        requires ordinary { is_wide call.asked.caller call.asked.request ≡ false }
+        requires home { range_of call.asked.caller call.asked.request % N.ledger.words
+            ≡ book.old.cell }
+        requires cell { call.receipt.cell ≡ book.old.cell }
+        requires place { call.receipt.place ≡ length book.old.items }
+        ensures adds { AddsCall call self.old self.new }
         ensures cell { book.new.cell ≡ book.old.cell }
-        ensures records { book.new.records ≡ book.old.records + 1 }
+        ensures items { book.new.items ≡ book.old.items ++ record_of call ∷ [] }
     {
-        book.count(ledger, &mut self.token);
-        self.calls.add(asked, receipt);
+        book.note(ledger, &mut self.token, &call);
+        self.calls.add(call);
     }
 
-    /// Adds a wide call, in the room for it, and counts it with the records of all cells. Takes no
-    /// memory.
-    pub fn add_wide(
-        &mut self,
-        ledger: &Ledger,
-        books: &mut [Book<N>],
-        asked: Asked,
-        receipt: Receipt,
-    )
+    /// Adds a wide call, in the room for it, and records what it left in the books of all cells. Takes
+    /// no memory.
+    pub fn add_wide(&mut self, ledger: &Ledger<Record>, books: &mut [Book<N, Record>], call: Call)
         requires room { 0 < self.old.room }
         requires ledger { ledger.now ≡ N.ledger }
-        requires wide { is_wide asked.caller asked.request ≡ true }
+        requires wide { is_wide call.asked.caller call.asked.request ≡ true }
         requires order { AreInOrder books.old }
         requires all { length books.old ≡ N.ledger.words }
-        ensures adds { AddsCall (call_of asked receipt) self.old self.new }
-        ensures books { AllCount books.old books.new }
+        requires cell { call.receipt.cell ≡ 0 }
+        requires place { call.receipt.place ≡ first_count 0 books.old }
+        ensures adds { AddsCall call self.old self.new }
+        ensures books { books.new ≡ all_with (record_of call) books.old }
     {
-        count_all(books, ledger, &mut self.token);
-        self.calls.add(asked, receipt);
+        note_all(books, ledger, &mut self.token, &call);
+        self.calls.add(call);
     }
 
-    /// The next call has claimed its record.
-    pub fn claim_next(&mut self)
-        requires { self.old.claimed < length self.old.calls }
-        ensures { ClaimsNext self.old self.new }
+    /// Keeps the first calls no longer, so many. All that there ever were stay known. It can't fail.
+    pub fn forget(&mut self, count: usize)
+        requires { count ≤ length self.old.calls }
+        ensures { Forgets count self.old self.new }
     {
-        self.calls.claim_next();
-    }
-
-    /// Drops the first calls, so many, which have claimed their records; how many count in each cell is
-    /// kept. False, and all is as it was, where they can't be counted with those that were dropped
-    /// before.
-    pub fn forget(&mut self, count: usize) -> bool
-        requires { count ≤ self.old.claimed }
-        ensures { MatchBool result (Forgets count self.old self.new)
-            (KeepsCalls self.old self.new × (2 ^ 64 ≤ self.old.dropped.all + count)) }
-    {
-        self.calls.forget(count)
+        self.calls.forget(count);
     }
 }
 
-/// Changes nothing. Who has all parts of the ledger but those of the passes and of the books knows that
-/// each book has as many records as there are calls that count in its cell.
+/// What each pass keeps are the last ones of its calls.
+pub fn keep_last<N: Names>(passes: &[Pass<N>])
+    ensures { AllKeepLast passes.now }
+{
+    for i in 0..passes.len() {
+        let _sides = passes[i].sides();
+    }
+}
+
+/// Changes nothing. Who has all parts of the ledger but those of the passes and of the books knows one
+/// log of all calls, with the passes and the books.
 pub fn audit<N: Names>(
-    ledger: &Ledger,
-    all: &mut Token,
+    ledger: &Ledger<Record>,
+    all: &mut Token<Record>,
     passes: &mut [Pass<N>],
-    books: &mut [Book<N>],
+    books: &mut [Book<N, Record>],
 )
     requires ledger { ledger.now ≡ N.ledger }
     requires ledger_of_all { all.old.ledger ≡ N.ledger }
     ensures all { all.new ≡ all.old }
     ensures passes { passes.new ≡ passes.old }
     ensures books { books.new ≡ books.old }
-    ensures even { 64 ≤ parts_of all.old.hands + length passes.old + length books.old
-        → (k : ℕ) → k < N.ledger.words
-        → records_of k all.old.hands + counted_in k books.old
-        ≡ calls_of k all.old.hands + all_hits k passes.old }
+    ensures log { 64 ≤ parts_of all.old.hands + length passes.old + length books.old
+        → IsLinearized ⟦<Record as Item>⟧.is_wide ⟦<Record as Item>⟧.range
+        (shares_of (with_books books.old (with_passes passes.old all.old.hands)))
+        (with_books books.old (with_passes passes.old all.old.hands)) }
 {
     match passes.split_first_mut() {
         None => audit_books(ledger, all, books),

@@ -1,20 +1,22 @@
 -- Books and cells side by side.
-use Rattle.std.proofs.Common.{◌≡◌, ℕ, zero, suc, List, [], ◌∷◌, ◌++◌, length, sym, ◌∙◌, arith}
-use Rattle.s4_types.specs.Log.{Log}
-use Rattle.s4_cells.specs.Counts.{count_of}
-use Rattle.s4_cells.specs.Many.{EachNow}
-use Rattle.s4_counts.specs.Books.{BookState}
-use Rattle.s4_pool.specs.Counts.{AreCounted, HaveWindow}
+use Rattle.std.proofs.Common.{◌≡◌, ℕ, zero, suc, ◌<◌, ◌≤◌, min, List, [], ◌∷◌, ◌++◌, length, ap, sym, refl, ◌∙◌, arith}
+use Rattle.std.specs.Prelude.{slice_index_or}
+use Rattle.s4_types.specs.declared.record.Record.{Record}
+use Rattle.s4_types.specs.Log.{Log, horizon_in}
+use Rattle.s4_calls.specs.Books.{BookState, all_with, first_count}
+use Rattle.s4_cells.specs.Many.{AllAdd, least_horizon}
+use Rattle.s4_closing.specs.Kept.{AreKept}
+use Rattle.s4_closing.specs.Merged.{HaveWindow}
 
-pub counted_push : (books : List BookState) (cells : List Log) (b : BookState) (c : Log) → length books ≡ length cells
-    → AreCounted books cells → b.records ≡ count_of c → AreCounted (books ++ b ∷ []) (cells ++ c ∷ [])
-counted_push [] [] b c even all at zero d x i j = at
-counted_push [] [] b c even all at (suc k) d x i j = absurd (omega (arith, i))
-counted_push [] (y ∷ cells) b c even all at k d x i j = absurd (omega (arith, even))
-counted_push (y ∷ books) [] b c even all at k d x i j = absurd (omega (arith, even))
-counted_push (y ∷ books) (z ∷ cells) b c even all at zero d x i j = all zero d x (omega arith) (omega arith)
-counted_push (y ∷ books) (z ∷ cells) b c even all at (suc k) d x i j =
-    counted_push books cells b c (omega (arith, even)) (λ m d x i j. all (suc m) d x (omega (arith, i)) (omega (arith, j))) at k d x (omega (arith, i)) (omega (arith, j))
+pub kept_push : (books : List (BookState Record)) (cells : List Log) (b : BookState Record) (c : Log) → length books ≡ length cells
+    → AreKept books cells → b.items ≡ c.history → AreKept (books ++ b ∷ []) (cells ++ c ∷ [])
+kept_push [] [] b c even all at zero d x i j = at
+kept_push [] [] b c even all at (suc k) d x i j = absurd (omega (arith, i))
+kept_push [] (y ∷ cells) b c even all at k d x i j = absurd (omega (arith, even))
+kept_push (y ∷ books) [] b c even all at k d x i j = absurd (omega (arith, even))
+kept_push (y ∷ books) (z ∷ cells) b c even all at zero d x i j = all zero d x (omega arith) (omega arith)
+kept_push (y ∷ books) (z ∷ cells) b c even all at (suc k) d x i j =
+    kept_push books cells b c (omega (arith, even)) (λ m d x i j. all (suc m) d x (omega (arith, i)) (omega (arith, j))) at k d x (omega (arith, i)) (omega (arith, j))
 
 pub window_push : (window : ℕ) (cells : List Log) (c : Log) → HaveWindow window cells → c.opened ≡ window → HaveWindow window (cells ++ c ∷ [])
 window_push window [] c all at zero d i = at
@@ -23,16 +25,16 @@ window_push window (z ∷ cells) c all at zero d i = all zero d (omega arith)
 window_push window (z ∷ cells) c all at (suc k) d i = window_push window cells c (λ m d i. all (suc m) d (omega (arith, i))) at k d (omega (arith, i))
 
 -- the last of each, and those before
-pub counted_last : (books : List BookState) (cells : List Log) (b : BookState) (c : Log) → length books ≡ length cells
-    → AreCounted (books ++ b ∷ []) (cells ++ c ∷ []) → (b.records ≡ count_of c) × AreCounted books cells
-counted_last [] [] b c even all = (all 0 b c (omega arith) (omega arith), λ k d x i j. absurd (omega (arith, i)))
-counted_last [] (y ∷ cells) b c even all = absurd (omega (arith, even))
-counted_last (y ∷ books) [] b c even all = absurd (omega (arith, even))
-counted_last (y ∷ books) (z ∷ cells) b c even all =
-    let more = counted_last books cells b c (omega (arith, even)) (λ m d x i j. all (suc m) d x (omega (arith, i)) (omega (arith, j))) in
+pub kept_last : (books : List (BookState Record)) (cells : List Log) (b : BookState Record) (c : Log) → length books ≡ length cells
+    → AreKept (books ++ b ∷ []) (cells ++ c ∷ []) → (b.items ≡ c.history) × AreKept books cells
+kept_last [] [] b c even all = (all 0 b c (omega arith) (omega arith), λ k d x i j. absurd (omega (arith, i)))
+kept_last [] (y ∷ cells) b c even all = absurd (omega (arith, even))
+kept_last (y ∷ books) [] b c even all = absurd (omega (arith, even))
+kept_last (y ∷ books) (z ∷ cells) b c even all =
+    let more = kept_last books cells b c (omega (arith, even)) (λ m d x i j. all (suc m) d x (omega (arith, i)) (omega (arith, j))) in
     (more.0, here more.1)
   where
-    here : AreCounted books cells → AreCounted (y ∷ books) (z ∷ cells)
+    here : AreKept books cells → AreKept (y ∷ books) (z ∷ cells)
     here rest zero d x i j = all zero d x (omega arith) (omega arith)
     here rest (suc k) d x i j = rest k d x (omega (arith, i)) (omega (arith, j))
 
@@ -46,9 +48,31 @@ window_last window (z ∷ cells) c all =
     here rest zero d i = all zero d (omega arith)
     here rest (suc k) d i = rest k d (omega (arith, i))
 
--- cells that were changed, each with its count and its window
-pub counted_still : (books : List BookState) (old new : List Log) → AreCounted books old → EachNow (λ a b. count_of b ≡ count_of a) old new → AreCounted books new
-counted_still books old new all same k d x i j = all k d x i (omega (arith, j, same.count)) ∙ sym (same.each k x (omega (arith, j, same.count)))
+-- a record more in each cell and in each book
+count_with : (r : Record) (books : List (BookState Record)) → length (all_with r books) ≡ length books
+count_with r [] = refl
+count_with r (b ∷ books) = let h = count_with r books in omega (arith, h)
 
-pub window_still : (window : ℕ) (old new : List Log) → HaveWindow window old → EachNow (λ a b. b.opened ≡ a.opened) old new → HaveWindow window new
-window_still window old new all same k d i = same.each k d (omega (arith, i, same.count)) ∙ all k d (omega (arith, i, same.count))
+at_with : (r : Record) (books : List (BookState Record)) (k : ℕ) (d : BookState Record) → k < length books
+    → (slice_index_or (all_with r books) k d).items ≡ (slice_index_or books k d).items ++ r ∷ []
+at_with r [] k d lt = absurd (omega (arith, lt))
+at_with r (b ∷ books) zero d lt = refl
+at_with r (b ∷ books) (suc k) d lt = at_with r books k d (omega (arith, lt))
+
+pub kept_with : (r : Record) (books : List (BookState Record)) (old new : List Log) → AreKept books old → AllAdd r old new → AreKept (all_with r books) new
+kept_with r books old new all adds k d x i j =
+    let count = count_with r books in
+    let here : k < length books = omega (arith, i, count) in
+    let there : k < length old = omega (arith, j, adds.count) in
+    at_with r books k d here ∙ ap (λ (l : List Record). l ++ r ∷ []) (all k d x here there) ∙ sym (ap (λ (c : Log). c.history) (adds.each k x there))
+
+-- the first book has as many records as the first cell
+pub first_kept : (books : List (BookState Record)) (cells : List Log) (none : Log) → 0 < length books → 0 < length cells → AreKept books cells
+    → first_count 0 books ≡ length (slice_index_or cells 0 none).history
+first_kept [] cells none some more all = absurd (omega (arith, some))
+first_kept (b ∷ books) cells none some more all = ap (λ (l : List Record). length l) (all 0 b none some more)
+
+-- the least horizon is not above the moment
+pub least_below : (moment : ℕ) (cells : List Log) → least_horizon moment cells ≤ moment
+least_below moment [] = omega arith
+least_below moment (cell ∷ cells) = omega (arith, least_below (min moment (horizon_in cell)) cells)

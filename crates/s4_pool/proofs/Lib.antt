@@ -1,5 +1,2 @@
-mod Awaiting
 mod Beside
-mod Claims
 mod Enough
-mod Uncounted

@@ -14,7 +14,7 @@ pub record FrontState : Type 0 where
 abbrev pub freeing_behind : ℕ → FrontState → FrontState
 freeing_behind most front = record { window = front.window; cells = front.cells; passes = front.passes; freed_behind = most }
 
--- passes with the numbers from 0 on, without calls
+-- passes with the numbers from 0 on, with which no call was ever made
 abbrev pub AreFresh : List CallList → Type 0
 AreFresh passes = (k : ℕ) (d : CallList) → k < length passes → ((slice_index_or passes k d).number ≡ k)
-    × ((slice_index_or passes k d).calls ≡ [])
+    × ((slice_index_or passes k d).ever ≡ []) × ((slice_index_or passes k d).calls ≡ [])

@@ -3,14 +3,14 @@ use Rattle.std.specs.Prelude.{◌≡◌, ℕ, ◌≤◌, List, length, slice_ind
 use Rattle.s4_types.specs.declared.principal.Caller.{Caller}
 use Rattle.s4_types.specs.declared.request.Request.{Request}
 use Rattle.s4_types.specs.declared.reply.Reply.{Reply}
-use Rattle.s4_types.specs.declared.record.Record.{Record}
 use Rattle.s4_types.specs.Play.{is_no_memory}
 use Rattle.s4_types.specs.Log.{Log, swept, with_record}
 use Rattle.s4_cells.specs.Many.{AllAdd}
 use Rattle.s4_passes.specs.declared.call.Asked.{Asked}
 use Rattle.s4_passes.specs.declared.call.Receipt.{Receipt}
-use Rattle.s4_passes.specs.Calls.{Call, CallList, call_of, last_moment}
-use Rattle.s4_passes.specs.Counts.{AddsCall, KeepsCalls}
+use Rattle.s4_passes.specs.declared.call.Call.{Call}
+use Rattle.s4_passes.specs.Calls.{CallList, call_of, last_moment, record_of}
+use Rattle.s4_passes.specs.Changes.{AddsCall, KeepsCalls}
 
 -- what a caller asked, by its clock
 abbrev pub asked : Caller → ℕ → Request → Asked
@@ -29,21 +29,12 @@ abbrev pub ServesUnlessRefused : CallList → CallList → Caller → ℕ → Re
 ServesUnlessRefused old new caller clock request reply = MatchBool (is_no_memory reply) (KeepsCalls old new)
     (Serves old new caller clock request reply)
 
--- the record that a call's receipt speaks of
-abbrev pub record_of_call : Call → Record
-record_of_call call = record {
-  moment = call.receipt.moment;
-  caller = call.asked.caller;
-  request = call.asked.request;
-  reply = call.receipt.reply;
-}
-
 -- the cell has one record more and the pass one call, and the receipt names the record by the cell's number and by its place, which counts
 -- from the first record that the cell ever had
 pub record Adds (cell : ℕ) (before after : Log) (old new : CallList) : Type 0 where
   pub call : Call
   pub adds : AddsCall call old new
-  pub log : after ≡ with_record before (record_of_call call)
+  pub log : after ≡ with_record before (record_of call)
   pub place : call.receipt.place ≡ length before.history
   pub cell_is : call.receipt.cell ≡ cell
 
@@ -57,6 +48,6 @@ pub record AddsAndFrees (most cell : ℕ) (before after : Log) (old new : CallLi
 pub record AddsToAll (before after : List Log) (old new : CallList) : Type 0 where
   pub call : Call
   pub adds : AddsCall call old new
-  pub records : AllAdd (record_of_call call) before after
+  pub records : AllAdd (record_of call) before after
   pub place : (none : Log) → call.receipt.place ≡ length (slice_index_or before 0 none).history
   pub cell_is : call.receipt.cell ≡ 0

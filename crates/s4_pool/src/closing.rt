@@ -5,8 +5,8 @@ ghost use Rattle.s4_pool.specs.Numbers.{numbered, HasAll};
 
 use crate::front::Front;
 use crate::gate::Gate;
+use s4_calls::Names;
 use s4_cells::Cell;
-use s4_counts::Names;
 use s4_passes::Pass;
 use s4_types::Record;
 
@@ -28,10 +28,8 @@ pub enum Why {
     /// The passes aren't those that the front was opened with, each once.
     Missing,
     /// A cell has another window than the front, or the cells weren't cut at one moment to one
-    /// window and floor, or don't have the same wide records.
+    /// window and floor.
     Torn,
-    /// The calls of the passes and the records that are left of the cells don't match one to one.
-    Stray,
     /// A growth was refused.
     NoMemory,
 }

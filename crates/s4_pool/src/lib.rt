@@ -2,7 +2,6 @@
 //! (docs/ARCHITECTURE.md, "Fronts").
 #![tactic(auto)]
 
-mod claimed;
 mod closes;
 mod closing;
 mod front;
@@ -10,16 +9,16 @@ mod gate;
 mod locked;
 mod locks;
 mod room;
+mod shell;
 mod stepping;
 mod stretch;
 mod unlocked;
 
-pub use claimed::Claimed;
 pub use closing::{CloseFault, Closed, Left, Why};
 pub use front::Front;
 pub use gate::{Gate, OpenGate};
 pub use locks::MOST_CELLS;
+pub use s4_calls::{Blank, Names};
 pub use s4_cells::{Cell, Measure};
-pub use s4_counts::{Blank, Names};
-pub use s4_passes::{Asked, Pass, Receipt};
+pub use s4_passes::{Asked, Call, Pass, Receipt};
 pub use stretch::Stretch;

@@ -4,18 +4,18 @@ ghost use Rattle.std.specs.Prelude.{◌≡◌, ◌<◌, ◌≤◌, true, false, 
 ghost use Rattle.s4_types.specs.Kinds.{is_wide};
 ghost use Rattle.s4_types.specs.Limits.{data_asked, data_in, is_within_limits};
 ghost use Rattle.s4_types.specs.Play.{is_no_memory};
-ghost use Rattle.s4_pool.specs.Counts.{AreCounted, HaveWindow, IsRest};
-ghost use Rattle.s4_passes.specs.Counts.{KeepsCalls};
+ghost use Rattle.s4_passes.specs.Changes.{KeepsCalls};
+ghost use Rattle.s4_closing.specs.Kept.{AreKept, IsRest};
+ghost use Rattle.s4_closing.specs.Merged.{HaveWindow};
 ghost use Rattle.s4_pool.specs.Serving.{Serves};
 
 use crate::locked::Locked;
 use crate::locks::MOST_CELLS;
 use crate::stepping::step_in_all;
-use s4_cells::Cell;
-use s4_closing::cut_claimed;
-use s4_counts::{Book, Ledger, Names, Token};
+use s4_calls::{Book, Ledger, Names, Token};
+use s4_cells::{Cell, cut_all};
 use s4_passes::Pass;
-use s4_types::{Caller, Moment, NoMemory, Reply, Request};
+use s4_types::{Caller, Moment, NoMemory, Record, Reply, Request};
 use std::alloc::Global;
 use std::sync::Mutex;
 
@@ -25,8 +25,8 @@ use std::sync::Mutex;
 #[derive(Drop)]
 pub struct Room<N: Names> {
     pub cells: Vec<Cell>,
-    pub books: Vec<Book<N>>,
-    pub rest: Token,
+    pub books: Vec<Book<N, Record>>,
+    pub rest: Token<Record>,
     pub ghost no_cells: { vec_len cells ≡ 0 },
     pub ghost no_books: { vec_len books ≡ 0 },
     pub ghost cells_room: { 16 ≤ vec_capacity cells },
@@ -37,7 +37,7 @@ pub struct Room<N: Names> {
 
 impl<N: Names> Room<N> {
     /// Room for 16 cells and their books.
-    pub fn new(alloc: Global, rest: Token) -> Result<Room<N>, NoMemory>
+    pub fn new(alloc: Global, rest: Token<Record>) -> Result<Room<N>, NoMemory>
         requires ledger { rest.ledger ≡ N.ledger }
         requires left { IsRest N.ledger.words N.passes rest.hands }
     {
@@ -50,7 +50,7 @@ impl<N: Names> Room<N> {
     pub fn step_all(
         &mut self,
         locks: &mut Vec<Mutex<Locked<N>>>,
-        ledger: &Ledger,
+        ledger: &Ledger<Record>,
         pass: &mut Pass<N>,
         caller: Caller,
         clock: Moment,
@@ -84,7 +84,8 @@ impl<N: Names> Room<N> {
         told
     }
 
-    /// Cuts all cells, out of their locks, where the records that go are claimed, and puts them back.
+    /// Cuts all cells, out of their locks, at the least of the moment and of their horizons, puts
+    /// them back, and gives that moment.
     pub fn cut(&mut self, locks: &mut Vec<Mutex<Locked<N>>>, moment: Moment) -> Moment
         requires some { 0 < vec_len locks.old }
         requires few { vec_len locks.old ≤ 16 }
@@ -93,7 +94,7 @@ impl<N: Names> Room<N> {
     {
         let Room { cells, books, .. } = self;
         take_out(locks, cells, books);
-        let at = cut_claimed(cells.as_mut_slice(), books.as_mut_slice(), moment);
+        let at = cut_all(cells.as_mut_slice(), moment);
         put_back(cells, books, locks);
         at
     }
@@ -103,7 +104,7 @@ impl<N: Names> Room<N> {
 pub fn take_out<N: Names>(
     locks: &mut Vec<Mutex<Locked<N>>>,
     cells: &mut Vec<Cell>,
-    books: &mut Vec<Book<N>>,
+    books: &mut Vec<Book<N, Record>>,
 )
     requires room { vec_len locks.old ≤ vec_capacity cells.old }
     requires room_for_books { vec_len locks.old ≤ vec_capacity books.old }
@@ -115,7 +116,7 @@ pub fn take_out<N: Names>(
     ensures room_for_books { vec_capacity books.new ≡ vec_capacity books.old }
     ensures cells { vec_len cells.new ≡ vec_len locks.old }
     ensures books { vec_len books.new ≡ vec_len locks.old }
-    ensures counted { AreCounted books.new.items cells.new.items }
+    ensures kept { AreKept books.new.items cells.new.items }
     ensures window { HaveWindow N.window cells.new.items }
 {
     locks.reverse();
@@ -129,13 +130,13 @@ pub fn take_out<N: Names>(
 /// Moves the cells and their books back into locks, in their order.
 pub fn put_back<N: Names>(
     cells: &mut Vec<Cell>,
-    books: &mut Vec<Book<N>>,
+    books: &mut Vec<Book<N, Record>>,
     locks: &mut Vec<Mutex<Locked<N>>>,
 )
     requires room { vec_len cells.old ≤ vec_capacity locks.old }
     requires empty { vec_len locks.old ≡ 0 }
     requires even { vec_len books.old ≡ vec_len cells.old }
-    requires counted { AreCounted books.old.items cells.old.items }
+    requires kept { AreKept books.old.items cells.old.items }
     requires window { HaveWindow N.window cells.old.items }
     ensures cells { vec_len cells.new ≡ 0 }
     ensures books { vec_len books.new ≡ 0 }

@@ -1,29 +1,30 @@
 //! What runs under the locks.
 
-ghost use Rattle.std.specs.Prelude.{◌≡◌, ◌<◌, ◌≤◌, true, false, IsTrue, IfOk, OnOk, OnErr, length};
-ghost use Rattle.s4_types.specs.Kinds.{is_wide};
+ghost use Rattle.std.specs.Prelude.{◌≡◌, ◌%◌, ◌<◌, ◌≤◌, true, false, IsTrue, IfOk, OnOk, OnErr, length};
+ghost use Rattle.s4_types.specs.Kinds.{is_wide, range_of};
 ghost use Rattle.s4_types.specs.Limits.{data_asked, data_in, is_within_limits};
 ghost use Rattle.s4_types.specs.Log.{swept};
 ghost use Rattle.s4_types.specs.Play.{is_no_memory, last_of};
 ghost use Rattle.s4_cells.specs.Many.{Each, AllStay};
-ghost use Rattle.s4_pool.specs.Counts.{AreCounted, HaveWindow};
-ghost use Rattle.s4_passes.specs.Counts.{KeepsCalls};
+ghost use Rattle.s4_passes.specs.Changes.{KeepsCalls};
+ghost use Rattle.s4_closing.specs.Kept.{AreKept};
+ghost use Rattle.s4_closing.specs.Merged.{HaveWindow};
 ghost use Rattle.s4_pool.specs.Serving.{Serves, Adds, AddsAndFrees, AddsToAll};
 
 use crate::locked::Locked;
+use s4_calls::{Book, Ledger, Names, are_in_order};
 use s4_cells::{Cell, wide_with_copy};
-use s4_counts::{Book, Ledger, Names, are_in_order};
 use s4_drive::Answered;
-use s4_passes::{Asked, Pass, Receipt};
-use s4_types::{Caller, Moment, NoMemory, Reply, Request};
+use s4_passes::{Asked, Call, Pass, Receipt};
+use s4_types::{Caller, Moment, NoMemory, Record, Reply, Request};
 use std::alloc::AllocError;
 
-/// Carries out an ordinary request in its cell: at the greatest of the caller's clock, the pass's last
-/// moment and the cell's. The cell gains the record, and the pass the call with its receipt; both are
-/// counted at once. An `Err` comes before any change of these.
+/// Carries out an ordinary request in its cell: at the greatest of the caller's clock, the pass's
+/// last moment and the cell's. The cell gains the record, and the pass the call with its receipt;
+/// the cell's book and the pass's token know it at once. An `Err` comes before any change of these.
 pub fn step_in_cell<N: Names>(
     held: &mut Locked<N>,
-    ledger: &Ledger,
+    ledger: &Ledger<Record>,
     pass: &mut Pass<N>,
     caller: Caller,
     clock: Moment,
@@ -31,6 +32,7 @@ pub fn step_in_cell<N: Names>(
 ) -> Result<Reply, NoMemory>
     requires ledger { ledger.now ≡ N.ledger }
     requires ordinary { is_wide caller request.now ≡ false }
+    requires home { range_of caller request.now % N.ledger.words ≡ held.old.book.cell }
     ensures told { IfOk result (λ reply. is_no_memory reply ≡ false) }
     ensures limits { IfOk result (λ reply. IsTrue (is_within_limits caller.version reply)) }
     ensures asked { IfOk result (λ reply. data_in reply ≤ data_asked request.now) }
@@ -57,7 +59,7 @@ pub fn step_in_cell<N: Names>(
         moment,
         reply: copy,
     };
-    pass.add(ledger, book, asked, receipt);
+    pass.add(ledger, book, Call { asked, receipt });
     Ok(reply)
 }
 
@@ -65,7 +67,7 @@ pub fn step_in_cell<N: Names>(
 /// values of the cell that are expired then, also where the request met want of memory.
 pub fn step_and_free<N: Names>(
     held: &mut Locked<N>,
-    ledger: &Ledger,
+    ledger: &Ledger<Record>,
     pass: &mut Pass<N>,
     caller: Caller,
     clock: Moment,
@@ -74,6 +76,7 @@ pub fn step_and_free<N: Names>(
 ) -> Result<Reply, NoMemory>
     requires ledger { ledger.now ≡ N.ledger }
     requires ordinary { is_wide caller request.now ≡ false }
+    requires home { range_of caller request.now % N.ledger.words ≡ held.old.book.cell }
     ensures told { IfOk result (λ reply. is_no_memory reply ≡ false) }
     ensures limits { IfOk result (λ reply. IsTrue (is_within_limits caller.version reply)) }
     ensures asked { IfOk result (λ reply. data_in reply ≤ data_asked request.now) }
@@ -89,14 +92,14 @@ pub fn step_and_free<N: Names>(
 }
 
 /// Carries out a wide request in all cells, at the greatest of the caller's clock, the pass's last
-/// moment and those of all cells. Each cell gains the record, and the pass the call with its receipt;
-/// all are counted at once. An `Err` comes before any change of these. It also comes where the books
-/// aren't in the order of the cells' numbers, which never happens: a lock doesn't say which cell lies
-/// behind it.
+/// moment and those of all cells. Each cell gains the record, and the pass the call with its
+/// receipt; all books and the pass's token know it at once. An `Err` comes before any change of
+/// these. It also comes where the books aren't in the order of the cells' numbers, which never
+/// happens: a lock doesn't say which cell lies behind it.
 pub fn step_in_all<N: Names>(
     cells: &mut [Cell],
-    books: &mut [Book<N>],
-    ledger: &Ledger,
+    books: &mut [Book<N, Record>],
+    ledger: &Ledger<Record>,
     pass: &mut Pass<N>,
     caller: Caller,
     clock: Moment,
@@ -105,7 +108,7 @@ pub fn step_in_all<N: Names>(
     requires some { 0 < length cells.old }
     requires all { length cells.old ≡ N.ledger.words }
     requires books { length books.old ≡ N.ledger.words }
-    requires counted { AreCounted books.old cells.old }
+    requires kept { AreKept books.old cells.old }
     requires window { HaveWindow N.window cells.old }
     requires ledger { ledger.now ≡ N.ledger }
     requires wide { is_wide caller request.now ≡ true }
@@ -118,7 +121,7 @@ pub fn step_in_all<N: Names>(
     ensures still { OnErr result (AllStay cells.old cells.new) }
     ensures count { length cells.new ≡ length cells.old }
     ensures books { length books.new ≡ length books.old }
-    ensures counted { AreCounted books.new cells.new }
+    ensures kept { AreKept books.new cells.new }
     ensures window { HaveWindow N.window cells.new }
 {
     if !are_in_order(books) {
@@ -139,7 +142,7 @@ pub fn step_in_all<N: Names>(
         moment,
         reply: copy,
     };
-    pass.add_wide(ledger, books, asked, receipt);
+    pass.add_wide(ledger, books, Call { asked, receipt });
     Ok(reply)
 }
 

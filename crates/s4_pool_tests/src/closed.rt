@@ -3,12 +3,9 @@
 use crate::gate::Holding;
 use crate::lines::{Check, End};
 use s4_calls_for_tests::same::same;
-use s4_cells::{Cell, cut_all};
-use s4_closing::{Verdict, reconcile};
-use s4_pool::{CloseFault, Closed, Front, Left, Names, Pass, Why};
-use s4_types::{Moment, Record};
+use s4_pool::{Cell, CloseFault, Closed, Front, Left, Names, Pass, Why};
+use s4_types::Record;
 use std::alloc::Global;
-use std::slice;
 use std::test::Fail;
 
 /// Closes a front, or drops it, and looks at what is left.
@@ -29,6 +26,7 @@ pub fn close<N: Names>(
             let (front, passes) = refused(alloc, front, passes)?;
             check_all(alloc, front, passes, checks)
         }
+        End::Torn(records) => check_ever(&torn(alloc, front, passes)?, records),
     }
 }
 
@@ -39,9 +37,9 @@ fn check_all<N: Names>(
     passes: Vec<Pass<N>>,
     checks: &[Check],
 ) -> Result<(), Fail> {
-    let mut closed = closed(alloc, front, passes)?;
+    let closed = closed(alloc, front, passes)?;
     for check in checks {
-        check_closed(alloc, &mut closed, check)?;
+        check_closed(&closed, check)?;
     }
     Ok(())
 }
@@ -86,11 +84,26 @@ fn refused<'a, N: Names>(
     }
 }
 
-fn check_closed<N: Names>(
+// The cells of a front that can't be closed, since they don't start alike. All passes are handed
+// back.
+fn torn<N: Names>(
     alloc: Global,
-    closed: &mut Closed<N>,
-    check: &Check,
-) -> Result<(), Fail> {
+    front: Front<Holding<'_>, N>,
+    passes: Vec<Pass<N>>,
+) -> Result<Vec<Cell>, Fail> {
+    let count = passes.len();
+    let Err(fault) = front.close(alloc, passes) else {
+        return Err("closed with cells that don't start alike".into());
+    };
+    let CloseFault { why, left, passes } = fault;
+    same("how many passes", &passes.len(), &count)?;
+    match left {
+        Left::Cells(cells) if why == Why::Torn => Ok(cells),
+        _ => Err("another fault than torn cells".into()),
+    }
+}
+
+fn check_closed<N: Names>(closed: &Closed<N>, check: &Check) -> Result<(), Fail> {
     match check {
         Check::Records(count) => same("how many records", &closed.history.len(), count),
         Check::History(wanted) => check_history(closed.history.as_slice(), wanted),
@@ -100,16 +113,8 @@ fn check_closed<N: Names>(
             }
             Ok(())
         }
-        Check::Counted(records, calls, last) => check_counts(closed, *records, *calls, *last),
-        Check::Found(windows, from, to, wanted) => {
-            let found = found(alloc, closed, windows, *from, *to)?;
-            same("what is found", &found, wanted)
-        }
-        Check::CutLast(moment) => {
-            let last = closed.cells.last_mut().ok_or("a cell")?;
-            let _at = cut_all(slice::from_mut(last), Moment::new(*moment));
-            Ok(())
-        }
+        Check::Ever(records) => check_ever(&closed.cells, records),
+        Check::Kept(calls, last) => check_kept(closed, *calls, *last),
     }
 }
 
@@ -123,60 +128,25 @@ fn check_history(history: &[Record], wanted: &[(u64, u32)]) -> Result<(), Fail> 
     Ok(())
 }
 
-// That each of two cells had so many records, and lost some of them; that each pass made so many calls, the
-// last at that moment; and that some of them were dropped.
-fn check_counts<N: Names>(
-    closed: &Closed<N>,
-    records: u64,
-    calls: u64,
-    last: u64,
-) -> Result<(), Fail> {
-    let mut most = 0;
-    for pass in &closed.passes {
-        let dropped = pass.dropped();
-        let left = pass.receipts().len() as u64;
-        same(
-            "how many calls",
-            &dropped.all().checked_add(left),
-            &Some(calls),
-        )?;
-        same("the last call", &pass.last().tick(), &last)?;
-        most = most.max(dropped.in_cell(0)).max(dropped.in_cell(1));
-    }
-    same("whether calls were dropped", &(most > 0), &true)?;
-    same("how many cells", &closed.cells.len(), &2)?;
-    for cell in &closed.cells {
-        same("how many records", &cell.next_place(), &records)?;
-        same("whether records went", &(cell.gone() > 0), &true)?;
+// That cells ever had so many records each.
+fn check_ever(cells: &[Cell], records: &[u64]) -> Result<(), Fail> {
+    same("how many cells", &cells.len(), &records.len())?;
+    for place in 0..cells.len() {
+        let wanted = records.get(place).ok_or("a cell less")?;
+        same("how many records ever", &cells[place].next_place(), wanted)?;
     }
     Ok(())
 }
 
-// What is found of cells of these windows, or of those of the front where there is none, and of the passes
-// from one number on up to another.
-fn found<N: Names>(
-    alloc: Global,
-    closed: &Closed<N>,
-    windows: &[u64],
-    from: usize,
-    to: usize,
-) -> Result<&'static str, Fail> {
-    let mut fresh = Vec::new(alloc);
-    for window in windows {
-        fresh.push(Cell::open(alloc, *window)?)?;
+// That some records of each cell went, and that each pass keeps so many calls, the last one of that
+// moment.
+fn check_kept<N: Names>(closed: &Closed<N>, calls: usize, last: u64) -> Result<(), Fail> {
+    for cell in &closed.cells {
+        same("whether records went", &(cell.gone() > 0), &true)?;
     }
-    let cells = if windows.is_empty() {
-        closed.cells.as_slice()
-    } else {
-        fresh.as_slice()
-    };
-    if cells.is_empty() || from > to || to > closed.passes.len() {
-        return Err("cells and passes".into());
+    for pass in &closed.passes {
+        same("how many calls are kept", &pass.receipts().len(), &calls)?;
+        same("the last call", &pass.last().tick(), &last)?;
     }
-    match reconcile(alloc, 100, cells, &closed.passes[from..to]) {
-        Verdict::Whole(_) => Ok("whole"),
-        Verdict::Torn => Ok("torn"),
-        Verdict::Stray => Ok("stray"),
-        Verdict::NoMemory => Ok("no memory"),
-    }
+    Ok(())
 }

@@ -1,9 +1,9 @@
-//! What doesn't fit together is told. No call of a front leads to it, since a pass of another front has
-//! another type, and a cell is lent to be read alone. So what is asked here is `reconcile`, as a closing
-//! asks it.
+//! What doesn't fit together is told. Cells that don't start alike aren't closed: a front comes to that
+//! only where its cells are cut one by one. A pass of another front can't be handed in, since it has
+//! another type.
 
 use crate::fronts::check;
-use crate::lines::{Call, Check, End, Line};
+use crate::lines::{Call, Case, Check, End, Line};
 use crate::pairs::records_of_two;
 use s4_calls_for_tests::asked::{Told, What, asked};
 use s4_pool::Blank;
@@ -28,25 +28,40 @@ fn each_of_two_fronts_has_the_calls_of_its_pass(rt: HostRuntime) -> Result<(), F
     Ok(())
 }
 
-/// Two passes of one cell make a call each.
-const CALLED: &[Line] = &[Line::Calls(&[
-    Call(0, 7, 5, What::Create, Told::Made(7, 1), (5, 0, 0)),
-    Call(1, 7, 6, What::Create, Told::Made(7, 2), (6, 0, 1)),
-])];
-
-/// Records without a receipt are stray, and receipts without a record. Cells of another window are torn.
-const FOUND: &End = &End::Closed(&[
-    Check::Found(&[], 0, 2, "whole"),
-    Check::Found(&[], 0, 1, "stray"),
-    Check::Found(&[], 1, 2, "stray"),
-    Check::Found(&[100], 0, 1, "stray"),
-    Check::Found(&[100], 0, 0, "whole"),
-    Check::Found(&[100, 100], 0, 0, "whole"),
-    Check::Found(&[100, 50], 0, 0, "torn"),
-    Check::Found(&[50, 50], 0, 0, "torn"),
+/// A call in each of two cells with a window of one tick, whose horizons are 4 and 5 then.
+const CALLED: Line = Line::Calls(&[
+    Call(0, 7, 5, What::Create, Told::Made(7, 1), (5, 1, 0)),
+    Call(1, 8, 6, What::Create, Told::Made(8, 1), (6, 0, 0)),
 ]);
 
+const LATER: Line = Line::Calls(&[Call(0, 7, 6, What::Create, Told::Made(7, 2), (6, 1, 1))]);
+
+const CASES: [Case; 3] = [
+    Case {
+        name: "cells one of which is cut are torn",
+        opened: (2, 1, 2),
+        lines: &[CALLED, Line::CutOne(0, 9, 5)],
+        end: End::Torn(&[1, 1]),
+    },
+    Case {
+        name: "cells that are cut at two moments are torn",
+        opened: (2, 1, 2),
+        lines: &[CALLED, LATER, Line::CutOne(0, 9, 5), Line::CutOne(1, 4, 4)],
+        end: End::Torn(&[1, 2]),
+    },
+    Case {
+        name: "cells that are cut at one moment are closed",
+        opened: (2, 1, 2),
+        lines: &[CALLED, Line::CutOne(0, 9, 5), LATER, Line::CutOne(1, 9, 5)],
+        end: End::Closed(&[Check::History(&[(5, 7), (6, 8), (6, 7)]), Check::Gone(0)]),
+    },
+];
+
 #[test]
-fn what_does_not_fit_is_stray_or_torn(rt: HostRuntime) -> Result<(), Fail> {
-    check(&rt, rt.alloc(), (1, 100, 2), CALLED, FOUND)
+fn cells_that_start_otherwise_are_torn(rt: HostRuntime) -> Result<(), Fail> {
+    for case in &CASES {
+        println!(rt; "{}", case.name)?;
+        check(&rt, rt.alloc(), case.opened, case.lines, &case.end)?;
+    }
+    Ok(())
 }

@@ -3,14 +3,15 @@
 ghost use Rattle.std.specs.Prelude.{◌≡◌, ◌<◌, ◌≤◌};
 
 use crate::closed::close;
+use crate::counted::forget;
 use crate::gate::{Holding, Marks};
-use crate::lines::{Act, Call, End, Forgotten, Line};
+use crate::lines::{Call, End, Line};
 use crate::often::ask_often;
 use crate::parts::together;
 use s4_calls_for_tests::asked::{Told, What, asked, reply};
 use s4_calls_for_tests::same::same;
 use s4_pool::{Blank, Front, Names, Pass};
-use s4_types::{Moment, Reply};
+use s4_types::{Moment, Record, Reply};
 use std::alloc::Global;
 use std::marker::Brand;
 use std::slice;
@@ -41,7 +42,7 @@ fn check_front<N: Names + Send + Sync, R: Threads + Wait + Sync>(
     rt: &R,
     alloc: Global,
     marks: &Marks,
-    blank: Blank,
+    blank: Blank<Record>,
     opened: (usize, u64, u64),
     lines: &[Line],
     end: &End,
@@ -84,9 +85,11 @@ fn carry_out<N: Names + Send + Sync, R: Threads + Wait + Sync>(
 {
     match line {
         Line::Calls(calls) => serve_all(rt, alloc, &*front, passes.as_mut_slice(), calls),
-        Line::Pass(number, act) => {
+        Line::Forget(number, count, left, last) => {
             let pass = passes.get_mut(*number).ok_or("a pass")?;
-            check_pass(rt, &*front, pass, act)
+            forget(pass, *count);
+            same("how many calls are left", &pass.receipts().len(), left)?;
+            same("the last call", &pass.last().tick(), last)
         }
         Line::Cut(moment, at) => {
             let found = front.cut(rt, Moment::new(*moment));
@@ -179,52 +182,6 @@ pub fn check_receipts<N: Names>(alloc: Global, pass: &Pass<N>, calls: &[Call]) -
         same("the reply of the receipt", &receipt.reply, &wanted)?;
     }
     Ok(())
-}
-
-fn check_pass<N: Names, R: Wait>(
-    rt: &R,
-    front: &Front<Holding<'_>, N>,
-    pass: &mut Pass<N>,
-    act: &Act,
-) -> Result<(), Fail> {
-    match act {
-        Act::Claim(moment, most, told, claimed) => {
-            let found = front.claim(rt, pass, Moment::new(*moment), *most)?;
-            same("what a claim is told", &found, told)?;
-            same("how many have claimed", &pass.claimed(), claimed)
-        }
-        Act::Before(moment, most, count) => {
-            let found = pass.claimed_before(Moment::new(*moment), *most);
-            same("how many have claimed before a moment", &found, count)
-        }
-        Act::Forget(count, left, forgotten) => {
-            if *count > pass.claimed() {
-                return Err("a call that has claimed its record".into());
-            }
-            same("whether calls are dropped", &pass.forget(*count), &true)?;
-            check_forgotten(pass, *left, forgotten)
-        }
-    }
-}
-
-// That so many calls are left, all of which have claimed their records, and what is kept of the others.
-fn check_forgotten<N: Names>(
-    pass: &Pass<N>,
-    left: usize,
-    forgotten: &Forgotten,
-) -> Result<(), Fail> {
-    same("how many calls are left", &pass.receipts().len(), &left)?;
-    same("how many have claimed", &pass.claimed(), &left)?;
-    let dropped = pass.dropped();
-    let counts = (
-        dropped.all(),
-        dropped.wide(),
-        dropped.in_cell(0),
-        dropped.in_cell(1),
-    );
-    same("what is counted", &counts, &forgotten.counts)?;
-    let last = (dropped.last().tick(), pass.last().tick());
-    same("the last moments", &last, &forgotten.last)
 }
 
 // The place of the first of these records, how many they are, and the moment of the last.

@@ -1,7 +1,6 @@
 //! What is done with a front, line by line.
 
 use s4_calls_for_tests::asked::{Told, What};
-use s4_pool::Claimed;
 
 /// A call: by which pass, from 0; who asks; what the clock shows; and what is asked and replied. And the
 /// receipt: the moment, the cell and the place.
@@ -18,8 +17,9 @@ pub struct Call(
 pub enum Line {
     /// These calls are made, one after the other.
     Calls(&'static [Call]),
-    /// This is done with the pass of that number.
-    Pass(usize, Act),
+    /// The pass of that number keeps its first calls no longer, so many: so many are left, and the
+    /// moment of its last call is this one.
+    Forget(usize, usize, usize, u64),
     /// All cells are cut at a moment, at that one.
     Cut(u64, u64),
     /// The cell of that number is cut at a moment, at that one.
@@ -39,25 +39,6 @@ pub enum Line {
     Together(Together),
 }
 
-/// What is done with a pass, and what comes of it.
-pub enum Act {
-    /// Calls of moments before this one claim their records, at most so many: what is told, and how many
-    /// of all calls have.
-    Claim(u64, usize, Claimed, usize),
-    /// So many calls of moments before this one have claimed their records, of at most so many.
-    Before(u64, usize, usize),
-    /// So many calls are dropped, and so many are left.
-    Forget(usize, usize, Forgotten),
-}
-
-/// What a pass keeps of the calls that were dropped, and of all.
-pub struct Forgotten {
-    /// How many were dropped, how many of those were wide, and how many count in the first two cells.
-    pub counts: (u64, u64, u64, u64),
-    /// The moments of the last that was dropped, and of the last of all.
-    pub last: (u64, u64),
-}
-
 /// What a pass asks again and again.
 pub enum Often {
     /// An object is made in each range up to 40, in the cell of its number modulo that of the cells; the
@@ -74,7 +55,7 @@ pub enum Together {
     /// These calls are made. The second pass begins once the first is done, or is at the gate; and the
     /// gate lets that go on once the second is done.
     Calls(&'static [Call]),
-    /// Each pass makes 105 calls.
+    /// Each pass makes 105 calls, and keeps the last of them alone.
     Often,
     /// The first two calls are made by two workers: the second is put once the first is at the gate, and the
     /// gate lets that go on once the second is done.
@@ -89,6 +70,9 @@ pub enum End {
     Closed(&'static [Check]),
     /// It isn't closed without its last pass, and then is with it.
     ClosedAgain(&'static [Check]),
+    /// It isn't closed, since its cells don't start alike. They are left, and ever had so many records
+    /// each.
+    Torn(&'static [u64]),
 }
 
 /// What is so of a front that was closed.
@@ -99,14 +83,10 @@ pub enum Check {
     History(&'static [(u64, u32)]),
     /// So many records of each cell went.
     Gone(u64),
-    /// Each of two cells had so many records, and lost some of them. Each pass made so many calls, the
-    /// last at that moment, and some of them were dropped.
-    Counted(u64, u64, u64),
-    /// So the closing finds cells of these windows without records, or those of the front where there is
-    /// none, with the passes from one number on up to another.
-    Found(&'static [u64], usize, usize, &'static str),
-    /// The last cell is cut alone at a moment.
-    CutLast(u64),
+    /// The cells ever had so many records each, those that went among them.
+    Ever(&'static [u64]),
+    /// Of each cell some records went. Each pass keeps so many calls, the last one of that moment.
+    Kept(usize, u64),
 }
 
 /// What is done with a front of so many cells, with a window and so many passes; and how it ends.

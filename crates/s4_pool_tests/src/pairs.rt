@@ -3,7 +3,7 @@
 ghost use Rattle.std.specs.Prelude.{◌≡◌};
 
 use s4_pool::{Blank, Front, Names, OpenGate};
-use s4_types::{Caller, Moment, NoMemory, Request};
+use s4_types::{Caller, Moment, NoMemory, Record, Request};
 use std::alloc::Global;
 use std::sync::Wait;
 
@@ -12,8 +12,8 @@ use std::sync::Wait;
 pub fn records_of_two<N: Names, M: Names, R: Wait>(
     rt: &R,
     alloc: Global,
-    one: Blank,
-    other: Blank,
+    one: Blank<Record>,
+    other: Blank<Record>,
     caller: Caller,
     request: &Request,
 ) -> Result<Option<(usize, usize)>, NoMemory>

@@ -18,9 +18,9 @@ const HELD: &[Call] = &[
     Call(1, 8, 5, What::Create, Told::Made(8, 2), (5, 0, 1)),
 ];
 
-/// Each thread makes 105 calls, of which some are dropped; so each cell has a record of two times 50 and
-/// two times 5 calls.
-const COUNTED: &[Check] = &[Check::Counted(110, 105, 990)];
+/// Each thread makes 105 calls, and keeps the last of them alone. So each cell ever had the records of
+/// two times 50 and two times 5 calls.
+const COUNTED: &[Check] = &[Check::Ever(&[110, 110]), Check::Kept(1, 990)];
 
 const CASES: [Case; 5] = [
     Case {

@@ -1,6 +1,6 @@
 -- What a desk has answered.
 use Rattle.std.specs.Prelude.{List, map}
-use Rattle.s4_passes.specs.Calls as kept
+use Rattle.s4_passes.specs.declared.call.Call as kept
 use Rattle.s4_talk.specs.Calls.{Call}
 
 -- a call that a pass keeps, without where its record stands

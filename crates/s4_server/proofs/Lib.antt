@@ -1,2 +1,3 @@
+mod Newest
 mod Seating
 mod Told

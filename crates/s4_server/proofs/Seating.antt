@@ -1,5 +1,5 @@
 -- Seats that are handed out, the last one first.
-use Rattle.std.proofs.Common.{◌≡◌, ℕ, zero, suc, ◌<◌, List, [], ◌∷◌, ◌++◌, subst, arith}
+use Rattle.std.proofs.Common.{◌≡◌, zero, suc, List, [], ◌∷◌, ◌++◌, subst, arith}
 use Rattle.atomic_table.specs.Seated.{TableId}
 use Rattle.s4_jobs.specs.Seats.{Seat}
 use Rattle.s4_server.specs.Places.{AreOf}

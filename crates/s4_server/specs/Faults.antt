@@ -9,12 +9,10 @@ use Rattle.s4_server.specs.declared.fault.ServerFault.TheVariants as fault
 abbrev pub fault_of : Why → ServerFault
 fault_of why.Missing = fault.Missing
 fault_of why.Torn = fault.Torn
-fault_of why.Stray = fault.Stray
 fault_of why.NoMemory = fault.NoMemory
 
 abbrev pub fault_text : ServerFault → List ℕ
 fault_text fault.Missing = codes "missing"
 fault_text fault.Torn = codes "torn"
-fault_text fault.Stray = codes "stray"
 fault_text fault.NoMemory = codes "no memory"
 fault_text fault.NoWatch = codes "cannot listen"

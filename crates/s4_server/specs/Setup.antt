@@ -4,7 +4,7 @@ use Rattle.atomic_table.specs.Seated.{TableId}
 use Rattle.s4_types.specs.declared.principal.Caller.{Caller}
 use Rattle.s4_types.specs.declared.request.Request.{Request}
 use Rattle.s4_types.specs.declared.reply.Reply.{Reply}
-use Rattle.s4_passes.specs.Calls.{CallList, none_dropped}
+use Rattle.s4_passes.specs.Calls.{CallList}
 use Rattle.s4_pool.specs.Serving.{ServesUnlessRefused}
 use Rattle.s4_settings.specs.declared.settings.Settings.{Settings}
 
@@ -22,7 +22,7 @@ pub record IsNamed (ledger : TableId) (window passes : ℕ) (blank : TableId) (s
 
 -- no pass: a list without calls
 abbrev pub no_pass : CallList
-no_pass = record { number = 0; dropped = none_dropped; calls = []; claimed = 0; room = 0 }
+no_pass = record { number = 0; ever = []; calls = []; room = 0 }
 
 -- the first of the passes
 abbrev pub first_of : List CallList → CallList

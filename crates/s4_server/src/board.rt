@@ -42,14 +42,10 @@ pub(crate) struct Board {
     journal: Mutex<Option<Kept>>,
     /// Nothing more is written into the journal.
     pub(crate) is_kept: AtomicBool,
-    /// Calls of moments before this one are to claim their records.
-    pub(crate) due: AtomicU64,
     /// The records before this moment went, of all cells.
     pub(crate) cut: AtomicU64,
     /// The greatest moment to which a cell was cut, or was to be.
     pub(crate) ahead: AtomicU64,
-    /// A call has no record, or a record no call.
-    pub(crate) stray: AtomicBool,
 }
 
 impl Board {
@@ -78,10 +74,8 @@ impl Board {
             written: AtomicU64::new(written),
             journal: Mutex::new(journal),
             is_kept: AtomicBool::new(false),
-            due: AtomicU64::new(0),
             cut: AtomicU64::new(0),
             ahead: AtomicU64::new(0),
-            stray: AtomicBool::new(false),
         })
     }
 

@@ -1,10 +1,10 @@
 //! Records that no reply needs any more, which are cut.
 
-ghost use Rattle.std.specs.Prelude.{◌≡◌, ◌+◌, ◌-◌, ◌*◌, ◌/◌, ◌<◌, ◌≤◌, max, min};
+ghost use Rattle.std.specs.Prelude.{◌≡◌, ◌+◌, ◌-◌, ◌*◌, ◌/◌, ◌<◌, ◌≤◌, ◌^◌, max, min};
 
 use crate::context::Context;
 use s4_pool::Names;
-use s4_sockets::{Ticks, least_claimed};
+use s4_sockets::Ticks;
 use s4_types::Moment;
 use std::sync::Wait;
 use std::sync::atomic::Ordering;
@@ -29,9 +29,9 @@ const RESTS: u64 = 9;
 pub(crate) struct Cutter {
     /// How far the next piece goes, in milliseconds of records.
     step: u64,
-    /// Up to which moment calls had claimed their records in the last round.
-    claimed: u64,
-    /// Whether they had claimed further before it was cut up to the moment before.
+    /// Up to which moment it was to cut in the last round.
+    due: u64,
+    /// Whether it was to cut further before it had cut up to that.
     late: bool,
 }
 
@@ -60,39 +60,37 @@ impl Cutter {
     pub(crate) fn new() -> Cutter {
         Cutter {
             step: 1,
-            claimed: 0,
+            due: 0,
             late: false,
         }
     }
 
-    /// Cuts the cells as far as all workers' calls have claimed their records, in a round that began at
-    /// this moment, and says how far they are to claim them next.
+    /// Cuts the cells as far as is due now, in a round that began at this moment.
     pub(crate) fn cut<R: Wait + Clock, C: Ticks, N: Names>(
         &mut self,
         context: &Context<'_, R, C, N>,
         begun: u64,
     ) {
-        let claimed = least_claimed(context.posts);
+        let due = due_in(context, context.board.kept.load(Ordering::SeqCst));
         let from = context.board.cut.load(Ordering::SeqCst);
-        if claimed > self.claimed {
-            self.late = from < self.claimed;
-            self.claimed = claimed;
+        if due > self.due {
+            self.late = from < self.due;
+            self.due = due;
         }
         let start = Instant::now(context.rt).ok();
         for _ in context.rt.forever() {
-            let Some(took) = self.cut_piece(context, claimed) else {
-                break;
+            let Some(took) = self.cut_piece(context, due) else {
+                return;
             };
             let passed = context.clock.moment().tick().saturating_sub(begun);
             if passed >= CUTTING {
-                break;
+                return;
             }
             let rest = took.rest(self.ahead(context, from, start));
             if rest > 0 {
                 thread::sleep(context.rt, Duration::from_micros(rest));
             }
         }
-        context.board.due.store(due_in(context), Ordering::SeqCst);
     }
 
     /// How many microseconds it is ahead of its pace, where it began at this moment then; 0 where it is
@@ -115,15 +113,15 @@ impl Cutter {
             .saturating_sub(since(context.rt, start))
     }
 
-    /// Cuts each cell one piece further, and tells how long that took; none where there is no more.
+    /// Cuts each cell one piece further, and tells how long that took; none where no more is due.
     fn cut_piece<R: Wait + Clock, C, N: Names>(
         &mut self,
         context: &Context<'_, R, C, N>,
-        claimed: u64,
+        due: u64,
     ) -> Option<Took> {
         let board = context.board;
         let before = board.cut.load(Ordering::SeqCst);
-        let end = before.saturating_add(self.step).min(claimed);
+        let end = piece_end(before, self.step, due);
         if end <= before {
             return None;
         }
@@ -131,7 +129,9 @@ impl Cutter {
         let mut took = Took { all: 0, longest: 0 };
         for cell in 0..context.cells {
             let begun = Instant::now(context.rt).ok();
-            cut_cell(context, cell, end)?;
+            if !cut_cell(context, cell, end) {
+                return None;
+            }
             let passed = since(context.rt, begun);
             took.all = took.all.saturating_add(passed);
             took.longest = took.longest.max(passed);
@@ -142,21 +142,13 @@ impl Cutter {
     }
 }
 
-/// Cuts a cell at this moment; none where a record that no call claimed in time, and so has none, is in
-/// the way.
-fn cut_cell<R: Wait, C, N: Names>(
-    context: &Context<'_, R, C, N>,
-    cell: usize,
-    end: u64,
-) -> Option<()>
+/// Cuts a cell at this moment, and tells whether it is cut up to that: it always is where the cell's
+/// horizon was there before, since no horizon goes down.
+fn cut_cell<R: Wait, C, N: Names>(context: &Context<'_, R, C, N>, cell: usize, end: u64) -> bool
     requires { cell < context.now.front.now.cells }
 {
     let cut = context.front.cut_one(context.rt, cell, Moment::new(end));
-    if cut.tick() < end {
-        context.board.stray.store(true, Ordering::SeqCst);
-        return None;
-    }
-    Some(())
+    cut.tick() >= end
 }
 
 /// How many whole microseconds have passed since then, as far as they fit; 0 where that can't be told.
@@ -166,6 +158,15 @@ fn since<R: Clock>(rt: &R, begun: Option<Instant>) -> u64 {
         0,
         |time| u64::try_from(time.as_micros()).unwrap_or(u64::MAX),
     )
+}
+
+/// Up to which moment the next piece goes, where it is cut up to one, and another is due: one step, but no
+/// further than is due.
+fn piece_end(before: u64, step: u64, due: u64) -> u64
+    ensures due { result ≤ due }
+    ensures step { result ≡ min (min (before + step) (2 ^ 64 - 1)) due }
+{
+    before.saturating_add(step).min(due)
 }
 
 /// How far the next piece goes, where one that went so far took so many microseconds.
@@ -181,10 +182,12 @@ fn step_after(step: u64, took: u64) -> u64
     }
 }
 
-/// To which moment calls are to claim their records: the least of the cells' horizons, and of what the
-/// journal has.
-fn due_in<R: Wait, C, N: Names>(context: &Context<'_, R, C, N>) -> u64 {
-    let mut due = context.board.kept.load(Ordering::SeqCst);
+/// Up to which moment it is to be cut, where no record before another is missing in the journal: the least
+/// of that one and of the cells' horizons.
+fn due_in<R: Wait, C, N: Names>(context: &Context<'_, R, C, N>, kept: u64) -> u64
+    ensures { result ≤ kept }
+{
+    let mut due = kept;
     for cell in 0..context.cells {
         if let Some(measure) = context.front.measure(context.rt, cell) {
             due = due.min(measure.horizon.tick());

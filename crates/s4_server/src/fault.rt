@@ -15,10 +15,8 @@ use thiserror::Error;
 pub enum ServerFault {
     /// Not all passes came back.
     Missing,
-    /// The cells don't have the same wide records, or another window.
+    /// The cells weren't cut at one moment, or have another window.
     Torn,
-    /// Calls and records don't match one to one.
-    Stray,
     /// There isn't enough memory.
     NoMemory,
     /// The system gives no watch over sockets.
@@ -33,7 +31,6 @@ impl ServerFault {
         match why {
             Why::Missing => ServerFault::Missing,
             Why::Torn => ServerFault::Torn,
-            Why::Stray => ServerFault::Stray,
             Why::NoMemory => ServerFault::NoMemory,
         }
     }
@@ -54,7 +51,6 @@ impl fmt::Display for ServerFault {
         match self {
             ServerFault::Missing => write!(f, "missing"),
             ServerFault::Torn => write!(f, "torn"),
-            ServerFault::Stray => write!(f, "stray"),
             ServerFault::NoMemory => write!(f, "no memory"),
             ServerFault::NoWatch => write!(f, "cannot listen"),
         }

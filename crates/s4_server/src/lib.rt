@@ -3,7 +3,6 @@
 #![tactic(auto)]
 
 mod board;
-mod claims;
 mod context;
 mod cutting;
 mod desk;

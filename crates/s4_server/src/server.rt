@@ -1,15 +1,9 @@
 //! The server.
 
-ghost use Rattle.std.specs.Prelude.{◌≡◌, ◌≤◌, ◌==◌, ℕ, [], false, true, length, IfOk, IsTrue};
-ghost use Rattle.s4_types.specs.Base.{opened};
+ghost use Rattle.std.specs.Prelude.{◌≡◌, ◌≤◌, [], false, true, length, IfOk, IsTrue};
 ghost use Rattle.s4_types.specs.Limits.{data_asked, data_in, is_within_limits};
-ghost use Rattle.s4_types.specs.Play.{replies};
-ghost use Rattle.s4_types.specs.Strike.{records_of};
-ghost use Rattle.s4_drive.specs.Step.{replies_without_strangers};
-ghost use Rattle.s4_cells.specs.Played.{requests_in};
 ghost use Rattle.s4_closing.specs.Merged.{AreWhole};
-ghost use Rattle.s4_closing.specs.Order.{IsClosing, NoneWent};
-ghost use Rattle.s4_pool.specs.Counts.{NoneUncounted};
+ghost use Rattle.s4_closing.specs.Closing.{IsClosing, NoneUncounted, NoneWent};
 ghost use Rattle.s4_pool.specs.Numbers.{HasAll};
 ghost use Rattle.s4_server.specs.Setup.{CarriesOut, IsNamed};
 
@@ -22,11 +16,11 @@ use crate::upkeep::Upkeep;
 use s4_cells::Cell;
 use s4_closing::none_went;
 use s4_keeping::{Keeper, Kept};
-use s4_pool::{Blank, Closed, Front, Names, OpenGate, Pass, Why};
+use s4_pool::{Blank, Closed, Front, Names, OpenGate, Pass};
 use s4_settings::Settings;
 use s4_sockets::{Lobby, Post, Ticks, wall_clock};
 use s4_stream::Logins;
-use s4_types::{Caller, Moment, NoMemory, Reply, Request};
+use s4_types::{Caller, Moment, NoMemory, Record, Reply, Request};
 use std::alloc::Global;
 use std::marker::Model;
 use std::net::{Net, TcpListener};
@@ -73,11 +67,12 @@ impl<N: Names + Send + Sync> Server<N> {
         net: &S,
         alloc: Global,
         settings: Settings,
-        blank: Blank,
+        blank: Blank<Record>,
     ) -> Result<Server<N>, ServerFault>
         requires named { IsNamed N.ledger N.window N.passes blank.ledger settings }
         ensures settings { IfOk result (λ server. server.settings ≡ settings) }
         ensures none { IfOk result (λ server. server.first.calls ≡ []) }
+        ensures never { IfOk result (λ server. server.first.ever ≡ []) }
     {
         let Settings {
             window,
@@ -143,11 +138,6 @@ impl<N: Names + Send + Sync> Server<N> {
             closed.history.items) }
         ensures uncut { IfOk result (λ closed. self.settings.cuts ≡ false
             → NoneWent closed.cells.items) }
-        ensures isolated { IfOk result (λ closed. NoneWent closed.cells.items
-            → (who : ℕ) → (who == 0) ≡ false
-            → replies (records_of who closed.history.items)
-            ≡ replies_without_strangers (opened self.settings.window) who
-            (requests_in closed.history.items)) }
     {
         let Server {
             alloc,
@@ -179,7 +169,7 @@ impl<N: Names + Send + Sync> Server<N> {
         align(rt, &front, &board);
         let closed = match front.close(alloc, passes) {
             Ok(closed) => closed,
-            Err(fault) => return Err(why_open(&board, fault.why)),
+            Err(fault) => return Err(ServerFault::of(fault.why)),
         };
         let cells = closed.cells.as_slice();
         if !is_as_wanted(cells, settings.cuts) {
@@ -213,12 +203,6 @@ fn align<R: Wait, N: Names>(rt: &R, front: &Front<OpenGate, N>, board: &Board) {
     if ahead > 0 {
         front.cut(rt, Moment::new(ahead));
     }
-}
-
-/// Why the front isn't closed: where calls and records were found not to match before, that is told.
-fn why_open(board: &Board, why: Why) -> ServerFault {
-    let is_stray = board.stray.load(Ordering::SeqCst);
-    ServerFault::of(if is_stray { Why::Stray } else { why })
 }
 
 /// Whether no record of any cell went, or records were to go.

@@ -141,8 +141,7 @@ fn work_all<R: Threads + Wait + Clock + Sync, C: Ticks, N: Names + Send + Sync>(
 
 /// Sweeps round by round, and once more at the end. At each round it tells the time, and has the
 /// workers look after their peers. Where the server cuts, cells that nobody asks are found, which
-/// would hold that up, and what calls have claimed is cut. Calls and records that don't match are told
-/// once.
+/// would hold that up, and what is due is cut.
 fn sweep_to_the_end<R: Wait + Clock + Eprint, C: Ticks, N: Names>(
     context: &Context<'_, R, C, N>,
     ended: &AtomicBool,
@@ -151,7 +150,6 @@ fn sweep_to_the_end<R: Wait + Clock + Eprint, C: Ticks, N: Names>(
         return;
     }
     let mut cutter = Cutter::new();
-    let mut told = false;
     for _ in context.rt.forever() {
         let is_last = ended.load(Ordering::SeqCst);
         let now = context.clock.moment().tick();
@@ -162,7 +160,6 @@ fn sweep_to_the_end<R: Wait + Clock + Eprint, C: Ticks, N: Names>(
             find_quiet(context);
             cutter.cut(context, now);
         }
-        told = told || tell_stray(context);
         if is_last {
             return;
         }
@@ -170,16 +167,6 @@ fn sweep_to_the_end<R: Wait + Clock + Eprint, C: Ticks, N: Names>(
         let rest = REST.saturating_sub(passed).max(SWEEPING);
         thread::sleep(context.rt, Duration::from_millis(rest));
     }
-}
-
-/// Says on standard error that calls and records don't match, where they don't, and whether it did.
-fn tell_stray<R: Eprint, C, N: Names>(context: &Context<'_, R, C, N>) -> bool {
-    let is_stray = context.board.stray.load(Ordering::SeqCst);
-    if is_stray {
-        // Where this can't be written, nobody is told before the end.
-        let _ = eprintln!(context.rt; "s4d: stray, and serves on");
-    }
-    is_stray
 }
 
 /// Looks after the server's files, round by round, until nothing more is written into its journal: whether

@@ -1,9 +1,9 @@
 //! Workers, which serve connections.
 
-ghost use Rattle.std.specs.Prelude.{◌≡◌};
+ghost use Rattle.std.specs.Prelude.{◌≡◌, ◌≤◌, ◌-◌, length};
+ghost use Rattle.s4_passes.specs.Changes.{Forgets};
 ghost use Rattle.s4_server.specs.Places.{AreOf};
 
-use crate::claims::Claimant;
 use crate::context::Context;
 use crate::desk::Desk;
 use crate::quiet::move_on;
@@ -14,11 +14,7 @@ use s4_types::NoMemory;
 use std::alloc::Global;
 use std::sync::Wait;
 use std::sync::atomic::Ordering;
-use std::time::{Clock, Duration};
-
-/// How many milliseconds a worker waits at most that has calls left to look after: so it is seldom in
-/// others' way.
-const NAP: u64 = 1;
+use std::time::Clock;
 
 /// A worker's place: where it takes connections, where it waits for what their peers say, and where
 /// it answers their requests.
@@ -31,7 +27,6 @@ pub(crate) struct Worker<'a, R, C, N: Names> {
     post: &'a Post,
     watch: Watch,
     peers: Peers,
-    claimant: Claimant,
     desk: Desk<'a, R, C, N>,
     pub(crate) ghost same: { seat.queue ≡ jobs.now.queue },
 }
@@ -71,7 +66,6 @@ pub(crate) fn staff<'a, R, C, N: Names>(
                 post,
                 watch,
                 peers: Peers::new(context.alloc),
-                claimant: Claimant::new(),
                 desk,
             })?;
         }
@@ -137,41 +131,27 @@ impl<R: Wait + Clock, C: Ticks, N: Names> Worker<'_, R, C, N> {
         }
     }
 
-    /// How long it waits for what is told: not for long where calls are left to be looked after.
-    fn patience(&self) -> Option<Duration> {
-        let most = self.peers.patience();
-        if self.claimant.is_behind() {
-            most.or(Some(Duration::from_millis(NAP)))
-        } else {
-            most
-        }
-    }
-
-    /// Waits until something is told, and serves whom it is told of.
-    fn go_round(&mut self) {
-        let patience = self.patience();
+    /// Waits until something is told, and serves whom it is told of. Of its calls it keeps the newest.
+    fn go_round(&mut self)
+        ensures few { length self.new.desk.pass.calls ≤ 1 }
+    {
         let Worker {
             post,
             watch,
             peers,
-            claimant,
             desk,
             ..
         } = self;
         let context = desk.context;
         let before = peers.len();
-        let events = watch.wait(patience);
+        let events = watch.wait(peers.patience());
         let now = context.board.time.load(Ordering::SeqCst);
-        let calls = desk.pass.receipts().len();
         peers.serve(context.lobby, desk, events, now);
         if peers.look(context.lobby, desk, now) {
             post.show(&peers.states());
             move_on(desk);
         }
-        if context.cuts {
-            let made = desk.pass.receipts().len().saturating_sub(calls);
-            claimant.look(post, desk, made);
-        }
+        keep_newest(&mut desk.pass);
         peers.make_room(context.lobby, desk, post);
         if context.lobby.is_over() {
             peers.end(context.lobby, desk, now);
@@ -181,4 +161,13 @@ impl<R: Wait + Clock, C: Ticks, N: Names> Worker<'_, R, C, N> {
             post.end(ended as u64);
         }
     }
+}
+
+/// Keeps no call of the pass but the newest. All that there ever were stay known.
+#[tactic(auto, using(crate::proofs::Newest::as_many_receipts))]
+fn keep_newest<N: Names>(pass: &mut Pass<N>)
+    ensures { Forgets (length pass.old.calls - 1) pass.old pass.new }
+{
+    let older = pass.receipts().len().saturating_sub(1);
+    pass.forget(older);
 }

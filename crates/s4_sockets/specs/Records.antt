@@ -20,17 +20,17 @@ brought (Append o bytes) = length bytes
 brought (SetAttr o bytes) = length bytes
 brought _ = 0
 
--- the bytes of what a reply gives, which its record keeps: each line of a page of names counts for 160 of them, and of an audit for 48
+-- the bytes of what a reply gives, which its record keeps: each line of a page of names counts for 80 of them, and of an audit for 24
 abbrev pub given : Reply → ℕ
 given (Data grant bytes) = length bytes
 given (Attr grant bytes) = length bytes
-given (Names lines more) = fit (length lines * 160)
-given (Audit lines more) = fit (length lines * 48)
+given (Names lines more) = fit (length lines * 80)
+given (Audit lines more) = fit (length lines * 24)
 given _ = 0
 
--- the bytes of a record of this request with this reply: 440, and its data
+-- the bytes of a record of this request with this reply: 260, and its data
 abbrev pub record_bytes : Request → Reply → ℕ
-record_bytes request reply = fit (fit (440 + brought request) + given reply)
+record_bytes request reply = fit (fit (260 + brought request) + given reply)
 
 -- whether so many bytes are less than the most that there may be, where that is bounded
 abbrev pub is_below : Option ℕ → ℕ → Bool

@@ -8,14 +8,14 @@ use s4_types::{Moment, NoMemory, Principal, Reply, Request};
 use std::alloc::Global;
 use std::collections::VecDeque;
 
-/// How many bytes a record takes beside its data, with its call and its places in the indexes.
-const RECORD: u64 = 440;
+/// How many bytes a record takes beside its data, with its places in the indexes.
+const RECORD: u64 = 260;
 
-/// How many bytes a line of a page of names takes, in the record and in the receipt of its call.
-const NAME: u64 = 160;
+/// How many bytes a line of a page of names takes.
+const NAME: u64 = 80;
 
 /// The same of a line of an audit.
-const LINE: u64 = 48;
+const LINE: u64 = 24;
 
 /// How many spans there are before the newest one, at most.
 const SPANS: usize = 128;

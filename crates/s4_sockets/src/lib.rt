@@ -37,7 +37,7 @@ pub use host::Host;
 pub use left::record_bytes;
 pub use lobby::{Lobby, OpenFrom, OpenOf};
 pub use peers::Peers;
-pub use post::{Post, least_claimed, wake_all};
+pub use post::{Post, wake_all};
 pub use states::States;
 pub use trail::Trail;
 pub use trails::{LeftBy, TrailTable};

@@ -20,7 +20,6 @@ pub struct Post {
     unwelcomed: AtomicU64,
     /// How many connections the worker is to turn out.
     outward: AtomicU64,
-    claimed: AtomicU64,
 }
 
 // Written out, so that no crate above proves how a waker is dropped.
@@ -36,7 +35,6 @@ impl Drop for Post {
             leaving: _,
             unwelcomed: _,
             outward: _,
-            claimed: _,
         } = self;
     }
 }
@@ -55,7 +53,6 @@ impl Post {
             leaving: AtomicU64::new(0),
             unwelcomed: AtomicU64::new(u64::MAX),
             outward: AtomicU64::new(0),
-            claimed: AtomicU64::new(0),
         };
         Ok((watch, post))
     }
@@ -124,11 +121,6 @@ impl Post {
         self.outward.swap(0, Ordering::SeqCst)
     }
 
-    /// All of its calls of moments before this one have claimed their records.
-    pub fn claim_to(&self, moment: u64) {
-        self.claimed.store(moment, Ordering::SeqCst);
-    }
-
     /// Ends the worker's wait, or its next one.
     pub(crate) fn wake(&self) {
         // This fails only where the worker's counter of wakes is full, and then it is woken.
@@ -157,13 +149,6 @@ pub(crate) fn open(posts: &[Post]) -> u64 {
     posts
         .iter()
         .fold(0u64, |sum, post| sum.saturating_add(post.open()))
-}
-
-/// The greatest moment before which all calls of all workers have claimed their records.
-pub fn least_claimed(posts: &[Post]) -> u64 {
-    posts.iter().fold(u64::MAX, |least, post| {
-        least.min(post.claimed.load(Ordering::SeqCst))
-    })
 }
 
 /// Wakes all workers.

@@ -47,7 +47,7 @@ fn serve_front<N: Names, R: Wait>(
     case: &mut Case,
     rt: &R,
     marked: Marked,
-    blank: Blank,
+    blank: Blank<Record>,
 ) -> io::Result<()>
     requires ledger { blank.ledger ≡ N.ledger }
     requires names { (N.ledger.words ≡ 5) × (N.window ≡ 100) × (N.passes ≡ 2) }

@@ -6,6 +6,7 @@ use crate::calls::case::Case;
 use crate::calls::talks::Peer;
 use crate::calls::{many, reads, talks, windows};
 use s4_pool::{Blank, Front, Names, OpenGate};
+use s4_types::Record;
 use std::io;
 use std::marker::Brand;
 use std::sync::Wait;
@@ -29,7 +30,12 @@ pub fn serve<R: Wait>(case: &mut Case, rt: &R, served: Served) -> io::Result<()>
 }
 
 /// Lends the front of that ledger.
-fn lend<N: Names, R: Wait>(case: &mut Case, rt: &R, served: Served, blank: Blank) -> io::Result<()>
+fn lend<N: Names, R: Wait>(
+    case: &mut Case,
+    rt: &R,
+    served: Served,
+    blank: Blank<Record>,
+) -> io::Result<()>
     requires ledger { blank.ledger ≡ N.ledger }
     requires names { (N.ledger.words ≡ 2) × (N.window ≡ 100) × (N.passes ≡ 1) }
 {

@@ -10,7 +10,7 @@ use s4_pool::{Blank, Front, Names, OpenGate, Pass};
 use s4_script::{Line, ReplyText};
 use s4_stream::{Hello, Logins};
 use s4_talk::{Answer, talk};
-use s4_types::{Caller, Moment, NoMemory, Reply, Request, Step};
+use s4_types::{Caller, Moment, Record, Reply, Request, Step};
 use std::alloc::Global;
 use std::collections::BTreeSet;
 use std::io;
@@ -55,16 +55,12 @@ impl<N: Names, R: Wait> Answer for Desk<'_, N, R> {
 }
 
 impl<N: Names, R: Wait> Desk<'_, N, R> {
-    /// Has all calls claim their records, cuts all cells as far as their horizons let it, and drops the
-    /// calls whose records went.
-    fn cut(&mut self) -> Result<(), NoMemory> {
-        let end = Moment::new(u64::MAX);
+    /// Keeps no call but the newest, and cuts all cells as far as their horizons let it.
+    #[tactic(auto, using(crate::proofs::Receipts::as_many))]
+    fn cut(&mut self) {
         let count = self.pass.receipts().len();
-        self.front.claim(self.rt, &mut self.pass, end, count)?;
-        let cut = self.front.cut(self.rt, end);
-        let gone = self.pass.claimed_before(cut, count);
-        self.pass.forget(gone);
-        Ok(())
+        self.pass.forget(count.saturating_sub(1));
+        self.front.cut(self.rt, Moment::new(u64::MAX));
     }
 }
 
@@ -93,7 +89,7 @@ fn tell_by_front<N: Names, R: Wait>(
     cells: usize,
     cuts: bool,
     told: &mut String,
-    blank: Blank,
+    blank: Blank<Record>,
 ) -> io::Result<()>
     requires some { 0 < cells }
     requires few { cells ≤ 16 }
@@ -118,7 +114,7 @@ fn tell_by_front<N: Names, R: Wait>(
                 desk.moment = *moment;
                 let reply = heard(&mut desk, alloc, &logins, *caller, request)?;
                 if cuts {
-                    desk.cut()?;
+                    desk.cut();
                 }
                 writeln!(told, "{}", ReplyText(&reply))?;
             }

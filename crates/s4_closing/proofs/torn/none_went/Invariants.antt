@@ -1,6 +1,6 @@
 use Rattle.std.proofs.Common.{◌≡◌, ℕ, ◌<◌, get_or}
 use Rattle.s4_types.specs.Log.{Log}
-use Rattle.s4_closing.specs.Claims.{gone}
+use Rattle.s4_closing.specs.Merged.{gone}
 use Rattle.s4_closing.proofs.torn.none_went.Given as goal
 
 abbrev pub invariant-loop-k : goal.invariant-loop-k

@@ -3,7 +3,7 @@ use Rattle.std.specs.Io.KnownBytes.{Appends}
 use Rattle.s4_types.specs.Log.{Log}
 use Rattle.s4_types.specs.declared.record.Record.{Record}
 use Rattle.s4_settings.specs.declared.settings.Settings.{Settings}
-use Rattle.s4_closing.specs.Order.{IsClosing}
+use Rattle.s4_closing.specs.Closing.{IsClosing}
 use Rattle.s4_commands.specs.Serving.{end_lines, listening_line}
 use Rattle.s4_commands.proofs.Lines.{appends_both}
 use Rattle.s4_commands.proofs.serving.serve_named.Goals as goal

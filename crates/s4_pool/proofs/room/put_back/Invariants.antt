@@ -1,5 +1,6 @@
 use Rattle.std.proofs.Common.{◌≡◌, ◌+◌, vec_len, vec_capacity}
-use Rattle.s4_pool.specs.Counts.{AreCounted, HaveWindow}
+use Rattle.s4_closing.specs.Kept.{AreKept}
+use Rattle.s4_closing.specs.Merged.{HaveWindow}
 use Rattle.s4_pool.proofs.room.put_back.Given as goal
 
 abbrev pub invariant-loop-cell : goal.invariant-loop-cell
@@ -8,7 +9,7 @@ invariant-loop-cell g l = (vec_len l.cells + vec_len l.locks ≡ vec_len l.initi
     × (vec_capacity l.cells ≡ vec_capacity l.initial.cells)
     × (vec_capacity l.books ≡ vec_capacity l.initial.books)
     × (vec_capacity l.locks ≡ vec_capacity l.initial.locks)
-    × AreCounted l.books.items l.cells.items
+    × AreKept l.books.items l.cells.items
     × HaveWindow g.N.Names.window l.cells.items
 
 abbrev pub decreases-loop-cell : goal.decreases-loop-cell

@@ -1,3 +1,0 @@
-pub mod Totals
-mod Moves
-mod Counting

@@ -1,4 +1,0 @@
-pub mod Hands
-pub mod Tokens
-pub mod Claims
-pub mod Books
