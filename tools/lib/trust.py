@@ -18,7 +18,7 @@ THEOREMS = [
     ("isolation of tenants, in the definitions", "s4_laws", "principals.rt", "strangers_change_nothing", ("replies",)),
     ("isolation in a drive, by a call that tests alone make", "s4_drive", "drive.rt", "Drive::run", ("isolation", "isolated")),
     ("isolation of the bytes that `s4d hall` sends, the headline", "s4_session", "hall.rt", "Hall::run", ("fresh", "moments", "sent")),
-    ("threads that share cells, once closed: one history, counts, and isolation of replies where uncut", "s4_pool", "closes.rt", "Front::close", ()),
+    ("threads that share cells, once closed: one log of calls, one history of all that there ever was, isolation of replies", "s4_pool", "closes.rt", "Front::close", ()),
     ("a server that has ended: the same", "s4_server", "server.rt", "Server::run", ()),
     ("what `s4d strike` writes of a script", "s4_run", "strike.rt", "run_strike", ("written",)),
     ("one turn of a connection of a server", "s4_sockets", "conversation.rt", "Conversation::turn", ()),

@@ -5,6 +5,7 @@
                       them, divided by how many that are, is what one takes, with its share of a turn and of what the threads do by themselves
       --requests N    so many, and then twice as many; else 2000
       --journal       the server keeps a journal
+      --cut           the server drops what is older than a second
       --against PATH  that program beside, as the one before a change. Fails where a request that clients ask for all the time takes more than 3 in a
                       hundred more than by that one
       --program PATH  the program; else bin/s4d or crates/s4d/out/s4d, the one that was built last
@@ -24,9 +25,9 @@ from tools.lib.processes import exit_when_told
 from tools.lib.programs import is_program, program_of
 from tools.lib.servers import SECRETS, Server
 
-OPTIONS = Options(flags=("journal",), numbers={"requests": 2000}, texts=("program", "against"))
+OPTIONS = Options(flags=("journal", "cut"), numbers={"requests": 2000}, texts=("program", "against"))
 DEPTH, MOST = 64, 1.03
-WORDS = ("--workers", 1, "--cells", 1, "--window", 1000000, "--idle", 0, "--hello", 0, "--open", 16, "--connections", 0)
+WORDS = ("--workers", 1, "--cells", 1, "--idle", 0, "--hello", 0, "--open", 16, "--connections", 0)
 COLLECTED = re.compile(r"Collected\s*:\s*(\d+)")
 COUNTING = """#!/bin/sh
 exec {valgrind} --tool=callgrind --callgrind-out-file=/dev/null {program} "$@"
@@ -67,7 +68,9 @@ def run(given):
     program, against = program_of("instructions", given), given.against and Path(given.against).resolve()
     if against and not is_program(against):
         raise Wrong(f"{against} is no program")
-    words = ("--journal", "journal") if given.journal else ()
+    words = ("--window", 1000, "--cut") if given.cut else ("--window", 1000000)
+    if given.journal:
+        words += ("--journal", "journal")
     print("| A request | Instructions |" + " Before | Of these |" * bool(against) + "\n|---|---|" + "---|---|" * bool(against), flush=True)
     wrong = []
     for kind in KINDS:
