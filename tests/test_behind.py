@@ -22,9 +22,9 @@ WORKERS = 2
 NAMES = [*string.ascii_lowercase, *string.digits, *(f"x{it}" for it in string.ascii_lowercase), "y1", "y2"]
 SETUP = "7 create 0\n" + "".join(f"7 pcreate {name} 7.0.1\n" for name in NAMES)
 PAGE = frame(bytes.fromhex("0e 00000007 00 00"))
-LEFT = RECORD + 160 * len(NAMES)
+LEFT = RECORD + 80 * len(NAMES)
 # By so many connections it asks for that page, and so often on each that all are more than that, whatever turns were under way.
-PEERS, EACH = 4, 1640
+PEERS, EACH = 4, 3200
 assert PEERS * EACH * LEFT > MOST + WORKERS * TURN * LEFT
 # So many milliseconds pass at the server while it waits: a request that waits for room would have been told by then that there is none.
 WAITS = 2500
